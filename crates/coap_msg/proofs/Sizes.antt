@@ -21,14 +21,14 @@ payload_size : (payload : List ℕ) → length (payload_bytes payload) ≤ lengt
 payload_size [] = omega arith
 payload_size (b ∷ payload) = omega arith
 
--- header, marker, and the parts
+-- a message takes at most five bytes more than its token, its encoded options and its payload
 pub message_size : (m : Message) → length (message_bytes m) ≤ length m.token + length (options_bytes 0 m.options) + length m.payload + 5
 message_size m =
     let rest = options_bytes 0 m.options ++ payload_bytes m.payload in
     omega (arith, length-append m.token rest, length-append (options_bytes 0 m.options) (payload_bytes m.payload), payload_size m.payload)
 
--- parts within their limits, with a code other than 0.00, are a message if their lengths fit
--- together
+-- parts within their limits are a message if the code isn't 0.00, and the token, the encoded
+-- options and the payload have at most 1,275 bytes together
 pub message_fits : (m : Message) → 0 < m.code → m.code < 256 → m.id < 65536 → length m.token ≤ 8 → AreOptions 0 m.options → length m.token + length (options_bytes 0 m.options) + length m.payload + 5 ≤ 1280 → IsMessage m
 message_fits m c d i t o s = record {
   code = d;

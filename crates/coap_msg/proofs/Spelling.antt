@@ -43,7 +43,7 @@ number_at-of n rest =
       | inr l ↦ elim (cases_lt n 269) [ inl h ↦ number_middle n rest l h | inr m ↦ number_large n rest m ]
     ]
 
--- a nibble byte and bytes from which a number is decoded
+-- the nibble and the start of the bytes encode the number, and the other bytes follow it
 record IsNumber (first : ℕ) (bytes : List ℕ) (found : ℕ × List ℕ) : Type 0 where
   nibble_is : first ≡ nibble found.0
   bytes_are : bytes ≡ extension found.0 ++ found.1
@@ -132,7 +132,7 @@ option_at-of before number value rest o =
     ap (λ xs. (16 * upper + lower) ∷ xs) (append_assoc (extension (number - before)) (extension (length value) ++ value) rest ∙ ap (λ xs. extension (number - before) ++ xs) (append_assoc (extension (length value)) value rest)) in
     ap (option_at before) same ∙ option_by before number value rest upper lower o refl refl (omega arith) (omega arith)
 
--- bytes from which an option is decoded
+-- the bytes are the encoding of an option, and then the bytes after it
 pub record IsRawOption (before : ℕ) (bytes : List ℕ) (o : RawOption) : Type 0 where
   pub bytes_are : bytes ≡ option_bytes (o.number - before) o.value ++ o.after
   pub option : IsOption before o.number o.value
@@ -188,7 +188,8 @@ unmarked delta value e =
     let l : nibble (length value) < 15 = nibble_below (length value) in
     omega arith
 
--- the options decoded after an encoded option
+-- decoding an encoded option and further bytes gives the option, and then the options decoded from
+-- the further bytes
 options_at-first : (n before number : ℕ) (value rest : List ℕ) → IsOption before number value →
     options_at (suc n) before (option_bytes (number - before) value ++ rest) ≡ with_first (record { number = number; value = value; after = rest }) (options_at n number rest)
 unfolding options_at
@@ -209,7 +210,7 @@ options_at-of (suc n) before ((number, value) ∷ options) after o e h =
     let shorter : length rest ≤ n = omega (arith, h, ap length same, length-first (number - before) value rest) in
     ap (options_at (suc n) before) same ∙ (options_at-first n before number value rest o.0 ∙ rw (options_at-of n number options after o.1 e shorter) refl)
 
--- bytes from which options are decoded
+-- the bytes are the encoding of options, and then the bytes after them
 pub record AreListed (before : ℕ) (bytes : List ℕ) (found : Listed) : Type 0 where
   pub bytes_are : bytes ≡ options_bytes before found.0 ++ found.1
   pub options : AreOptions before found.0
@@ -264,7 +265,7 @@ HasOptions-of before options bytes o e =
     let same : options_of before bytes ≡ options = ap (options_of before) e ∙ options_of-of before options o in
     (record { bytes_are = rw same e; options = rw same o }, same)
 
--- the result of one step over options
+-- if no option can be decoded from the encoding of options, there are no options
 none_by : (before : ℕ) (bytes : List ℕ) (options : List (ℕ × List ℕ)) → bytes ≡ options_bytes before options → AreOptions before options → option_at before bytes ≡ None → options ≡ []
 none_by before bytes [] b o e = refl
 none_by before bytes ((number, value) ∷ options) b o e = absurd (cc (e, ap (option_at before) b ∙ option_at-of before number value (options_bytes number options) o.0))

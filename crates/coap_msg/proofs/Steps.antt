@@ -5,7 +5,7 @@ use Rattle.std.proofs.lemmas.List.{take-append-drop, length-take-le}
 use Rattle.std.proofs.lemmas.Bool.{leb-true, le-leb}
 use Rattle.coap_msg.specs.Reading.{◌>>=◌, guard, split}
 
--- a value computed in two steps
+-- `y` is computed in two steps: `o` is `value`, and `f` makes `y` of this value
 pub record Came {A B : Type 0} (o : Option A) (f : A → Option B) (y : B) : Type 0 where
   pub value : A
   pub first : o ≡ Some value
@@ -15,7 +15,7 @@ pub came : {A B : Type 0} (o : Option A) (f : A → Option B) (y : B) → (o >>=
 came None f y e = absurd (cc e)
 came (Some x) f y e = record { value = x; first = refl; second = e }
 
--- a value after a test
+-- the test holds, and the value `x` that it guards is `y`
 pub record Passed {A : Type 0} (b : Bool) (x y : A) : Type 0 where
   pub test : b ≡ true
   pub same : x ≡ y
@@ -27,7 +27,7 @@ passed true x y e = record { test = refl; same = cc e }
 pub passes : {A : Type 0} (b : Bool) (x : A) → b ≡ true → guard b x ≡ Some x
 passes b x e = rw e refl
 
--- a list split into its front and its back
+-- splitting two joined lists after the length of the first gives the two lists
 pub split-append : (xs ys : List ℕ) → split (length xs) (xs ++ ys) ≡ Some (xs, ys)
 split-append xs ys =
     passes (nat_le (length xs) (length (xs ++ ys))) (take (length xs) (xs ++ ys), drop (length xs) (xs ++ ys)) (le-leb _ _ (omega (arith, length-append xs ys))) ∙
@@ -46,7 +46,7 @@ joins count bytes parts e =
       count_is = length-take-le count bytes (leb-true _ _ p.test);
     })
 
--- each of them is a byte
+-- each number of the list is a byte
 pub record AreBytes (bytes : List ℕ) : Type 0 where
   pub each : (k : ℕ) → get_or bytes k 0 < 256
 

@@ -7,12 +7,12 @@ use Rattle.coap_msg.specs.Parsing.{is_end, EndsIn, AreSplit}
 use Rattle.coap_msg.proofs.Steps.{AreBytes}
 use Rattle.coap_msg.proofs.Spelling.{options_from, HasOptions-of}
 
--- the options found, with those before them
+-- the decoded options with the options `done` before them; `None` stays `None`
 abbrev pub after_all : List (ℕ × List ℕ) → Option Listed → Option Listed
 after_all done None = None
 after_all done (Some (options, after)) = Some (done ++ options, after)
 
--- options were passed, and the rest is still to be decoded
+-- decoding all bytes gives the options `done`, and then those decoded from `rest`
 pub record Walked (bytes : List ℕ) (number : ℕ) (rest : List ℕ) : Type 0 where
   pub done : List (ℕ × List ℕ)
   pub count : ℕ
@@ -30,7 +30,7 @@ after_all-first : (done : List (ℕ × List ℕ)) (o : RawOption) (x : Option Li
 after_all-first done o None = refl
 after_all-first done o (Some x) = ap (λ os. Some (os, x.1)) (sym (append_assoc done ((o.number, o.value) ∷ []) x.0))
 
--- the first byte isn't the marker
+-- if the rest doesn't end the options, its first option is decoded, and then the others
 unmarked : (count number : ℕ) (rest : List ℕ) → is_end rest ≡ false →
     options_at (suc count) number rest ≡ (option_at number rest >>= λ o. with_first o (options_at count o.number o.after))
 unfolding options_at
@@ -61,7 +61,8 @@ cut_by bytes number rest done (suc count) h s n e =
     let cut : options_at (suc count) number rest ≡ None = unmarked count number rest n ∙ rw e refl in
     s ∙ ap (after_all done) cut
 
--- no option can be decoded here
+-- if the rest doesn't end the options and no option can be decoded from it, decoding all bytes
+-- gives `None`
 pub walked_cut : (bytes : List ℕ) (number : ℕ) (rest : List ℕ) → Walked bytes number rest → is_end rest ≡ false → option_at number rest ≡ None →
     options_at (length bytes) 0 bytes ≡ None
 walked_cut bytes number rest w n e = cut_by bytes number rest w.done w.count w.enough w.same n e
@@ -72,11 +73,11 @@ at_end count number [] h e = refl
 at_end zero number (b ∷ rest) h e = absurd (omega arith)
 at_end (suc count) number (b ∷ rest) h e = rw e refl
 
--- the walk is at the end
+-- if the rest ends the options, it is the bytes after the options of all bytes
 pub walked_end : (bytes : List ℕ) (number : ℕ) (rest : List ℕ) → Walked bytes number rest → is_end rest ≡ true → EndsIn bytes rest
 walked_end bytes number rest w e = record { options = w.done ++ []; found = w.same ∙ ap (after_all w.done) (at_end w.count number rest w.enough e) }
 
--- the bytes after the options aren't longer than all bytes
+-- the bytes after the options are at most as many as all bytes
 pub ends_shorter : (bytes after : List ℕ) → AreBytes bytes → EndsIn bytes after → length after ≤ length bytes
 ends_shorter bytes after b e =
     let l = options_from (length bytes) 0 bytes (e.options, after) b e.found in
@@ -84,7 +85,7 @@ ends_shorter bytes after b e =
     let whole : bytes ≡ own ++ after = l.bytes_are in
     omega (arith, ap length whole, length-append own after)
 
--- the bytes of the options alone
+-- if `after` are the bytes after the options, the bytes before `after` encode these options
 pub ends_split : (bytes front after : List ℕ) → AreBytes bytes → EndsIn bytes after → front ≡ take (length bytes - length after) bytes → AreSplit bytes front after
 ends_split bytes front after b e f =
     let l = options_from (length bytes) 0 bytes (e.options, after) b e.found in

@@ -1,4 +1,4 @@
--- Codes: a class of three bits and a detail of five (RFC 7252, section 3).
+-- Codes: a class of three bits and a detail of five bits (RFC 7252, section 3).
 use Rattle.std.specs.Prelude.{ℕ, ◌+◌, ◌*◌, ◌/◌, ◌%◌, ◌++◌, List, codes}
 use Rattle.std.specs.Fmt.{decimal}
 
@@ -6,6 +6,6 @@ use Rattle.std.specs.Fmt.{decimal}
 abbrev pub code : ℕ → ℕ → ℕ
 code class detail = 32 * class + detail
 
--- the class, a full stop, and the detail by two digits.
+-- the text of a code: the class, a full stop, and the detail in two digits.
 abbrev pub code_text : ℕ → List ℕ
 code_text code = decimal (code / 32) ++ (codes "." ++ (decimal (code % 32 / 10) ++ decimal (code % 32 % 10)))

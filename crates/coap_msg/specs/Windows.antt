@@ -6,6 +6,6 @@ use Rattle.std.specs.Prelude.{ℕ, ◌+◌, Bool, nat_lt}
 abbrev pub window : ℕ
 window = 247000
 
--- the time `at` was less than EXCHANGE_LIFETIME before `now`.
+-- the time `now` is less than EXCHANGE_LIFETIME after the time `at`.
 abbrev pub within_window : ℕ → ℕ → Bool
 within_window now at = nat_lt now (at + window)

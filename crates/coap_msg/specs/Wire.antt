@@ -33,12 +33,13 @@ header kind code id token = first_byte kind token ∷ code ∷ (id / 256) ∷ (i
 abbrev pub nibble : ℕ → ℕ
 nibble n = if nat_lt n 13 then n else (if nat_lt n 269 then 13 else 14)
 
--- the extended value: none below 13; from 13 on 8 bits, less the bias of 13; from 269 on 16 bits,
--- less the bias of 269.
+-- the extended value of n: no bytes if n is below 13, one byte with n - 13 if n is below 269, else
+-- two bytes with n - 269.
 abbrev pub extension : ℕ → List ℕ
 extension n = if nat_lt n 13 then [] else (if nat_lt n 269 then (n - 13) ∷ [] else ((n - 269) / 256) ∷ ((n - 269) % 256) ∷ [])
 
--- the bytes of an option, from the difference of its number to the number before it, and its value.
+-- the bytes of an option with this value; `delta` is its number minus the number of the option
+-- before it.
 abbrev pub option_bytes : ℕ → List ℕ → List ℕ
 option_bytes delta value = (16 * nibble delta + nibble (length value)) ∷ (extension delta ++ (extension (length value) ++ value))
 
@@ -47,7 +48,7 @@ abbrev pub options_bytes : ℕ → List (ℕ × List ℕ) → List ℕ
 options_bytes before [] = []
 options_bytes before ((number, value) ∷ options) = option_bytes (number - before) value ++ options_bytes number options
 
--- a marker and the payload; no marker if there is no payload.
+-- the marker and the payload; no bytes if the payload is empty.
 abbrev pub payload_bytes : List ℕ → List ℕ
 payload_bytes [] = []
 payload_bytes (b ∷ payload) = 255 ∷ b ∷ payload
@@ -56,8 +57,8 @@ payload_bytes (b ∷ payload) = 255 ∷ b ∷ payload
 abbrev pub message_bytes : Message → List ℕ
 message_bytes m = header m.kind m.code m.id m.token ++ (options_bytes 0 m.options ++ payload_bytes m.payload)
 
--- the number of an option has 16 bits and is at least the number before it; the value has at most
--- 65,804 bytes.
+-- an option's number has 16 bits, and is at least `before`, the number of the option before it; the
+-- value has at most 65,804 bytes.
 pub record IsOption (before number : ℕ) (value : List ℕ) : Type 0 where
   pub rises : before ≤ number
   pub is_number : number < 65536

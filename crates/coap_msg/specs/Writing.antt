@@ -23,8 +23,8 @@ optional number (Some value) = (number, value) ∷ []
 abbrev pub short_option : ℕ → Option (ArrayVec ℕ) → List (ℕ × List ℕ)
 short_option number value = optional number (option_map (λ v. v.items) value)
 
--- the number of the last option, from which the next delta counts; without options, the number
--- before.
+-- the number of the last option, or `before` if there are no options; the next option's delta
+-- counts from it.
 abbrev pub last_number : ℕ → List (ℕ × List ℕ) → ℕ
 last_number before [] = before
 last_number before ((number, value) ∷ options) = last_number number options

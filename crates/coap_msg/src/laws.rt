@@ -1,4 +1,4 @@
-//! Laws about the definitions, for the crates above.
+//! Laws about the definitions, for the crates that use this one.
 //!
 //! Each law is the contract of an empty function.
 ghost use Rattle.std.specs.Prelude.{◌≡◌, ◌↔◌, ◌≤◌, ◌+◌, ℕ, Err, List, Ok, Some, length};

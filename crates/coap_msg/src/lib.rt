@@ -22,8 +22,8 @@
 //! - For every message: the parsed message is the one that the datagram encodes, every encoded
 //!   message is parsed, and each message has one encoding.
 //! - `read` asks for a Reset exactly if a confirmable message has a format error.
-//! - `write` emits the one encoding, as do its steps. Each named code has the class and the detail
-//!   of its RFC.
+//! - `write` emits the one encoding of a message, and each step of `writer` emits its part.
+//! - Each named code has the class and the detail that its RFC registers.
 //!
 //! By the contracts of `read`, `write`, `Options`, `Message::values`, `writer`, `laws`.
 #![tactic(auto)]

@@ -100,7 +100,7 @@ impl<'a> Message<'a> {
 
     /// Iterates in order over the values of the options with the number `number`.
     ///
-    /// There are none if the message has no such option.
+    /// The iterator is empty if the message has no such option.
     pub fn values(&self, number: u16) -> Values<'a>
         ensures { result ≡ values_in number self.now.options }
     {

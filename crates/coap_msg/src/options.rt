@@ -1,7 +1,7 @@
 //! The options of a message, decoded from the datagram's bytes.
 //!
-//! [`Options`] iterates over them, for readers of a message. `split_options` checks their encoding
-//! and finds their end, for the parser.
+//! [`Options`] iterates over the options, for readers of a message. For the parser, `split_options`
+//! checks the encoding of the options and finds their end.
 ghost use Rattle.std.specs.Prelude.{◌≡◌, ◌<◌, ◌+◌, length, nat_lt, IfSome, MatchOption};
 ghost use Rattle.std.specs.Iterator.{YieldsFirstBy, item_count};
 ghost use Rattle.coap_msg.specs.Reading.{guard, number_at, option_at, options_at};
@@ -32,7 +32,9 @@ impl<'a> Model for Options<'a> {
 }
 
 impl<'a> Options<'a> {
-    /// Iterates over the options that `bytes` encode, which the parser has checked.
+    /// Makes an iterator over the options that `bytes` encode.
+    ///
+    /// The caller guarantees that `bytes` encode options and nothing else.
     pub(crate) fn new(bytes: &'a [u8]) -> Self
         requires { HasOptions 0 bytes.now }
         ensures { result ≡ options_of 0 bytes.entry.now }
@@ -67,7 +69,8 @@ struct RawOption<'a> {
 /// Decodes the first option of `bytes`.
 ///
 /// `before` is the number of the option before that one, or 0 for the message's first option.
-/// Returns `None` if `bytes` don't begin with an option.
+/// Returns the option with the bytes after it. Returns `None` if `bytes` don't begin with an
+/// option, or if its number is above 65,535.
 #[tactic(auto, unfolding(crate::specs::Reading::option_at))]
 fn split_option(before: u16, bytes: &[u8]) -> Option<RawOption<'_>>
     ensures option { MatchOption result (option_at before bytes.now ≡ None) (IsFirstOf before bytes.now) }
@@ -87,10 +90,10 @@ fn split_option(before: u16, bytes: &[u8]) -> Option<RawOption<'_>>
     })
 }
 
-/// Decodes a delta or length from its nibble and the bytes after it.
+/// Decodes a delta or a length from its nibble and its extended value, if any.
 ///
-/// Returns its value and the bytes after it. Returns `None` if the nibble is 15, which encodes
-/// neither, or if the bytes of its extended value are missing.
+/// `bytes` begin with the extended value. Returns the number and the bytes after the extended
+/// value. Returns `None` if `nibble` is above 14, or if `bytes` are too few.
 fn read_extended(nibble: u8, bytes: &[u8]) -> Option<(u32, &[u8])>
     ensures number { MatchOption result (number_at nibble bytes.now ≡ None)
         (λ n. number_at nibble bytes.now ≡ Some (n.0, n.1.now)) }
@@ -125,7 +128,7 @@ fn number_above(before: u16, delta: u32) -> Option<u16>
 
 /// Splits bytes into the options at their start and the bytes after the options.
 ///
-/// Returns `None` if an option is malformed. The parser reads the payload from the bytes after.
+/// Returns `None` if an option is malformed. The parser reads the payload from the second part.
 pub(crate) fn split_options(bytes: &[u8]) -> Option<(&[u8], &[u8])>
     ensures { MatchOption result (options_at (length bytes.now) 0 bytes.now ≡ None)
         (λ parts. AreSplit bytes.now parts.0.now parts.1.now) }
@@ -135,7 +138,7 @@ pub(crate) fn split_options(bytes: &[u8]) -> Option<(&[u8], &[u8])>
     Some((options, after))
 }
 
-/// Returns the bytes after the options at the start.
+/// Returns the bytes after the options at the start of `bytes`.
 ///
 /// Returns `None` if an option is malformed.
 fn after_options(bytes: &[u8]) -> Option<&[u8]>
@@ -152,7 +155,9 @@ fn after_options(bytes: &[u8]) -> Option<&[u8]>
     Some(rest)
 }
 
-/// Returns whether the options end here: there are no bytes, or a payload marker.
+/// Returns whether `bytes` are empty or begin with the payload marker.
+///
+/// In both cases they begin with no option.
 fn at_end(bytes: &[u8]) -> bool
     ensures { result ≡ is_end bytes.now }
 {

@@ -44,7 +44,7 @@ fn refusal(bytes: &[u8]) -> Bad
     }
 }
 
-/// Returns whether a message with this first byte is confirmable, of version 1.
+/// Returns whether a message's first byte has version 1 and the type confirmable.
 fn is_confirmable(first: u8) -> bool
     ensures { result ≡ (first / 16 == 4) }
 {
@@ -66,10 +66,9 @@ fn parse(bytes: &[u8]) -> Option<Message<'_>>
     }
 }
 
-/// Returns whether a message with this code has a legal length.
+/// Returns whether a message with this code may have `rest` after its message ID.
 ///
-/// `rest` are the bytes after its message ID: none in an empty message. A datagram has at most
-/// 1,280 bytes.
+/// An empty message (code 0.00) has no bytes there. Any other message has at most 1,276.
 fn is_whole(code: u8, rest: &[u8]) -> bool
     ensures { result ≡ is_sized code rest.now }
 {
@@ -80,10 +79,10 @@ fn is_whole(code: u8, rest: &[u8]) -> bool
     }
 }
 
-/// Parses the message from its first byte, code, ID, and the bytes after it.
+/// Parses the message from its first byte, code, ID, and the bytes after the ID.
 ///
-/// Returns `None` if its version isn't 1, or if `rest`, the bytes after the ID, have a format
-/// error.
+/// Returns `None` if the version isn't 1, if the token's length is above 8, or if `rest`, the
+/// bytes after the ID, have a format error.
 fn parse_parts(first: u8, code: u8, id: u16, rest: &[u8]) -> Option<Message<'_>>
     ensures { result ≡ message_by first code id rest.now }
 {

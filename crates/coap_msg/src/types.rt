@@ -1,4 +1,4 @@
-//! Types shared by all crates above.
+//! Types shared with the crates that use this one.
 use arrayvec::ArrayVec;
 use thiserror::Error;
 
@@ -26,7 +26,7 @@ pub const TOKEN: usize = 8;
 /// A message's token: 0 to 8 bytes (RFC 7252, section 5.3.1).
 pub type Token = ArrayVec<u8, TOKEN>;
 
-/// Maximum length of a short value, in bytes.
+/// Maximum length of a [`ShortValue`], in bytes.
 pub const SHORT_VALUE: usize = 8;
 
 /// The value of an option to write: 0 to 8 bytes.
@@ -36,7 +36,7 @@ pub type ShortValue = ArrayVec<u8, SHORT_VALUE>;
 
 /// Maximum length of an option with a short value, in bytes.
 ///
-/// The option has its first byte, two extended values of two bytes each, and the value.
+/// It is one first byte, two extended values of two bytes each, and a value of eight bytes.
 pub const SHORT_OPTION: usize = 13;
 
 /// A datagram to send, with its receiver.

@@ -25,7 +25,9 @@ impl<'a> Model for Values<'a> {
 }
 
 impl<'a> Values<'a> {
-    /// Iterates over the values of the options in `options` with the number `number`.
+    /// Makes an iterator over the values of the options with the number `number`.
+    ///
+    /// Only the options that `options` hasn't yielded yet count.
     pub(crate) fn new(number: u16, options: Options<'a>) -> Self
         ensures { result ≡ values_in number options.entry }
     {

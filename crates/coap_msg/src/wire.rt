@@ -25,10 +25,10 @@ pub(crate) const NIBBLE_EXT8: u8 = 13;
 /// Delta or length nibble 14: a 16-bit extended value follows.
 pub(crate) const NIBBLE_EXT16: u8 = 14;
 
-/// Bias of the 8-bit extended form.
+/// The number that is added to an 8-bit extended value.
 pub(crate) const EXT8_BIAS: u32 = 13;
 
-/// Bias of the 16-bit extended form.
+/// The number that is added to a 16-bit extended value.
 pub(crate) const EXT16_BIAS: u32 = 269;
 
 /// Payload marker: the payload follows.

@@ -1,7 +1,7 @@
 //! Writing: from a message to a datagram.
 //!
-//! [`write`] writes a message; the other functions write its parts one after another. The other
-//! public functions are for `coap_opts`, whose responses have options of another type.
+//! [`write`] writes a message. The other public functions write parts of a message, for
+//! `coap_opts`, whose responses have options of another type.
 ghost use Rattle.std.specs.Prelude.{◌≡◌, ◌+◌, ◌<◌, ◌≤◌, ◌++◌, length};
 ghost use Rattle.arrayvec.specs.ArrayVec.{array_vec_len};
 ghost use Rattle.coap_msg.specs.Wire.{IsMessage, AreOptions, message_bytes, extension, nibble, header, option_bytes, options_bytes, payload_bytes, type_number};
@@ -87,7 +87,9 @@ fn write_options(options: &[(u16, &[u8])], datagram: &mut Datagram)
     }
 }
 
-/// Appends an option; `delta` is its number less that of the option before it.
+/// Appends an option.
+///
+/// `delta` is its number minus the number of the option before it.
 fn write_option<const N: usize>(delta: u16, value: &[u8], datagram: &mut ArrayVec<u8, N>)
     requires value { length value.now < 65805 }
     requires room { array_vec_len datagram.old + length (option_bytes delta value.now) ≤ N }
@@ -103,8 +105,8 @@ fn write_option<const N: usize>(delta: u16, value: &[u8], datagram: &mut ArrayVe
 
 /// Appends the option `number`, or nothing if `value` is `None`.
 ///
-/// `before` is the number of the option before it, or 0. Returns the number of the last option so
-/// far, from which the next option's delta counts.
+/// `before` is the number of the last option in `datagram`, or 0. Returns the number of the last
+/// option afterwards: `number`, or `before` if nothing was appended.
 #[tactic(auto, using(crate::proofs::Sizes::option_size))]
 pub fn write_optional(
     before: u16,

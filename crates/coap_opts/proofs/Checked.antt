@@ -208,7 +208,7 @@ unfolding verdict
 is_ignored m kind code =
     ap (λ (k : MessageType). verdict_by k m) kind ∙ ap (λ (b : Bool). if b then request_verdict m else IsIgnored) (no_request m.code code)
 
--- an empty Acknowledgement or Reset, or one that isn't
+-- an empty Acknowledgement or Reset message is a signal; one that isn't empty is ignored
 pub acknowledged_by : (m : Message) (b : Bool) → (m.code == 0) ≡ b → m.kind ≡ Acknowledgement → verdict m ≡ (if b then IsSignal false else IsIgnored)
 unfolding verdict
 acknowledged_by m b empty kind = ap (λ (k : MessageType). verdict_by k m) kind ∙ ap (λ (x : Bool). if x then IsSignal false else IsIgnored) empty

@@ -15,7 +15,7 @@ are_append : (before : ℕ) (xs ys : List (ℕ × List ℕ)) → AreOptions befo
 are_append before [] ys a b = b
 are_append before ((n, v) ∷ xs) ys a b = (a.0, are_append n xs ys a.1 b)
 
--- the bytes written so far
+-- the bytes written so far are `start` and the options `done`, whose last number is `last`
 pub record IsSoFar (start bytes : List ℕ) (last : ℕ) (done : List (ℕ × List ℕ)) : Type 0 where
   pub bytes_are : bytes ≡ start ++ options_bytes 0 done
   pub last_is : last ≡ last_number 0 done

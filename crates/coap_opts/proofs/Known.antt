@@ -33,7 +33,7 @@ first_recognised wanted code before ((number, value) ∷ options) v h =
 
 -- ---- lengths
 
--- the row, if any, allows values of at most that many bytes
+-- the row, if there is one, allows only values of at most `most` bytes
 abbrev is_within : Option Row → ℕ → Bool
 is_within None most = true
 is_within (Some r) most = nat_le r.greatest most
@@ -66,7 +66,7 @@ short_block2 m v h = short_first option.BLOCK2 3 m v refl h
 
 -- ---- methods
 
--- the row, if any, is for messages with this code alone
+-- the row is for messages with this code alone
 abbrev is_for : Option Code → ℕ → Bool
 is_for None code = false
 is_for (Some only) code = only.byte == code

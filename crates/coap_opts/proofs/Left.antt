@@ -1,4 +1,4 @@
--- The collected options once none is left.
+-- The collected options once no option of the message is left.
 use Rattle.std.proofs.Common.{◌≡◌, ℕ, ◌≤◌, List, [], length, Option, Some, None, sym}
 use Rattle.std.specs.Borrow.{Bor}
 use Rattle.coap_msg.specs.Wire.{Message}

@@ -1,4 +1,4 @@
--- The first check that fails, from the checks before it.
+-- The code of the first check that fails, once the checks before it have passed.
 use Rattle.std.proofs.Common.{◌≡◌, ℕ, ◌||◌, Bool, true, false, nat_lt, length, List, [], Option, Some, None, refl, sym, ◌∙◌}
 use Rattle.std.proofs.lemmas.Bool.{lt-ltb, le-ltb}
 use Rattle.coap_msg.specs.Wire.{Message}
@@ -78,7 +78,7 @@ query_by false items all h e = h.0
 pub collected_query : (m : Message) (g : Collected) → IsCollected m g → has_bad_value m ≡ false → g.query.items.items ≡ query m
 collected_query m g h e = query_by _ _ _ h.query (or_right (is_reserved (block_in 27 m) || is_reserved (block_in 23 m)) _ e)
 
--- the request
+-- if a message passed the checks up to its path, it has a request with these fields
 pub asked_is : (m : Message) (method : Method) (at : Resource) (action : Action) → IsServedAt m method at action → asked m ≡ Some (record {
   action = action;
   query = query m;

@@ -39,7 +39,8 @@ pub is_first : (before : Option ℕ) (n : ℕ) → before ≢ Some n → not (is
 is_first None n ne = refl
 is_first (Some b) n ne = ap not (ne_eqb b n (λ same. ne (ap (λ (x : ℕ). Some x) same)))
 
--- an option that may occur once, for any method
+-- an option that may occur once, with any method, is recognised exactly if its length is legal and
+-- the option before has another number
 pub once_fits : (n least greatest code count : ℕ) (before : Option ℕ) → (fits (once n least greatest None) code before count ≡ true
     → (least ≤ count) × (count ≤ greatest) × (before ≢ Some n)) × ((least ≤ count) × (count ≤ greatest) × (before ≢ Some n)
     → fits (once n least greatest None) code before count ≡ true)
@@ -48,7 +49,9 @@ once_fits n least greatest code count before = (
   λ w. of_fits (once n least greatest None) code count before (record { least = w.0; greatest = w.1; defined = refl; first = is_first before n w.2 }),
 )
 
--- an option that may occur once, for one method alone
+-- an option that may occur once, with one method alone, is recognised exactly under three
+-- conditions. Its length is legal, the message has this method's code, and the option before has
+-- another number
 pub once_fits_with : (n least greatest code count : ℕ) (only : Code) (before : Option ℕ)
     → (fits (once n least greatest (Some only)) code before count ≡ true → (least ≤ count) × (count ≤ greatest) × (code ≡ only.byte) × (before ≢ Some n)) ×
     ((least ≤ count) × (count ≤ greatest) × (code ≡ only.byte) × (before ≢ Some n) → fits (once n least greatest (Some only)) code before count ≡ true)

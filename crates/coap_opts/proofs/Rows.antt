@@ -29,8 +29,8 @@ code_is code method e = code_by code method (code == 1) (code == 2) (code == 3) 
 abbrev message : ℕ → List (ℕ × List ℕ) → List ℕ → Message
 message code options payload = record { kind = Confirmable; code = code; id = 258; token = 9 ∷ []; options = options; payload = payload }
 
--- two ETags, one of them of eight bytes, Observe 0, the path /r/37, Content-Format 50, a query of
--- two parameters, and Block2
+-- the options of a GET: two ETags, one of them of eight bytes, Observe 0, the path /r/37,
+-- Content-Format 50, a query of two parameters, and Block2
 abbrev get_options : List (ℕ × List ℕ)
 get_options =
     (4, 0 ∷ 0 ∷ 0 ∷ 0 ∷ 0 ∷ 0 ∷ 1 ∷ 5 ∷ []) ∷ (4, 7 ∷ []) ∷ (6, [])

@@ -43,18 +43,18 @@ fields m action = record {
 abbrev row_of : Action → Resource × Method
 row_of found = (resource_in found, method_in found)
 
--- the same, for any action
+-- this resource and this method, for any action
 abbrev row_at : Resource → Method → Action → Resource × Method
 row_at at method found = (at, method)
 
--- an action is found only by its own resource and method
+-- if a resource serves a method, the action has this resource and this method
 rows_agree : (at : Resource) (method : Method) → option_map row_of (action_of at method) ≡ option_map (row_at at method) (action_of at method)
 rows_agree (Run n) Get = refl
 rows_agree (Program n) Get = refl
 rows_agree Core Get = refl
 rows_agree at other = refl
 
--- an action has its method and its resource
+-- if a resource serves a method by an action, they are the action's resource and its method
 pub action_only : (at : Resource) (method : Method) (found : Action) → action_of at method ≡ Some found → (at ≡ resource_in found) × (method ≡ method_in found)
 action_only at method found h =
     let same = subst (λ (o : Option Action). option_map row_of o ≡ option_map (row_at at method) o) h (rows_agree at method) in
@@ -65,7 +65,7 @@ pub action_served : (action : Action) → action_of (resource_in action) (method
 action_served (actions.Get n) = refl
 action_served other = refl
 
--- the parts from which an action is found
+-- the message's code has the action's method, and its path names the action's resource
 record IsActionOf (m : Message) (action : Action) : Type 0 where
   method : method_of m.code ≡ Some (method_in action)
   resource : resource m ≡ Some (resource_in action)
@@ -102,7 +102,7 @@ made_of m r h = made_by m r (action m) refl h
 
 -- ---- no check fails
 
--- none of these fails
+-- no check of the list fails
 abbrev AllPass : List (Bool × ℕ) → Type 0
 AllPass [] = Unit {0}
 AllPass ((fails, answer) ∷ more) = (fails ≡ false) × AllPass more
@@ -204,7 +204,8 @@ refusal_is_error m answer h =
 
 -- ---- from the verdict
 
--- the limits of a verdict: of a request, its fields, and of a refusal, its code
+-- the limits of a verdict: an accepted request's fields come from its message and are within their
+-- limits; a refusal has the code of an error
 abbrev IsWithin : Message → Verdict → Type 0
 IsWithin m (IsAsked r) = IsMadeOf m r × IsAskedWithin m r
 IsWithin m (IsRefused answer) = IsErrorCode answer

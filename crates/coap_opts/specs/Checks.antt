@@ -21,7 +21,8 @@ pub record IsUnnamed (number : ℕ) : Type 0 where
   pub proxy_uri : number ≢ 35
   pub proxy_scheme : number ≢ 39
 
--- a request: class 0, but not 0.00, confirmable or not (RFC 7252, section 4.1).
+-- a message is a request: it is confirmable or non-confirmable, and its code has class 0 and isn't
+-- 0.00 (RFC 7252, section 4.1).
 pub record IsRequest (m : Message) : Type 0 where
   pub kind : (m.kind ≡ Confirmable) ⊎ (m.kind ≡ NonConfirmable)
   pub some : 0 < m.code

@@ -41,12 +41,13 @@ asked_by r = record {
   payload = r.payload.now;
 }
 
--- the written request if no check fails, or the code of the first check that fails.
+-- if the result is `Ok`, no check fails and `r` is the request of the message. An error is the code
+-- of the first check that fails.
 abbrev pub IsRequestOf : Message → Result (Unit {0}) Code → Request → Type 0
 IsRequestOf m (Ok done) r = (refusal_code m ≡ None) × (asked m ≡ Some (asked_by r))
 IsRequestOf m (Err answer) r = refusal_code m ≡ Some answer.byte
 
--- the request that was written in place.
+-- the fields of the request that was written in place.
 abbrev pub written_over : Request → Unit {0} → Asked
 written_over r done = asked_by r
 
@@ -56,6 +57,7 @@ asking_verdict request (asking.Serve told) = IsAsked (request told)
 asking_verdict request (asking.Refuse answer) = IsRefused answer.byte
 asking_verdict request asking.Silent = IsSilent
 
+-- the class of a message, as a verdict; `request` gives the fields of an accepted request.
 abbrev pub verdict_of : {R : Type 0} → (R → Asked) → Classified R → Verdict
 verdict_of request (classified.Request done) = asking_verdict request done
 verdict_of request classified.Reset = IsReset

@@ -1,5 +1,5 @@
--- The recognised options of a message, collected in one pass. Each part is defined by its result
--- for the values that are left.
+-- The recognised options of a message, collected in one pass. Each part of the collection is stated
+-- by its result after the values that are left are collected too.
 use Rattle.std.specs.Prelude.{◌≡◌, ℕ, ◌-◌, ◌<◌, ◌≤◌, ◌==◌, Bool, true, false, List, [], ◌∷◌, ◌++◌, length, take, map, Option, Some, None, IfSome, codes}
 use Rattle.std.specs.List.{filter, flat_map, join_by}
 use Rattle.std.specs.Option.{option_map}
@@ -20,30 +20,30 @@ use Rattle.coap_opts.specs.Verdict.{first_of, values, query, etags}
 abbrev pub lent : Option (Bor (List ℕ)) → Option (List ℕ)
 lent value = option_map (λ v. v.now) value
 
--- ---- each part, with the values of its number that are left
+-- ---- each part of the collection, with the values of its option number that are left
 
--- the first value.
+-- the stored value, or else the first value that is left.
 abbrev pub first_with : Option (List ℕ) → List (List ℕ) → Option (List ℕ)
 first_with None left = first_of left
 first_with (Some first) left = Some first
 
--- the resource that the path names.
+-- the resource that the stored segments and then the segments that are left name together.
 abbrev pub resource_with : Segments → List (List ℕ) → Option Resource
 resource_with Empty left = resource_of left
 resource_with (One first) left = resource_of (first.now ∷ left)
 resource_with (Two first second) left = resource_of (first.now ∷ second.now ∷ left)
 resource_with More left = None
 
--- the values of eight bytes, as integers.
+-- the integers that the values with a length of eight bytes represent.
 abbrev pub eights : List (List ℕ) → List ℕ
 eights values = map uint_value (filter (λ v. length v == 8) values)
 
--- the first four ETags.
+-- the stored ETags and then those that are left, at most four in all.
 abbrev pub tags_with : List ℕ → List (List ℕ) → List ℕ
 tags_with tags left = tags ++ take (4 - length tags) (eights left)
 
--- the joined query is `all`; the tests say whether it is too long, and whether a value was
--- appended.
+-- the stored values and then those that are left, joined by `&`, are `all`, or `all` is too long.
+-- The first test says whether it is too long, the second whether a value is stored.
 abbrev pub IsJoinedBy : Bool → Bool → List ℕ → List (List ℕ) → List ℕ → Type 0
 IsJoinedBy true begun items left all = 64 < length all
 IsJoinedBy false false items left all = (items ≡ []) × (join_by (λ v. v) (codes "&") left ≡ all)
@@ -59,8 +59,8 @@ abbrev pub cons_if : Bool → List ℕ → List (List ℕ) → List (List ℕ)
 cons_if false value left = left
 cons_if true value left = value ∷ left
 
--- a recognised option was stored. For any values that are left, each part gives the result that it
--- gave before for these values with this one prepended.
+-- `new` is `old` with the value of a recognised option stored. For any values that are left, each
+-- part of `new` gives the result that this part of `old` gives for `value` and then these values.
 pub record IsTaken (old new : Collected) (number : ℕ) (value : List ℕ) : Type 0 where
   pub etags : (left : List (List ℕ)) → tags_with old.etags.items (cons_if (number == option.ETAG) value left) ≡ tags_with new.etags.items left
   pub observe : (left : List (List ℕ)) → first_with (lent old.observe) (cons_if (number == option.OBSERVE) value left) ≡ first_with (lent new.observe) left
@@ -72,8 +72,8 @@ pub record IsTaken (old new : Collected) (number : ℕ) (value : List ℕ) : Typ
   pub proxy_uri : (left : List (List ℕ)) → first_with (lent old.proxy_uri) (cons_if (number == option.PROXY_URI) value left) ≡ first_with (lent new.proxy_uri) left
   pub proxy_scheme : (left : List (List ℕ)) → first_with (lent old.proxy_scheme) (cons_if (number == option.PROXY_SCHEME) value left) ≡ first_with (lent new.proxy_scheme) left
 
--- with the options that are left, each part is that of the message; `before` is the number of the
--- option before them.
+-- each part of the collection, together with the options that are left, gives the message's value;
+-- `before` is the number of the option before these options.
 pub record IsUncollected (m : Message) (g : Collected) (before : Option ℕ) (left : List (ℕ × List ℕ)) : Type 0 where
   pub etags : tags_with g.etags.items (values_of option.ETAG m.code before left) ≡ etags m
   pub observe : first_with (lent g.observe) (values_of option.OBSERVE m.code before left) ≡ first_of (values option.OBSERVE m)
@@ -85,7 +85,7 @@ pub record IsUncollected (m : Message) (g : Collected) (before : Option ℕ) (le
   pub proxy_uri : first_with (lent g.proxy_uri) (values_of option.PROXY_URI m.code before left) ≡ first_of (values option.PROXY_URI m)
   pub proxy_scheme : first_with (lent g.proxy_scheme) (values_of option.PROXY_SCHEME m.code before left) ≡ first_of (values option.PROXY_SCHEME m)
 
--- the query is `all`, if it isn't too long.
+-- the query is `all` and has at most 64 bytes, or `all` has more.
 abbrev pub IsQueryBy : Bool → List ℕ → List ℕ → Type 0
 IsQueryBy true items all = 64 < length all
 IsQueryBy false items all = (items ≡ all) × (length items ≤ 64)
@@ -97,14 +97,14 @@ IsQuery q all = IsQueryBy q.is_long q.items.items all
 abbrev pub IsShort : ℕ → Option (Bor (List ℕ)) → Type 0
 IsShort most value = IfSome value (λ v. length v.now ≤ most)
 
--- the values that represent integers are as short as the table requires.
+-- the values that represent integers have at most the lengths that the table of options allows.
 pub record AreShort (g : Collected) : Type 0 where
   pub observe : IsShort 3 g.observe
   pub content_format : IsShort 2 g.content_format
   pub block2 : IsShort 3 g.block2
   pub block1 : IsShort 3 g.block1
 
--- each part is that of the message.
+-- each part of the collection is the message's value.
 pub record IsCollected (m : Message) (g : Collected) : Type 0 where
   pub etags : g.etags.items ≡ etags m
   pub observe : lent g.observe ≡ first_of (values option.OBSERVE m)

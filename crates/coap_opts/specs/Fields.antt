@@ -30,7 +30,7 @@ IsResource (Run n) = n < 64
 IsResource (Program n) = n < 64
 IsResource Core = Unit {0}
 
--- the one path of a resource; a slot in decimal digits, without leading zeros.
+-- the one path of a resource, with its slot in decimal digits without leading zeros.
 abbrev pub path_of : Resource → List (List ℕ)
 path_of (Run n) = codes "r" ∷ decimal n ∷ []
 path_of (Program n) = codes "p" ∷ decimal n ∷ []
@@ -57,12 +57,12 @@ pub record IsMadeOf (m : Message) (r : Asked) : Type 0 where
   pub block2_is : r.block2 ≡ block_in option.BLOCK2 m
   pub payload_is : r.payload ≡ m.payload
 
--- a GET of a resource that a program serves.
+-- the action is a GET of a resource that a program serves.
 abbrev pub is_get : Action → Bool
 is_get (actions.Get n) = true
 is_get _ = false
 
--- a block, if present, comes with this method, and its size isn't the reserved one.
+-- if there is a block, the request has the wanted method, and the block's size isn't reserved.
 abbrev pub IsBlockFor : Method → Method → Option Place → Type 0
 IsBlockFor wanted method block = IfSome block (λ b. (method ≡ wanted) × (b.szx < 7))
 

@@ -9,23 +9,23 @@ use Rattle.coap_opts.specs.Served.{rows}
 unfoldable pub row_of : ℕ → Option Row
 row_of number = find (λ r. r.number == number) rows
 
--- the option before has this number too; as options come in the order of their numbers, a
--- repetition directly follows.
+-- the option before has the same number. Options come in the order of their numbers, so a
+-- repetition directly follows the first option with its number.
 abbrev pub is_repeat : Option ℕ → ℕ → Bool
 is_repeat None number = false
 is_repeat (Some before) number = before == number
 
--- the code is the only method, if the row has an only method.
+-- the row allows every method, or its only method has this code.
 abbrev pub is_defined_for : Option Code → ℕ → Bool
 is_defined_for None code = true
 is_defined_for (Some only) code = only.byte == code
 
--- an option of legal length, defined for the method, and not a repetition of a non-repeatable
--- option.
+-- the option of the row has a legal length, is defined for the method, and doesn't repeat an option
+-- that isn't repeatable.
 abbrev pub fits : Row → ℕ → Option ℕ → ℕ → Bool
 fits r code before count = (nat_le r.least count && nat_le count r.greatest) && (is_defined_for r.only code && (r.repeatable || not (is_repeat before r.number)))
 
--- an unknown option doesn't fit.
+-- the option of a row fits by `fits`; an option without a row doesn't fit.
 abbrev pub fits_row : Option Row → ℕ → Option ℕ → ℕ → Bool
 fits_row None code before count = false
 fits_row (Some r) code before count = fits r code before count
@@ -45,7 +45,8 @@ has_unknown_critical code before [] = false
 has_unknown_critical code before ((number, value) ∷ options) =
     is_unknown_critical code before number (length value) || has_unknown_critical code (Some number) options
 
--- the values of the recognised options with one number.
+-- the values of the recognised options with the number `wanted`, in order; `before` is the number
+-- of the option before the first, if there is one.
 abbrev pub values_of : ℕ → ℕ → Option ℕ → List (ℕ × List ℕ) → List (List ℕ)
 values_of wanted code before [] = []
 values_of wanted code before ((number, value) ∷ options) =

@@ -29,10 +29,11 @@ pub record Place : Type 0 where
 abbrev pub block_size : ℕ → ℕ
 block_size szx = 2 ^ (szx + 4)
 
--- the block that an option's value represents.
+-- the block that an option's value represents, from this value as an integer.
 abbrev pub place_at : ℕ → Place
 place_at value = record { number = value / 16; more = (value / 8) % 2 == 1; szx = value % 8 }
 
+-- the block that the bytes of an option's value represent.
 abbrev pub place_in : List ℕ → Place
 place_in bytes = place_at (uint_value bytes)
 

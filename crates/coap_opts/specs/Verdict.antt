@@ -1,4 +1,4 @@
--- The class of a message: the first check that fails, or the request with its fields.
+-- The verdict on a message: the required reaction, and the fields of an accepted request.
 use Rattle.std.specs.Prelude.{ℕ, ◌==◌, ◌&&◌, ◌||◌, not, Bool, true, false, nat_lt, if◌then◌else◌, List, [], ◌∷◌, length, take, map, Option, Some, None, codes}
 use Rattle.std.specs.List.{filter, join_by}
 use Rattle.std.specs.Option.{option_map}
@@ -32,11 +32,12 @@ abbrev pub has : {A : Type 0} → Option A → Bool
 has None = false
 has (Some x) = true
 
--- the integer that the first of these values represents.
+-- the integer that the option with this number represents, if it is present; the first value
+-- counts.
 abbrev pub number_in : ℕ → Message → Option ℕ
 number_in number m = option_map uint_value (first_of (values number m))
 
--- the block that the option with this number represents, if it is present.
+-- the block that the option with this number represents, if it is present; the first value counts.
 abbrev pub block_in : ℕ → Message → Option Place
 block_in number m = option_map place_in (first_of (values number m))
 
@@ -52,11 +53,11 @@ etags m = take 4 (map uint_value (filter (λ v. length v == 8) (values option.ET
 abbrev pub resource : Message → Option Resource
 resource m = resource_of (values option.URI_PATH m)
 
--- the action, if the resource serves the method.
+-- the action of a message; `None` unless its path names a resource that serves its method.
 abbrev pub action : Message → Option Action
 action m = method_of m.code >>= λ method. resource m >>= λ at. action_of at method
 
--- Observe counts only for an action that runs a program.
+-- the value of Observe for an action that runs a program; `None` for another action.
 abbrev pub observe_at : Action → Option ℕ → Option ℕ
 observe_at (actions.Get n) value = value
 observe_at (actions.Post n) value = value
@@ -73,7 +74,7 @@ pub record Asked : Type 0 where
   pub block2 : Option Place
   pub payload : List ℕ
 
--- the fields of an accepted request.
+-- the fields of a request, if the message has an action.
 unfoldable pub asked : Message → Option Asked
 asked m =
     action m >>= λ action.
@@ -119,19 +120,20 @@ checks m =
     ∷ (nat_lt 1024 (length m.payload), registered.REQUEST_ENTITY_TOO_LARGE.byte)
     ∷ []
 
--- the code of the first check that fails.
+-- the code of the first check that fails, if one fails.
 abbrev pub first_failing : List (Bool × ℕ) → Option ℕ
 first_failing [] = None
 first_failing ((fails, answer) ∷ more) = if fails then Some answer else first_failing more
 
--- the code that refuses a request.
+-- the code of the first check that a request fails; `None` if it passes all checks.
 unfoldable pub refusal_code : Message → Option ℕ
 refusal_code m = first_failing (checks m)
 
 -- ---- the verdict
 
--- an accepted request; a refusal with its code; silence; a Reset; a signal, with whether it is a
--- Reset; nothing.
+-- the verdict on a message. A request is accepted, is refused with a code, or gets no response.
+-- Another message is rejected with a Reset message, is a signal (`true` for a Reset message), or is
+-- ignored.
 pub data Verdict : Type 0 where
   IsAsked : Asked → Verdict
   IsRefused : ℕ → Verdict
@@ -140,17 +142,17 @@ pub data Verdict : Type 0 where
   IsSignal : Bool → Verdict
   IsIgnored : Verdict
 
--- class 0, and not 0.00.
+-- the code has class 0 and isn't 0.00.
 abbrev pub is_request : ℕ → Bool
 is_request c = nat_lt 0 c && nat_lt c 32
 
--- a non-confirmable request with an unrecognised critical option gets no response (RFC 7252,
--- section 5.4.1).
+-- the verdict for a refused request. A non-confirmable request with an unrecognised critical option
+-- gets no response (RFC 7252, section 5.4.1); every other one gets the code.
 abbrev pub refusal_verdict : MessageType → ℕ → Verdict
 refusal_verdict kind.NonConfirmable answer = if answer == registered.BAD_OPTION.byte then IsSilent else IsRefused answer
 refusal_verdict _ answer = IsRefused answer
 
--- a request that passed all checks.
+-- the verdict for a request that passed all checks; its fields then exist.
 abbrev pub accepted : Option Asked → Verdict
 accepted (Some r) = IsAsked r
 accepted None = IsIgnored

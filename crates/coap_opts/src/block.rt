@@ -6,7 +6,7 @@ use std::marker::Model;
 
 /// A block of a body: its number, its size, and whether more blocks follow.
 ///
-/// In contracts it is these three fields.
+/// In contracts a block is the record of these three fields.
 #[derive(Clone, Copy, PartialEq, Eq)]
 pub struct Block {
     number: u32,
@@ -33,8 +33,8 @@ impl Block {
 
     /// Makes the block with these three fields (RFC 7959, section 2.2).
     ///
-    /// `number` is the block number, `more` says whether more blocks follow, and `szx` is the
-    /// exponent of the block size less 4.
+    /// `number` is the block number, and `more` says whether more blocks follow. The block size is
+    /// 2 to the power of `szx` + 4.
     pub fn new(number: u32, more: bool, szx: u8) -> Block
         requires number { number < 2 ^ 20 }
         requires szx { szx < 8 }
@@ -45,7 +45,7 @@ impl Block {
 
     /// Decodes the value of a Block1 or Block2 option.
     ///
-    /// `bytes` has at most 3 bytes, which may have leading zeros.
+    /// `bytes` has at most 3 bytes, and may begin with zeros.
     pub fn read(bytes: &[u8]) -> Block
         requires { length bytes.now ≤ 3 }
         ensures block { result ≡ place_in bytes.now }
@@ -84,7 +84,7 @@ impl Block {
         self.more
     }
 
-    /// Returns the SZX field, 0 to 7: the exponent of the block size less 4.
+    /// Returns the SZX field, 0 to 7; the block size is 2 to the power of SZX + 4.
     ///
     /// The value 7 is reserved.
     pub fn szx(self) -> u8

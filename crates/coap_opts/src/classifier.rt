@@ -18,8 +18,9 @@ use coap_msg::{Code, Message, MessageType};
 
 /// Classifies a message in one pass over its options.
 ///
-/// Returns the request with its fields, or its refusal by the first check that fails. For a message
-/// that is no request, it returns the required reaction. See [`classify_over`].
+/// Returns an accepted request with its fields. A refusal has the code of the first check that
+/// fails; a non-confirmable request with an unrecognised critical option gets no response. For a
+/// message that is no request, the result is the required reaction: see [`Classified`].
 pub fn classify<'a>(message: &Message<'a>) -> Classified<Request<'a>>
     ensures { verdict_of asked_by result ≡ verdict message.now }
 {
@@ -32,9 +33,9 @@ pub fn classify<'a>(message: &Message<'a>) -> Classified<Request<'a>>
     }
 }
 
-/// Returns `asking`, with `request` if that is to be served, for [`classify`].
+/// Returns `asking` for [`classify`], with `request` in `Serve`.
 ///
-/// A refusal and silence stay as they are.
+/// `Refuse` and `Silent` stay as they are.
 fn served<'a>(asking: Asking<()>, request: Request<'a>) -> Asking<Request<'a>>
     ensures { asking_verdict asked_by result ≡ asking_verdict (written_over request.entry) asking }
 {
@@ -47,8 +48,9 @@ fn served<'a>(asking: Asking<()>, request: Request<'a>) -> Asking<Request<'a>>
 
 /// Classifies a message, and writes an accepted request to `request`.
 ///
-/// The result is that of [`classify`], for the server's front, which passes its own `request`: no
-/// request is moved. If no request is accepted, the contract doesn't say what `request` has.
+/// The result is that of [`classify`] without the request. The server's front passes its own
+/// `request`, so that no request is moved. If no request is accepted, the contract doesn't say what
+/// `request` contains.
 #[tactic(auto, unfolding(crate::specs::Verdict::verdict))]
 pub fn classify_over<'a>(message: &Message<'a>, request: &mut Request<'a>) -> Classified<()>
     ensures { verdict_of (written_over request.new) result ≡ verdict message.now }
@@ -75,9 +77,9 @@ fn is_request(code: Code) -> bool
     code != Code::EMPTY && code.class() == 0
 }
 
-/// Classifies a message with the code of a request.
+/// Classifies a request, and writes it to `request` if it is accepted.
 ///
-/// Writes an accepted request to `request`.
+/// Returns whether to serve the request, refuse it with a code, or send no response.
 fn judge<'a>(message: &Message<'a>, request: &mut Request<'a>) -> Asking<()>
     ensures { asking_verdict (written_over request.new) result ≡ request_verdict message.now }
 {
@@ -89,7 +91,8 @@ fn judge<'a>(message: &Message<'a>, request: &mut Request<'a>) -> Asking<()>
 
 /// Returns the action for a request of the type `kind` that is refused with `code`.
 ///
-/// A non-confirmable request with an unrecognised critical option gets no response.
+/// Returns `Silent` for a non-confirmable request and the code 4.02 (Bad Option), which refuses an
+/// unrecognised critical option. Otherwise returns `Refuse` with `code`.
 fn refused(kind: MessageType, code: Code) -> Asking<()>
     ensures { (r : Request) → asking_verdict (written_over r) result ≡ refusal_verdict kind code.byte }
 {
@@ -102,7 +105,8 @@ fn refused(kind: MessageType, code: Code) -> Asking<()>
 
 /// Writes the fields of `message` to `request` if no check of a request fails.
 ///
-/// Otherwise returns the code of the first check that fails.
+/// Otherwise returns the code of the first check that fails, and the contract doesn't say what
+/// `request` contains.
 fn write_request<'a>(message: &Message<'a>, request: &mut Request<'a>) -> Result<(), Code>
     ensures { IsRequestOf message.now result request.new }
 {

@@ -14,10 +14,14 @@ use crate::uint::decode_uint;
 use arrayvec::ArrayVec;
 use coap_msg::Message;
 
-/// Length in bytes of the ETags that are compared, those of a revision counter.
+/// Length of the server's ETags, in bytes.
+///
+/// Each of them is a revision counter. Received ETags of another length are ignored.
 const SERIAL: usize = 8;
 
-/// The segments of a path, at most two: no resource has more.
+/// The segments of a path: none, one, two, or more.
+///
+/// No resource's path has more than two segments, so a longer path isn't stored.
 #[derive(Clone, Copy)]
 pub(crate) enum Segments<'a> {
     Empty,
@@ -41,7 +45,7 @@ impl<'a> Segments<'a> {
     }
 }
 
-/// The values of a query joined by `&`, up to the room for them.
+/// The values of a query joined by `&`, as far as they fit into 64 bytes.
 #[derive(Drop)]
 pub(crate) struct JoinedQuery {
     pub items: Query,
@@ -54,7 +58,7 @@ pub(crate) struct JoinedQuery {
 impl JoinedQuery {
     /// Appends a value, with a `&` before it if it isn't the first.
     ///
-    /// Sets `is_long` if there is no room for both. Later values are then ignored.
+    /// Sets `is_long` if the `&` and the value don't fit. Once `is_long` is set, nothing changes.
     fn push(&mut self, value: &[u8])
         ensures { (left : List (List ℕ)) (all : List ℕ) →
             IsJoined self.old (value.now ∷ left) all → IsJoined self.new left all }
@@ -134,7 +138,9 @@ impl<'a> Collected<'a> {
 }
 
 impl Collected<'_> {
-    /// Returns whether Proxy-Uri or Proxy-Scheme is present: the server is no proxy.
+    /// Returns whether Proxy-Uri or Proxy-Scheme is present.
+    ///
+    /// The server is no proxy, and refuses such a request.
     pub(crate) fn names_proxy(&self) -> bool
         ensures { result ≡ (has (lent self.now.proxy_uri) || has (lent self.now.proxy_scheme)) }
     {
@@ -154,7 +160,7 @@ fn keep_first<'a>(kept: &mut Option<&'a [u8]>, value: &'a [u8])
 
 /// Stores an ETag of 8 bytes, unless four are stored already.
 ///
-/// The server sends no ETags of other lengths.
+/// An ETag of another length is ignored, because the server sends none.
 fn take_tag(tags: &mut ArrayVec<u64, ETAGS>, value: &[u8])
     ensures { (left : List (List ℕ)) →
         tags_with tags.old.items (value.now ∷ left) ≡ tags_with tags.new.items left }
@@ -165,6 +171,8 @@ fn take_tag(tags: &mut ArrayVec<u64, ETAGS>, value: &[u8])
 }
 
 /// Collects a message's recognised options in one pass.
+///
+/// `has_unknown` of the result is `true` if a critical option isn't recognised.
 pub(crate) fn collect<'a>(message: &Message<'a>) -> Collected<'a>
     ensures parts { IsCollected message.now result }
     ensures short { AreShort result }

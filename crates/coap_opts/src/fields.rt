@@ -1,7 +1,7 @@
 //! The fields of a request, each decoded from the value of its option.
 //!
-//! The classifier writes them. A value is `None` if the request has no such option, and then its
-//! field is `None` too.
+//! The classifier stores these fields in the request. If the request has no such option, the value
+//! is `None`, and so is the field.
 ghost use Rattle.std.specs.Prelude.{◌≡◌, ◌≤◌, [], length};
 ghost use Rattle.std.specs.Option.{option_map};
 ghost use Rattle.coap_opts.specs.Values.{place_in, uint_value};
@@ -13,7 +13,7 @@ use crate::path::resource_named;
 use crate::request::Resource;
 use crate::uint::decode_uint;
 
-/// Decodes a Content-Format.
+/// Decodes the value of Content-Format, if there is one.
 pub(crate) fn format_of(value: Option<&[u8]>) -> Option<u16>
     requires { IsShort 2 value }
     ensures { result ≡ option_map uint_value (lent value.entry) }
@@ -29,7 +29,7 @@ fn decode_u16(bytes: &[u8]) -> u16
     decode_uint(bytes) as u16
 }
 
-/// Decodes an Observe value.
+/// Decodes the value of Observe, if there is one.
 pub(crate) fn observe_of(value: Option<&[u8]>) -> Option<u32>
     requires { IsShort 3 value }
     ensures { result ≡ option_map uint_value (lent value.entry) }
@@ -45,7 +45,7 @@ fn decode_u24(bytes: &[u8]) -> u32
     decode_uint(bytes) as u32
 }
 
-/// Decodes a Block1 or Block2 value.
+/// Decodes the value of Block1 or Block2, if there is one.
 pub(crate) fn block_of(value: Option<&[u8]>) -> Option<Block>
     requires { IsShort 3 value }
     ensures { result ≡ option_map place_in (lent value.entry) }

@@ -1,4 +1,4 @@
-//! Laws about the definitions, for the crates above.
+//! Laws about the definitions, for the crates that use this one.
 //!
 //! Each law is the contract of an empty function.
 ghost use Rattle.std.specs.Prelude.{◌≡◌, ◌≢◌, ◌↔◌, ◌⊎◌, ◌+◌, ◌*◌, ◌<◌, ◌≤◌, ◌^◌, ℕ, List, None, Option, Some, false, length, slice_index, true};
@@ -39,14 +39,18 @@ pub fn resources_have_one_path()
         (segments ≡ path_of r) × IsResource r }
 {}
 
-/// Each action belongs to one method of one resource, and to no other pair.
+/// Each action is a method of a resource, and no other method or resource has it.
 pub fn actions_have_their_methods()
     ensures served { (action : Action) → action_of (resource_in action) (method_in action) ≡ Some action }
     ensures only { (at : Resource) (method : Method) (action : Action) → action_of at method ≡ Some action →
         (at ≡ resource_in action) × (method ≡ method_in action) }
 {}
 
-/// Limits of an accepted request's fields; a refusal has the code of an error.
+/// An accepted request's fields are within limits; a refusal has an error code.
+///
+/// The query has at most 64 bytes, the payload at most 1,024, and there are at most 4 ETags. ETags
+/// and Block2 occur only in a GET, Observe only in a GET of `/r/N`, and Block1 only in a PUT. No
+/// block has the reserved size. The resource exists and serves the method.
 pub fn requests_are_within()
     ensures accepted { (m : Message) (r : Asked) → verdict m ≡ IsAsked r → IsAskedWithin m r }
     ensures refused { (m : Message) (code : ℕ) → verdict m ≡ IsRefused code → IsErrorCode code }
@@ -60,7 +64,9 @@ pub fn fields_are_the_options()
     ensures { (m : Message) (r : Asked) → verdict m ≡ IsAsked r → IsMadeOf m r }
 {}
 
-/// The codes of the methods (RFC 7252, section 12.1.1); no other code is a method.
+/// Codes 1 to 4 are GET, POST, PUT and DELETE; no other code is a method.
+///
+/// See RFC 7252, section 12.1.1.
 pub fn methods_have_their_codes()
     ensures get { method_of 1 ≡ Some Get }
     ensures post { method_of 2 ≡ Some Post }
@@ -147,9 +153,9 @@ pub fn checks_come_in_order()
 
 /// The verdicts for messages that aren't requests (RFC 7252, sections 4.2 and 4.3).
 ///
-/// A confirmable message with another class or with code 0.00 is rejected by a Reset, and such a
-/// non-confirmable message is ignored. An empty Acknowledgement or Reset is a signal for the
-/// message that it matches. All other Acknowledgements and Resets are ignored.
+/// A confirmable message with code 0.00 or a class above 0 is rejected with a Reset message. A
+/// non-confirmable message with such a code is ignored. An empty Acknowledgement or Reset message
+/// is a signal, and every other Acknowledgement or Reset message is ignored.
 pub fn other_messages_have_their_verdicts()
     ensures rejected { (m : Message) → m.kind ≡ Confirmable → (m.code ≡ 0) ⊎ (32 ≤ m.code) → verdict m ≡ IsReset }
     ensures ignored { (m : Message) → m.kind ≡ NonConfirmable → (m.code ≡ 0) ⊎ (32 ≤ m.code) → verdict m ≡ IsIgnored }
@@ -161,9 +167,9 @@ pub fn other_messages_have_their_verdicts()
 
 /// The value of a block option (RFC 7959, section 2.2).
 ///
-/// It is 16 times the block number, plus 8 if more blocks follow, plus the exponent of the block
-/// size less 4. It is encoded in the least number of bytes, and decoding gives the block again.
-/// Block sizes are 16 to 1,024 bytes.
+/// The value is 16 times the block number, plus 8 if more blocks follow, plus SZX. It is encoded in
+/// the least number of bytes, and decoding it gives the block again. The block size is 16 bytes for
+/// SZX 0, and 1,024 bytes for SZX 6.
 pub fn blocks_have_their_values()
     ensures last { (number szx : ℕ)
         → block_bytes (record { number = number; more = false; szx = szx }) ≡ uint_bytes (16 * number + szx) }

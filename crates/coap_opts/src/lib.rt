@@ -3,8 +3,8 @@
 //! The sources are RFC 7252, sections 5.4 and 5.10; RFC 7641; and RFC 7959.
 //!
 //! [`classify`] returns the request that a message carries, with its fields, or the required
-//! reaction to the message; the first check that fails decides. The served options and methods are
-//! in one table, [`served`]. A [`Reply`] carries any set of the options that the server sends.
+//! reaction to the message; the first check that fails decides. The module [`served`] lists the
+//! served options and methods. A [`Reply`] carries any set of the options that the server sends.
 //!
 //! ```rust
 //! use coap_msg::read;
@@ -25,13 +25,13 @@
 //!
 //! # What is proved
 //!
-//! - Each message is classified by the first check that fails, in order, or as the request with its
-//!   fields. A law states the checks and their codes in literals.
+//! - The first check that fails refuses a request; if none fails, the request is accepted with its
+//!   fields. A law states the checks, their order and their codes in literals.
 //! - Each field of an accepted request is derived from its message's options, within stated limits.
 //!   A refusal has the code of an error. Each message that isn't a request has a stated verdict.
 //! - A response with any set of options is a message, and is written in its one encoding.
-//! - Integers and blocks are decoded and encoded exactly; a block's value is that of its number, M
-//!   and SZX. Each resource has one path.
+//! - Decoding an encoded integer or block gives it again. The value of a block option is computed
+//!   from the block's number, M and SZX. Each resource has one path.
 //! - Each named option has its registered number, the lengths of its value, and the methods that it
 //!   is defined for.
 //!

@@ -41,8 +41,8 @@ pub(crate) fn resource_named(first: &[u8], second: &[u8]) -> Option<Resource>
 
 /// Returns the slot that a segment names.
 ///
-/// The segment is one digit, or two digits whose first isn't 0, and the slot is below 64. Otherwise
-/// returns `None`.
+/// Returns `None` unless the segment is one digit, or two digits whose first isn't 0, and the slot
+/// is below 64.
 fn slot_named(segment: &[u8]) -> Option<u8>
     ensures { result ≡ spec.slot_named segment.now }
 {

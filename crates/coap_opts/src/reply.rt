@@ -22,7 +22,7 @@ pub struct ReplyOptions {
     pub etag: Option<u64>,
     /// The sequence number of a notification.
     ///
-    /// A client expects its lowest 24 bits (RFC 7641, section 3.4).
+    /// A client expects a number of at most 24 bits (RFC 7641, section 3.4).
     pub observe: Option<u32>,
     /// The format of the payload.
     pub content_format: Option<u16>,
@@ -38,7 +38,9 @@ pub const REPLY_OPTIONS: usize = 5 * SHORT_OPTION;
 impl ReplyOptions {
     ghost use Rattle.coap_opts.specs.Replies.{reply_options};
 
-    /// Appends the options that have a value, after a header and a token.
+    /// Appends the options that have a value, in the order of their numbers.
+    ///
+    /// `datagram` has no options yet.
     fn write(&self, datagram: &mut Datagram)
         requires { array_vec_len datagram.old + REPLY_OPTIONS ≤ DATAGRAM }
         ensures bytes { datagram.new.items ≡ datagram.old.items ++ options_bytes 0 (reply_options self.now) }
@@ -59,7 +61,7 @@ impl ReplyOptions {
 pub struct Reply<'a> {
     /// The type.
     pub kind: MessageType,
-    /// The code.
+    /// The code, which isn't 0.00.
     pub code: Code,
     /// The message ID.
     pub id: u16,

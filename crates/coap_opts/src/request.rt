@@ -23,7 +23,7 @@ pub enum Resource {
     Core,
 }
 
-/// An action of the server: a method on a resource that serves it.
+/// An action of the server: a method on a resource that serves this method.
 #[derive(Clone, Copy, PartialEq, Eq)]
 pub enum Action {
     /// GET of `/r/N`: run slot N's program.
@@ -73,7 +73,9 @@ pub struct Request<'a> {
 }
 
 impl<'a> Request<'a> {
-    /// Makes an empty request, for [`classify_over`](crate::classify_over).
+    /// Makes an empty request.
+    ///
+    /// [`classify_over`](crate::classify_over) writes an accepted request over it.
     pub fn blank() -> Request<'a> {
         Request {
             action: Action::Discover,
@@ -93,7 +95,7 @@ impl<'a> Request<'a> {
 pub enum Asking<R> {
     /// Serve the request.
     Serve(R),
-    /// Refuse it with this code.
+    /// Refuse the request with this code.
     ///
     /// The response's type, message ID and token follow from the request.
     Refuse(Code),
@@ -104,18 +106,18 @@ pub enum Asking<R> {
     Silent,
 }
 
-/// The class of a message: a request, or another reaction.
+/// The class of a message: a request, or a message that requires another reaction.
 #[derive(Drop)]
 pub enum Classified<R> {
     /// A request, and the action for it.
     Request(Asking<R>),
     /// A confirmable message to reject with a Reset that has its message ID.
     ///
-    /// It is empty, or it isn't a request (RFC 7252, sections 4.2 and 4.3).
+    /// The message is empty, or has another code than a request (RFC 7252, sections 4.2 and 4.3).
     Reset,
     /// An empty Acknowledgement, or an empty Reset if `reset` is true.
     ///
-    /// It belongs to a message that was sent with the same message ID.
+    /// The signal is about a message that was sent with the same message ID.
     Signal { reset: bool },
     /// A message to ignore silently.
     Ignored,

@@ -9,7 +9,7 @@ pub type UintBytes = ShortValue;
 
 /// Decodes an integer of at most 8 bytes in network order.
 ///
-/// It may have leading zeros.
+/// `bytes` may begin with zeros.
 pub fn decode_uint(bytes: &[u8]) -> u64
     requires { length bytes.now ≤ 8 }
     ensures number { result ≡ uint_value bytes.now }
@@ -22,7 +22,7 @@ pub fn decode_uint(bytes: &[u8]) -> u64
     number
 }
 
-/// Encodes a number in network order without leading zeros; 0 has no bytes.
+/// Encodes a number in network order without leading zeros; 0 as no bytes.
 #[tactic(auto, unfolding(crate::specs::Values::uint_bytes))]
 pub fn encode_uint(number: u64) -> UintBytes
     ensures { result.items ≡ uint_bytes number }
@@ -33,7 +33,7 @@ pub fn encode_uint(number: u64) -> UintBytes
     encoded
 }
 
-/// Returns the bytes from the first that isn't 0 on; none if all are 0.
+/// Returns `bytes` without the zeros at their start; empty if all are 0.
 fn without_leading_zeros(bytes: &[u8]) -> &[u8]
     ensures stripped { result.now ≡ without_zeros bytes.now }
     ensures short { length result.now ≤ length bytes.now }

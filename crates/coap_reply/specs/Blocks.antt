@@ -15,11 +15,12 @@ asked_place p = record p { szx = min p.szx 6 }
 abbrev pub cut_for : Option Place → List ℕ → Option Part
 cut_for asked body = cut_of body (option_map asked_place asked)
 
--- the options that name a block.
+-- the Block2 option of a block's place; no option without a place.
 abbrev pub block2 : Option Place → List (ℕ × List ℕ)
 block2 None = []
 block2 (Some place) = (option.BLOCK2, block_bytes place) ∷ []
 
+-- the Block1 option of a block's place; no option without a place.
 abbrev pub block1 : Option Place → List (ℕ × List ℕ)
 block1 None = []
 block1 (Some place) = (option.BLOCK1, block_bytes place) ∷ []

@@ -18,14 +18,16 @@ pub record Response : Type 0 where
   pub options : List (ℕ × List ℕ)
   pub payload : List ℕ
 
+-- a response with a payload and without options.
 abbrev pub text : ℕ → List ℕ → Response
 text answer payload = record { code = answer; options = []; payload = payload }
 
+-- a response without options and payload.
 abbrev pub bare : ℕ → Response
 bare answer = text answer []
 
--- the response to a block that is answered immediately: a code, and the Block1 option of the block,
--- if one is given.
+-- the response to a block that is answered immediately: a code, and the block's Block1 option if a
+-- place is given.
 abbrev pub settled_by : ℕ → Option Place → Response
 settled_by answer place = record { code = answer; options = block1 place; payload = [] }
 
@@ -46,9 +48,9 @@ abbrev pub content : List (ℕ × List ℕ) → Option Part → Response
 content options None = bare (code 4 0)
 content options (Some part) = record { code = code 2 5; options = options ++ block2 part.place; payload = part.bytes }
 
--- the response to a run, by its code: a 2.05 (Content) has the revision counter that the run found
--- as its ETag, and also as its sequence number if the client observes the slot; a 2.04 (Changed)
--- carries the bytes alone, and an error carries nothing.
+-- the response to a run, by the run's code. A 2.05 (Content) has the revision counter that the run
+-- found as its ETag. If the client observes the slot, the 2.05 also has the sequence number. A 2.04
+-- (Changed) carries the bytes alone, and an error carries nothing.
 abbrev pub ran_response : ℕ → Option Part → ℕ → Bool → Response
 ran_response answer cut serial observed =
     if answer == code 2 5 then content (etag serial ++ observe_option observed serial) cut else (if answer == code 2 4 then text answer (part_bytes cut) else bare answer)
@@ -66,6 +68,7 @@ abbrev pub reply_kind : Bool → MessageType
 reply_kind true = Acknowledgement
 reply_kind false = NonConfirmable
 
+-- the emission of a response, with the header fields and the receiver of its envelope.
 unfoldable pub sent_in : Envelope → Response → Emission
 sent_in e r = record {
   to = e.to;

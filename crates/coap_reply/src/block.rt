@@ -10,15 +10,15 @@ use std::marker::Model;
 /// Maximum length of a block, in bytes (RFC 7959, section 2.2).
 pub const BLOCK: usize = 1024;
 
-/// The SZX value of the greatest block size: its exponent less 4.
+/// The SZX value of the greatest block size, 1,024 bytes.
 const GREATEST: u8 = 6;
 
 /// The part of a response body that one message carries, borrowed from the body.
 #[derive(Drop)]
 pub struct BodyBlock<'a> {
-    /// Its bytes, at most 1,024.
+    /// The bytes of the part, at most 1,024.
     pub bytes: &'a [u8],
-    /// Its place, unless it is the whole body and no block was requested.
+    /// The part's place; `None` if it is the whole body and no block was requested.
     pub block: Option<Block>,
 }
 
@@ -36,9 +36,9 @@ impl<'a> Model for BodyBlock<'a> {
 impl<'a> BodyBlock<'a> {
     /// Returns the requested block of a body.
     ///
-    /// If no block is requested, the result is the body, or the first block of a body above 1,024
-    /// bytes. Returns `None` if the block isn't the first and begins at or past the end. The
-    /// reserved size counts as the greatest.
+    /// If `asked` is `None`, returns the whole body, or the first 1,024 bytes of a longer body.
+    /// Returns `None` if the requested block isn't the first and begins at or past the body's end.
+    /// A requested block of the reserved size counts as one of 1,024 bytes.
     pub fn cut(body: &'a [u8], asked: Option<Block>) -> Option<BodyBlock<'a>>
         ensures { result ≡ cut_for asked body.now }
     {

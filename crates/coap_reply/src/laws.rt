@@ -1,4 +1,4 @@
-//! Laws about the definitions, for the crates above.
+//! Laws about the definitions, for the crates that use this one.
 //!
 //! Each law is the contract of an empty function.
 ghost use Rattle.std.specs.Prelude.{◌≡◌, ◌≢◌, ◌<◌, ◌≤◌, ◌^◌, ◌%◌, ◌∷◌, ◌++◌, [], ℕ, Bool, false, true, List, None, Ok, Option, Some, length};
@@ -12,7 +12,7 @@ ghost use Rattle.coap_reply.specs.Responses.{Envelope, Response, content, etag, 
 
 use coap_msg::laws::written_is_read;
 
-/// A response goes to its envelope's endpoint, and is parsed as written.
+/// A response is sent to its envelope's endpoint, and is parsed as it was written.
 ///
 /// The parsed message has the envelope's type, message ID and token, and the response's code,
 /// options and payload (RFC 7252, section 3).
@@ -53,8 +53,8 @@ pub fn blocks_have_their_options()
 ///   observes the slot, the counter's lowest 24 bits are the sequence number. The payload is the
 ///   requested block, with its Block2. If there is no such block, the response is 4.00 (Bad
 ///   Request), 128, without options and payload.
-/// - 2.04 (Changed), 68: the bytes without options.
-/// - Any other code: no options and no payload.
+/// - 2.04 (Changed), 68: the payload is the requested block, and there are no options.
+/// - Any other code: there are no options and no payload.
 pub fn runs_have_their_responses()
     ensures content { (part : Part) (serial : ℕ) → ran_response 69 (Some part) serial false
         ≡ record { code = 69; options = (4, to_be_bytes w64 serial) ∷ block2 part.place; payload = part.bytes } }
@@ -70,9 +70,9 @@ pub fn runs_have_their_responses()
 
 /// The responses to jobs other than runs, and to blocks of a request's body.
 ///
-/// A 2.05 (Content), 69, has the given options, followed by the Block2 of the requested block. A
-/// text has no options. A block that is answered immediately gets a code with that block's Block1,
-/// and no payload (RFC 7959, section 2.3).
+/// A 2.05 (Content), 69, has the given options, followed by a Block2 if the block has a place. A
+/// text has no options. A block that is answered immediately gets a code without a payload, and
+/// with the Block1 that is given, if any (RFC 7959, section 2.3).
 pub fn others_have_their_responses()
     ensures content { (part : Part) (options : List (ℕ × List ℕ)) → part.place ≡ None → content options (Some part)
         ≡ record { code = 69; options = options; payload = part.bytes } }

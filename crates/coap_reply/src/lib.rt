@@ -28,11 +28,11 @@
 //!   of its envelope.
 //! - A 2.05 (Content) carries the requested block with its Block2. If there is no such block, the
 //!   response is a 4.00.
-//! - In the response to a run, a 2.05 has the revision counter as its ETag, and the counter's
-//!   lowest 24 bits as Observe if the slot is observed. A 2.04 carries the bytes alone, and an
-//!   error carries nothing.
-//! - A block that is cut is the one that is requested of a body.
-//! - Each response is stated with the numbers of its options, and parsing a written response gives
+//! - A 2.05 in response to a run has the revision counter as its ETag. If the client observes the
+//!   slot, the 2.05 also has Observe, with the counter's lowest 24 bits. A 2.04 carries the bytes
+//!   alone, and an error carries nothing.
+//! - `BodyBlock::cut` returns the requested block of a body.
+//! - Laws state each response with its option numbers in literals. Parsing a written response gives
 //!   that response.
 //!
 //! By the contracts of `respond`, `text`, `content`, `ran`, `reset`, `reply_kind`,

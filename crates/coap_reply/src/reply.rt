@@ -89,10 +89,10 @@ pub fn text(envelope: &Envelope<'_>, code: Code, payload: &[u8], bytes: &mut Dat
     respond(envelope, code, ReplyOptions::default(), payload, bytes);
 }
 
-/// Replaces `bytes` with a 2.05 (Content) with the requested block.
+/// Replaces `bytes` with a 2.05 (Content) that has the requested block.
 ///
 /// The response has `options`, which name no block, and the Block2 option of the block (RFC 7959,
-/// section 2.4). If there is no such block, the response is a 4.00.
+/// section 2.4). If `block` is `None`, the response is a 4.00 without options and payload.
 pub fn content(
     envelope: &Envelope<'_>,
     options: ReplyOptions,
@@ -161,8 +161,8 @@ pub fn reset(to: Endpoint, id: u16, emission: &mut Emission)
 // Number of sequence numbers (RFC 7641, section 4.4).
 const SEQUENCE_NUMBERS: u64 = 0x0100_0000;
 
-// Returns the options of a 2.05: the ETag of a revision counter, and its sequence number if the
-// client observes the slot.
+// Returns the options of a 2.05: the ETag of a revision counter. If the client observes the slot,
+// also the sequence number, which is the counter's lowest 24 bits.
 fn version(serial: u64, observed: bool) -> ReplyOptions
     ensures options { reply_options result ≡ etag serial ++ observe_option observed serial }
     ensures blocks { HasNoBlock result }

@@ -11,8 +11,8 @@ is_computation (SignExtend extension dst src) = true
 is_computation (End order width dst) = true
 is_computation other = false
 
--- the value of the destination after an arithmetic instruction, from its value a and the operand or
--- source b.
+-- the value of the destination after an arithmetic instruction: a is the destination's value
+-- before, and b the value of the operand or source.
 unfoldable pub alu : Insn → ℕ → ℕ → ℕ
 alu (Alu op width dst operand) a b = computed_at op width a b
 alu (Neg width dst) a b = negated width a

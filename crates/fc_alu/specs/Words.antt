@@ -15,7 +15,7 @@ low_bits w n = n % 2 ^ w
 abbrev pub signed : ℕ → ℕ → ℤ
 signed w n = if nat_lt n (2 ^ (w - 1)) then pos n else (pos n -ℤ pos (2 ^ w))
 
--- the w bits of a whole number: its non-negative remainder modulo 2 ^ w.
+-- a whole number in w bits: its non-negative remainder modulo 2 ^ w.
 abbrev pub unsigned : ℕ → ℤ → ℕ
 unsigned w (pos n) = n % 2 ^ w
 unsigned w (negsuc n) = 2 ^ w - 1 - n % 2 ^ w

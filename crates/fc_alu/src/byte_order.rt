@@ -5,10 +5,10 @@ ghost use Rattle.fc_alu.specs.Arithmetic.{ordered};
 use crate::operation::low_half;
 use fc_isa::{ByteOrder, SwapWidth};
 
-/// Returns the low 16, 32 or 64 bits in the byte order.
+/// Returns the low 16, 32 or 64 bits of `dst` in the byte order `order`.
 ///
-/// The higher bits are zero (RFC 9669, section 4.2, END). Registers are little-endian, so a change
-/// to little-endian keeps the bits.
+/// All higher bits are zero (RFC 9669, section 4.2, END). Registers are little-endian, so a change
+/// to little-endian keeps the order of the bytes.
 #[tactic(auto, unfolding(crate::specs::Arithmetic::ordered))]
 #[inline(always)]
 pub fn reorder(order: ByteOrder, width: SwapWidth, dst: u64) -> u64

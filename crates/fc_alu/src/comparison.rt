@@ -7,8 +7,8 @@ use fc_isa::{Jump, Relation, Width};
 
 /// Returns whether a conditional jump is taken (RFC 9669, section 4.3).
 ///
-/// `left` is the value of the jump's register. `right` is that of its other register, or its
-/// immediate sign-extended to 64 bits.
+/// `left` is the value of the first operand, a register. `right` is the value of the second
+/// operand, a register, or the immediate sign-extended to 64 bits.
 pub fn truth(jump: Jump, left: u64, right: u64) -> bool
     ensures { result ≡ truth jump left right }
 {

@@ -9,8 +9,9 @@ use fc_isa::Insn;
 
 /// Computes an arithmetic instruction (RFC 9669, sections 4.1 and 4.2).
 ///
-/// Returns the new value of its destination register, which had the value `dst`. `operand` is its
-/// source register, or its immediate sign-extended to 64 bits. NEG and END use no operand.
+/// Returns the new value of the destination register, whose old value is `dst`. `operand` is the
+/// value of the source register, or the immediate sign-extended to 64 bits. NEG and END use no
+/// operand.
 #[tactic(auto, unfolding(crate::specs::Instructions::alu))]
 pub fn alu(insn: Insn, dst: u64, operand: u64) -> u64
     requires { is_computation insn ≡ true }

@@ -2,8 +2,8 @@
 //!
 //! Each law is the contract of an empty function.
 //!
-//! The values were worked out from the sentences of the standard, and not from the definitions. A
-//! negative number is written in two's complement: -7 is `2 ^ 64 - 7`, and `2 ^ 32 - 7` in a low
+//! The values follow from the sentences of the standard, and weren't computed from the definitions.
+//! A negative number is written in two's complement: -7 is `2 ^ 64 - 7`, and `2 ^ 32 - 7` in a low
 //! half.
 ghost use Rattle.std.specs.Prelude.{[], ◌+◌, ◌-◌, ◌^◌, ◌∷◌, ◌≡◌, ℕ};
 ghost use Rattle.fc_alu.specs.Arithmetic.{computed_at, negated, ordered, sign_extended};
@@ -53,8 +53,8 @@ pub fn sums_differences_and_products_wrap()
 #[tactic(auto, unfolding(crate::specs::Arithmetic::computed_at, crate::specs::Arithmetic::computed))]
 /// OR, AND and XOR combine the operands bit by bit.
 ///
-/// `dst |= src`, `dst &= src` and `dst ^= src`: 1100 and 1010 give 1110, 1000 and 0110 (RFC 9669,
-/// section 4.1).
+/// They compute `dst |= src`, `dst &= src` and `dst ^= src`. From 1100 and 1010, OR gives 1110, AND
+/// gives 1000, and XOR gives 0110 (RFC 9669, section 4.1).
 pub fn bits_are_combined_one_by_one()
     ensures or { computed_at Or W64 0b1100 0b1010 ≡ 0b1110 }
     ensures or_high { computed_at Or W64 (2 ^ 63) 1 ≡ 2 ^ 63 + 1 }
@@ -111,7 +111,7 @@ pub fn unsigned_divisions_round_down()
 #[tactic(auto, unfolding(crate::specs::Arithmetic::computed_at, crate::specs::Arithmetic::computed))]
 /// SDIV and SMOD read their operands as signed numbers and truncate toward zero.
 ///
-/// -13 divided by 3 is -4, and "-13 % 3 == -1". At 32 bits they use the low halves (RFC 9669,
+/// -13 divided by 3 is -4, with the remainder -1. At 32 bits they use the low halves (RFC 9669,
 /// section 4.1).
 pub fn signed_divisions_truncate()
     ensures sdiv { computed_at Sdiv W64 13 3 ≡ 4 }
@@ -135,8 +135,8 @@ pub fn signed_divisions_truncate()
 #[tactic(auto, unfolding(crate::specs::Arithmetic::computed_at, crate::specs::Arithmetic::computed))]
 /// A division by zero gives 0, and a modulo by zero keeps the destination.
 ///
-/// After a modulo "the upper 32 bits of the destination register are zeroed" at 32 bits (RFC 9669,
-/// section 4.1). At that width the divisor is zero if its low half is.
+/// At 32 bits the divisor is zero if its low half is zero. A modulo at 32 bits then leaves a zero
+/// upper half: "the upper 32 bits of the destination register are zeroed" (RFC 9669, section 4.1).
 pub fn divisions_by_zero_have_values()
     ensures div { computed_at Div W64 0x5_0000_0007 0 ≡ 0 }
     ensures div_halves { computed_at Div W32 0x5_0000_0007 0x6_0000_0000 ≡ 0 }
@@ -195,7 +195,7 @@ pub fn shift_counts_are_masked()
 #[tactic(auto, unfolding(crate::specs::Arithmetic::computed_at, crate::specs::Arithmetic::computed))]
 /// ARSH shifts to the right and keeps the sign.
 ///
-/// Copies of the highest bit are shifted in: of bit 63, or of bit 31 at 32 bits. -7 shifted by one
+/// The bits that are shifted in are copies of bit 63, or of bit 31 at 32 bits. -7 shifted by one
 /// bit is -4. The count is masked as in RSH (RFC 9669, section 4.1).
 pub fn arithmetic_shifts_keep_the_sign()
     ensures arsh { computed_at Arsh W64 0x8_0000_001f 4 ≡ 0x8000_0001 }
@@ -241,8 +241,8 @@ pub fn sign_extensions_copy_the_highest_bit()
 #[tactic(auto, unfolding(crate::specs::Arithmetic::ordered))]
 /// `le` keeps the order of the low bytes, and `be` and `bswap` reverse it.
 ///
-/// The host is little endian. The low 16, 32 or 64 bits count, and all higher bits of the result
-/// are zero (RFC 9669, sections 2.2 and 4.2).
+/// The host is little-endian. The swaps read only the low 16, 32 or 64 bits, and all higher bits of
+/// the result are zero (RFC 9669, sections 2.2 and 4.2).
 pub fn byte_swaps_reverse_the_low_bytes()
     ensures le16 { ordered Little S16 0x8899_aabb_ccdd_eeff ≡ 0xeeff }
     ensures le32 { ordered Little S32 0x8899_aabb_ccdd_eeff ≡ 0xccdd_eeff }
@@ -258,9 +258,10 @@ pub fn byte_swaps_reverse_the_low_bytes()
 #[tactic(auto, unfolding(crate::specs::Comparison::compared, crate::specs::Comparison::holds))]
 /// Conditional jumps of class JMP compare all 64 bits of two registers.
 ///
-/// Each clause lists the relations of two numbers: exactly these jumps are taken. JEQ and JNE
-/// compare for equality, and JSET tests for a common bit, `dst & src`. JGT, JGE, JLT and JLE read
-/// unsigned numbers, and JSGT, JSGE, JSLT and JSLE signed ones (RFC 9669, section 4.3).
+/// Each clause lists all relations that hold for two numbers: a jump is taken exactly if its
+/// relation is listed. JEQ and JNE compare for equality, and JSET tests for a common bit,
+/// `dst & src`. JGT, JGE, JLT and JLE read unsigned numbers, and JSGT, JSGE, JSLT and JSLE signed
+/// ones (RFC 9669, section 4.3).
 pub fn comparisons_hold_at_these_numbers()
     ensures above { relations_of W64 7 5 ≡ Gt ∷ Ge ∷ Set ∷ Ne ∷ Sgt ∷ Sge ∷ [] }
     ensures below { relations_of W64 2 5 ≡ Ne ∷ Lt ∷ Le ∷ Slt ∷ Sle ∷ [] }
@@ -281,7 +282,7 @@ pub fn comparisons_hold_at_these_numbers()
 #[tactic(auto, unfolding(crate::specs::Comparison::compared, crate::specs::Comparison::holds))]
 /// Conditional jumps of class JMP32 compare the low halves of two registers.
 ///
-/// The upper halves don't count, and bit 31 is the sign (RFC 9669, section 4.3).
+/// The upper halves are ignored, and bit 31 is the sign (RFC 9669, section 4.3).
 pub fn comparisons_of_halves_hold_at_these_numbers()
     ensures above { relations_of W32 0x1_0000_0007 0x2_0000_0005 ≡ Gt ∷ Ge ∷ Set ∷ Ne ∷ Sgt ∷ Sge ∷ [] }
     ensures below { relations_of W32 0x2_0000_0002 0x1_0000_0005 ≡ Ne ∷ Lt ∷ Le ∷ Slt ∷ Sle ∷ [] }
@@ -300,8 +301,9 @@ pub fn comparisons_of_halves_hold_at_these_numbers()
 #[tactic(auto, unfolding(crate::specs::Instructions::alu))]
 /// The destination is the left operand, and the source is the right one.
 ///
-/// This is so in `dst -= src`, and in `dst > src` of a jump. NEG and the byte swaps read only the
-/// destination, and MOVSX reads only the source (RFC 9669, sections 4.1 to 4.3).
+/// For example, the destination is on the left in `dst -= src`, and in the jump condition
+/// `dst > src`. NEG and the byte swaps read only the destination, and MOVSX reads only the source
+/// (RFC 9669, sections 4.1 to 4.3).
 pub fn operands_have_their_places()
     ensures operation { (op : AluOp) (width : Width) (r dst src : ℕ) (operand : Operand)
         → alu (Alu op width r operand) dst src ≡ computed_at op width dst src }

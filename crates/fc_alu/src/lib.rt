@@ -1,8 +1,8 @@
 //! Arithmetic and comparisons on 64-bit registers (RFC 9669, sections 4.1 to 4.3).
 //!
-//! `alu` computes an arithmetic instruction, and `truth` the comparison of a conditional jump. The
-//! interpreter's loop calls the functions that these two use; their operation and width are
-//! constants at each call.
+//! `alu` computes an arithmetic instruction, and `truth` evaluates the condition of a conditional
+//! jump. The interpreter's loop calls the functions that `alu` and `truth` use. At each such call
+//! the operation and the width are constants.
 //!
 //! ```rust
 //! use fc_alu::arithmetic;
@@ -16,11 +16,11 @@
 //!
 //! # What is proved
 //!
-//! - Each arithmetic operation and each comparison, at 32 and at 64 bits, gives the value that
-//!   whole numbers, powers of two and remainders define.
-//! - For every operation and comparison, at both widths and at the ends of its range, `laws` has
-//!   values in literals. They were worked out from the standard's sentences, and not from the
-//!   definitions.
+//! - Each arithmetic operation and each comparison, at 32 and at 64 bits, gives the value of its
+//!   definition. The definitions use whole numbers, powers of two and remainders.
+//! - `laws` has values in literals for every operation and comparison, at both widths and at the
+//!   ends of each range. The values follow from the standard's sentences, and weren't computed from
+//!   the definitions.
 //!
 //! By the contracts of `alu`, `truth`, `laws`.
 #![tactic(auto)]

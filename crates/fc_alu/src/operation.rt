@@ -4,9 +4,9 @@ ghost use Rattle.fc_alu.specs.Arithmetic.{computed, computed_at, negated};
 
 use fc_isa::{AluOp, Width};
 
-/// Computes an operation on whole registers or their low halves.
+/// Computes an operation on two whole registers, or on their low halves.
 ///
-/// An operation on low halves sets the upper half to zero (RFC 9669, section 4.1).
+/// An operation on low halves sets the upper half of the result to zero (RFC 9669, section 4.1).
 #[tactic(auto, unfolding(crate::specs::Arithmetic::computed_at))]
 #[inline(always)]
 pub fn arithmetic(op: AluOp, width: Width, dst: u64, operand: u64) -> u64
@@ -78,9 +78,9 @@ fn compute64(op: AluOp, a: u64, b: u64) -> u64
     }
 }
 
-/// Returns the signed quotient, truncated toward zero; 0 if `b` is 0.
+/// Returns the signed quotient, truncated toward zero, or 0 if `b` is 0.
 ///
-/// The least number divided by -1 is itself.
+/// The least signed number divided by -1 is itself.
 #[tactic(auto, unfolding(crate::specs::Arithmetic::computed))]
 fn sdiv32(a: u32, b: u32) -> u32
     ensures { result ≡ computed 32 AluOp.Sdiv a b }
@@ -93,9 +93,9 @@ fn sdiv32(a: u32, b: u32) -> u32
         .cast_unsigned()
 }
 
-/// Returns the remainder of the signed quotient; `a` if `b` is 0.
+/// Returns the remainder of the signed division, or `a` if `b` is 0.
 ///
-/// It has the dividend's sign.
+/// The remainder has the dividend's sign, or is 0.
 #[tactic(auto, unfolding(crate::specs::Arithmetic::computed))]
 fn smod32(a: u32, b: u32) -> u32
     ensures { result ≡ computed 32 AluOp.Smod a b }
@@ -108,9 +108,9 @@ fn smod32(a: u32, b: u32) -> u32
         .cast_unsigned()
 }
 
-/// Returns the signed quotient, truncated toward zero; 0 if `b` is 0.
+/// Returns the signed quotient, truncated toward zero, or 0 if `b` is 0.
 ///
-/// The least number divided by -1 is itself.
+/// The least signed number divided by -1 is itself.
 #[tactic(auto, unfolding(crate::specs::Arithmetic::computed))]
 fn sdiv64(a: u64, b: u64) -> u64
     ensures { result ≡ computed 64 AluOp.Sdiv a b }
@@ -123,9 +123,9 @@ fn sdiv64(a: u64, b: u64) -> u64
         .cast_unsigned()
 }
 
-/// Returns the remainder of the signed quotient; `a` if `b` is 0.
+/// Returns the remainder of the signed division, or `a` if `b` is 0.
 ///
-/// It has the dividend's sign.
+/// The remainder has the dividend's sign, or is 0.
 #[tactic(auto, unfolding(crate::specs::Arithmetic::computed))]
 fn smod64(a: u64, b: u64) -> u64
     ensures { result ≡ computed 64 AluOp.Smod a b }
@@ -138,9 +138,9 @@ fn smod64(a: u64, b: u64) -> u64
         .cast_unsigned()
 }
 
-/// Negates a whole register, or its low half with a zero upper half.
+/// Negates a whole register, or its low half.
 ///
-/// See RFC 9669, section 4.1.
+/// The negation of a low half has zeros in the upper half (RFC 9669, section 4.1).
 #[tactic(auto, unfolding(crate::specs::Arithmetic::negated))]
 #[inline(always)]
 pub fn neg(width: Width, dst: u64) -> u64

@@ -7,7 +7,7 @@ use fc_isa::{SignExtension, Width};
 
 /// Sign-extends the low 8, 16 or 32 bits to 32 or 64 bits.
 ///
-/// The rest is zero (RFC 9669, section 4.1, MOVSX).
+/// In an extension to 32 bits, the upper half of the result is zero (RFC 9669, section 4.1, MOVSX).
 #[tactic(auto, unfolding(crate::specs::Arithmetic::sign_extended))]
 #[inline(always)]
 pub fn sign_extend(extension: SignExtension, src: u64) -> u64

@@ -41,7 +41,8 @@ extension_means (Byte w) = let m = imm_means (pos 8) (record { sfits = lit< tt }
 extension_means (HalfWord w) = let m = imm_means (pos 16) (record { sfits = lit< tt }) in (ap (λ r. if_ok r (extended w)) m.0, m.1)
 extension_means Word = let m = imm_means (pos 32) (record { sfits = lit< tt }) in (ap (λ r. if_ok r (extended (extended_width Word))) m.0, m.1)
 
--- the mnemonic, and its operands as words
+-- the line of i has the mnemonic m and i's operands, each operand is a word, and parsing them gives
+-- i
 pub record IsSpelled (i : Insn) (m : Mnemonic) : Type 0 where
   line_is : line_of i ≡ line m (operands_of i)
   means : insn_from m (operands_of i) ≡ Ok i
@@ -192,7 +193,7 @@ unfolding line_meaning
 body_means i m s =
     ap meaning (words_body m (operands_of i) s.words) ∙ ap (λ o. named o (operands_of i)) (named_name m).0 ∙ ap (map_ok (λ j. Some j)) s.means
 
--- the first line is cut off
+-- the lines of a listing are its first line, without the line feed, and the lines of the rest
 first_line : (i : Insn) (m : Mnemonic) (rest : Text) → IsSpelled i m → lines_of (line_of i ++ rest) ≡ body m (operands_of i) ∷ lines_of rest
 unfolding lines_of
 first_line i m rest s =

@@ -15,7 +15,7 @@ use Rattle.fc_asm.specs.Operands.{Reading}
 use Rattle.fc_asm.specs.Syntax.{words_of, meaning, line_meaning}
 use Rattle.fc_asm.specs.Assembled.{second_slot, slots_in, line_slots, mistake_in, IsFirstMistake, IsAsmError, IsLineError}
 
--- the meaning of a line is the parse of its words
+-- the meaning of a line is the result of parsing its words
 pub line_means : (line : Text) (ws vs : List (Bor (List ℕ))) (r : Reading (Option Insn)) → map (λ w. w.now) ws ≡ words_of line → vs ≡ ws → r ≡ meaning (map (λ w. w.now) vs) → line_meaning line ≡ r
 unfolding line_meaning
 line_means line ws vs r w v e = ap meaning (sym w) ∙ ap (λ (x : List (Bor (List ℕ))). meaning (map (λ y. y.now) x)) (sym v) ∙ sym e
@@ -50,17 +50,17 @@ no_mistake lines n line mistake turn h all =
     cc
 
 module _ (lines : List Text) (n m : ℕ) (line : Text) (turn : (n < length lines) × (line ≡ get_or lines n line)) where
-  -- the error of a line, if no line before it has a mistake
+  -- if no line before a line has a mistake, the error of that line is the error of the text
   pub first_error : (error : AsmError) → m ≡ n + 1 → IsLineError line m error → All (λ l. mistake_in (line_meaning l) ≡ None) (take n lines) → IsAsmError lines error
   first_error (Faulty mistake number) e h faultless = first_mistake lines n number line turn (h.1 ∙ e) mistake h.0 faultless
   first_error NoMemory e h faultless = tt
 
-  -- no line has a mistake
+  -- if no line has a mistake, an error is a lack of memory
   pub no_error : (error : AsmError) → IsLineError line m error → All (λ l. mistake_in (line_meaning l) ≡ None) lines → error ≡ NoMemory
   no_error (Faulty mistake number) h all = absurd (no_mistake lines n line mistake turn h.0 all)
   no_error NoMemory h all = refl
 
--- the slots of a line: none, one or two
+-- the slots of a line are none for a blank line, one for an instruction, and two for a wide load
 pub no_slots : (line : Text) (q q' : List Insn) → line_meaning line ≡ Ok None → q' ≡ q → q' ≡ q ++ line_slots line
 no_slots line q q' h e = e ∙ sym (append-nil q) ∙ ap (λ r. q ++ slots_in r) (sym h)
 

@@ -1,5 +1,5 @@
--- A line of the disassembly, assembled: its words are the name and the operands, and these mean the
--- instruction.
+-- The assembly of a line of a disassembly: the line's words are the name and the operands, which
+-- mean the instruction.
 use Rattle.std.proofs.Common.{◌≡◌, ℕ, ◌<◌, Bool, true, false, not, ◌&&◌, List, [], ◌∷◌, ◌++◌, filter, length, refl, sym, ap, ◌∙◌, arith, append_assoc, append-nil}
 use Rattle.std.specs.Prelude.{◌==◌, nat_lt, codes}
 use Rattle.std.specs.List.{slice_split, flat_map, list_all, onto_first}
@@ -11,11 +11,11 @@ use Rattle.fc_asm.specs.Syntax.{split_commas, split_words}
 unfoldable pub is_plain : ℕ → Bool
 is_plain b = not (b == 10) && (not (b == 32) && (not (b == 44) && not (b == 59)))
 
--- a word: not empty, and only such bytes
+-- a word isn't empty, and has only such bytes
 unfoldable pub is_word : Text → Bool
 is_word w = nat_lt 0 (length w) && list_all is_plain w
 
--- a list split at a byte that its first part doesn't have
+-- a list is split at the first byte that passes p: the bytes before that byte are the first piece
 pub split_at : (p : ℕ → Bool) (w : Text) (y : ℕ) (rest : Text) → list_all (λ b. not (p b)) w ≡ true → p y ≡ true → slice_split p (w ++ y ∷ rest) ≡ w ∷ slice_split p rest
 split_at p [] y rest h e = cond-true (p y) ([] ∷ slice_split p rest) _ e
 split_at p (b ∷ w) y rest h e =
@@ -28,7 +28,7 @@ split_whole p (b ∷ w) h =
     let t = and_parts _ _ h in
     cond-false (p b) _ (onto_first b (slice_split p w)) (not-true _ t.0) ∙ ap (onto_first b) (split_whole p w t.1)
 
--- a word has no byte that isn't plain
+-- a plain byte isn't equal to a byte that isn't plain
 lacks_at : (c b : ℕ) (r : Bool) → (b == c) ≡ r → is_plain c ≡ false → is_plain b ≡ true → not r ≡ true
 lacks_at c b true e n p = absurd (both_ways (is_plain c) n (ap is_plain (sym (eqb-true b c e)) ∙ p))
 lacks_at c b false e n p = refl
@@ -55,7 +55,7 @@ list_all-append p (x ∷ xs) ys h g = let t = and_parts _ _ h in and_from _ _ t.
 
 -- ---- the words of a line
 
--- one word between spaces, without and with a comma after it
+-- a piece between two spaces is one word, without or with a comma after it
 comma_word : (w : Text) → is_word w ≡ true → split_commas w ≡ w ∷ []
 unfolding is_word
 comma_word w h =
@@ -85,7 +85,7 @@ parts_comma w rest h =
     ∙ ap (flat_map split_commas) (split_at (λ b. b == 32) (w ++ 44 ∷ []) 32 rest (list_all-append (λ b. not (b == 32)) w (44 ∷ []) (no_space w (and_parts _ _ h).1) refl) refl)
     ∙ ap (λ ws. ws ++ split_words rest) (comma_behind w h)
 
--- the operands as a line has them, without its line feed
+-- the text of the operands in a line, without the line feed
 unfoldable pub joined : List Text → Text
 joined [] = []
 joined (a ∷ []) = a

@@ -14,7 +14,7 @@ pub listing_more : (p : List Insn) (i : ℕ) (x : Insn) → i < length p → x �
 unfolding listing
 listing_more p i x h e = ap listing (take_more p i x h ∙ ap (λ y. take i p ++ y ∷ []) (sym e)) ∙ sym (flat_map_more line_of [] (take i p) x)
 
--- the line of an instruction that has one, and of one that has none
+-- an instruction with a mnemonic has a line; an instruction without one has no line
 pub line_shown : (i : Insn) (m : Mnemonic) (operands : List Text) → mnemonic_of i ≡ Some m → operands ≡ operands_of i → line m operands ≡ line_of i
 line_shown i m operands e o = ap (line m) o ∙ ap (λ n. line_if n (operands_of i)) (sym e)
 

@@ -9,7 +9,7 @@ use Rattle.std.proofs.lemmas.Slice.Eq.{bytes_eq-Decides}
 use Rattle.fc_asm.specs.declared.mnemonic.Mnemonic.{Mnemonic}
 use Rattle.fc_asm.specs.Names.{name_of, mnemonics, mnemonic_named}
 
--- the last row with this name, or else the one found before
+-- the mnemonic of the last row with this name, or else `found`
 unfoldable pub latest : List ℕ → Option Mnemonic → List (Bor (List ℕ) × Mnemonic) → Option Mnemonic
 latest word found [] = found
 latest word found (r ∷ rows) = latest word (cond (bytes_eq r.0.now word) (Some r.1) found) rows
@@ -23,14 +23,15 @@ pub latest_none : (word : List ℕ) (rows : List (Bor (List ℕ) × Mnemonic)) �
 unfolding latest
 latest_none word rows = refl
 
--- one row more
+-- with one more row, the mnemonic that is found is that of this row, if it has the name, or else
+-- the one that was found
 pub latest_more : {found : Option Mnemonic} (rows : List (Bor (List ℕ) × Mnemonic)) (i : ℕ) (d : Bor (List ℕ) × Mnemonic) (word : List ℕ) → found ≡ latest word None (take i rows) → i < length rows
     → cond (bytes_eq (get_or rows i d).0.now word) (Some (get_or rows i d).1) found ≡ latest word None (take (i + 1) rows)
 latest_more rows i d word e l =
     ap (λ f. cond (bytes_eq (get_or rows i d).0.now word) (Some (get_or rows i d).1) f) e
     ∙ sym (latest_push word None (take i rows) (get_or rows i d)) ∙ ap (latest word None) (sym (take_more rows i d l))
 
--- the same over mnemonics
+-- the last mnemonic of a list with this name, or else `found`
 abbrev pub last_of : List ℕ → Option Mnemonic → List Mnemonic → Option Mnemonic
 last_of word found [] = found
 last_of word found (m ∷ ms) = last_of word (cond (bytes_eq (name_of m) word) (Some m) found) ms
@@ -73,6 +74,6 @@ pub last_named : (word : List ℕ) → last_of word None mnemonics ≡ mnemonic_
 unfolding mnemonic_named
 last_named word = last_find word None mnemonics all_distinct ∙ option_or_none _
 
--- all rows
+-- after all rows, the mnemonic that was found is the one with this name
 pub latest_all : {found : Option Mnemonic} (rows : List (Bor (List ℕ) × Mnemonic)) (i : ℕ) (word : List ℕ) → found ≡ latest word None (take i rows) → length rows ≤ i → latest word None rows ≡ last_of word None mnemonics → found ≡ mnemonic_named word
 latest_all rows i word e l all = e ∙ ap (latest word None) (take_all i rows l) ∙ all ∙ last_named word

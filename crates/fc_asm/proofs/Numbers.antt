@@ -13,7 +13,7 @@ use lib.IntN.{neg_ℤ}
 use Rattle.fc_asm.specs.declared.error.Mistake.TheVariants.{Operand, OutOfRange}
 use Rattle.fc_asm.specs.Operands.{Reading, if_ok, is_digits, writes_number, within, in_range, natural, number_from, imm_from, offset_from, wide_from}
 
--- digits, as `all` tests them
+-- testing each byte for a digit is testing whether all bytes are digits
 pub list_all-digits : (ds : List ℕ) → list_all is_ascii_digit ds ≡ all_ascii_digits ds
 list_all-digits [] = refl
 list_all-digits (c ∷ cs) = ap (λ b. is_ascii_digit c && b) (list_all-digits cs)
@@ -34,7 +34,7 @@ numeral_at : (bs : List ℕ) (minus : Bool) → is_digits (cond minus (drop 1 bs
 numeral_at bs true h = digits_numeral (drop 1 bs) h
 numeral_at bs false h = subst (λ ds. IsNumeral 10 ds) (sym (without_leading_plus_none bs (first_no_plus bs h))) (digits_numeral bs h)
 
--- a number is a numeral after its sign
+-- without its sign, a word that represents a number is a numeral
 pub number_numeral : (bs : List ℕ) → writes_number bs ≡ true → IsNumeral 10 (without_leading_sign bs)
 number_numeral bs h = numeral_at bs (get_or bs 0 0 == 45) h
 
@@ -61,7 +61,8 @@ in_range_at : (w : Width) (z : ℤ) (b : Bool) → within (hbits w) z ≡ b → 
 in_range_at w z true e h = absurd (h (fits_within w z e))
 in_range_at w z false e h = cond-false _ (Ok z) (Err OutOfRange) e
 
--- the result of `parse` for a number
+-- if `parse` gives a value for a word that represents a number, the value is that number, and is in
+-- the range
 parsed : {E : Type 0} (w : Width) (bs : List ℕ) (r : Result ℤ E) (v : ℤ) → writes_number bs ≡ true → ParsesSigned w 10 bs r → r ≡ Ok v → if_ok (number_from bs) (in_range (hbits w)) ≡ Ok v
 parsed w bs (Ok x) v n h e = number_yes bs (in_range (hbits w)) n ∙ in_range_yes w _ h.0.1 ∙ ap Ok (sym h.1) ∙ cc
 parsed w bs (Err x) v n h e = absurd (cc e)
@@ -102,7 +103,7 @@ pub wide_no : (bs : List ℕ) → writes_number bs ≡ false → wide_from bs �
 unfolding wide_from
 wide_no bs h = number_no bs natural h
 
--- the first byte is a `-`, or none
+-- a `-` before digits negates the number of the digits
 minus_yes : (ds : List ℕ) → signed_digits_value 10 (45 ∷ ds) ≡ neg_ℤ (pos (digits_value 10 ds))
 minus_yes ds = refl
 
@@ -139,7 +140,7 @@ plain_unparsed : {E : Type 0} (bs : List ℕ) (r : Result ℕ E) (x : E) → wri
 plain_unparsed bs (Ok y) x n m h e = absurd (cc e)
 plain_unparsed bs (Err y) x n m h e = wide_plain bs n m ∙ natural_no _ (cases_lt _ (2 ^ 64)) (λ l. h (plain_numeral bs n m, l))
 
--- after a `-`
+-- after a `-`, a word that represents a number has only digits
 minus_digits : (ds : List ℕ) → writes_number (45 ∷ ds) ≡ true → is_digits ds ≡ true
 minus_digits ds h = h
 

@@ -11,7 +11,7 @@ use Rattle.fc_asm.specs.Operands.{Reading, map_ok, if_ok}
 use Rattle.fc_asm.specs.Syntax.{one_of, two_of, three_of, insn_from, named, meaning, line_meaning, words_of}
 use Rattle.fc_asm.specs.Assembled.{as_slots, slots_in, line_slots}
 
--- the instruction is the first of a line's slots
+-- the instruction may be the first slot of a line: a second half may not
 abbrev leads : Insn → Bool
 leads WideSecond = false
 leads other = true
@@ -69,7 +69,7 @@ line_slots_program : (line : Text) (p : List Insn) → is_program (line_slots li
 unfolding line_meaning
 line_slots_program line p = line_program (line_meaning line) p (meaning_leads (words_of line))
 
--- the meaning of lines is a program
+-- the slots of all lines are a program
 pub lines_program : (lines : List Text) → is_program (flat_map line_slots lines) ≡ true
 lines_program [] = refl
 lines_program (line ∷ lines) = line_slots_program line (flat_map line_slots lines) ∙ lines_program lines

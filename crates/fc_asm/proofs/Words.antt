@@ -44,11 +44,11 @@ passed old words yielded pieces word turn so_far empty =
     ∙ sym (filter_more (λ w. nat_lt 0 (length w)) pieces (length yielded) word.now turn.0)
     ∙ ap (λ n. filter (λ w. nat_lt 0 (length w)) (take n pieces)) (sym (length_push yielded word)))
 
--- a list whose end is reached
+-- if all pieces were taken, a function of the pieces taken is one of all pieces
 pub all_taken : {A : Type 0} (f : List (List ℕ) → A) (n : ℕ) (pieces : List (List ℕ)) → n ≡ length pieces → f (take n pieces) ≡ f pieces
 all_taken f n pieces e = ap f (take_all n pieces (omega arith))
 
--- the words of one more part
+-- the words so far, together with those of one more part, are the words of the parts so far
 pub part_more : (f : List ℕ → List (List ℕ)) (words more yielded : List (Bor (List ℕ))) (pieces : List (List ℕ)) (part : Bor (List ℕ))
     → (length yielded < length pieces) × (part.now ≡ get_or pieces (length yielded) part.now)
     → map (λ word. word.now) words ≡ flat_map f (take (length yielded) pieces)

@@ -13,7 +13,7 @@ use Rattle.fc_asm.specs.Operands.{Reading}
 use Rattle.fc_asm.specs.Listing.{listing}
 use Rattle.fc_asm.specs.Syntax.{line_meaning}
 
--- a wide load has two slots.
+-- the second slot of an instruction, which only a wide load has.
 abbrev pub second_slot : Insn → Option Insn
 second_slot (LoadWide dst value) = Some WideSecond
 second_slot other = None
@@ -21,7 +21,7 @@ second_slot other = None
 abbrev pub as_slots : Insn → List Insn
 as_slots i = i ∷ option_to_list (second_slot i)
 
--- the slots of a line's meaning.
+-- the slots of the instruction that a line means; none for a blank line or a mistake.
 abbrev pub slots_in : Reading (Option Insn) → List Insn
 slots_in (Ok (Some i)) = as_slots i
 slots_in other = []
@@ -52,11 +52,11 @@ abbrev pub IsAsmError : List Text → AsmError → Type 0
 IsAsmError lines (Faulty mistake line) = IsFirstMistake lines mistake line
 IsAsmError lines NoMemory = Unit {0}
 
--- the error of the line with this number.
+-- the error is the mistake of this line, with this number, or a lack of memory.
 abbrev pub IsLineError : Text → ℕ → AsmError → Type 0
 IsLineError line number (Faulty mistake at) = (line_meaning line ≡ Err mistake) × (at ≡ number)
 IsLineError line number NoMemory = Unit {0}
 
--- a property of each program with this disassembly.
+-- P holds for each program whose disassembly is this text.
 abbrev pub ForListed : Text → (List Insn → Type 0) → Type 0
 ForListed text P = (program : List Insn) → IsTrue (is_program program) → All IsInsn program → text ≡ listing program → P program

@@ -12,7 +12,7 @@ use Rattle.fc_asm.specs.declared.mnemonic.Mnemonic.{Mnemonic}
 use Rattle.fc_asm.specs.declared.mnemonic.Mnemonic.TheVariants as mnemonic
 use Rattle.fc_asm.specs.Names.{Text, name_of}
 
--- `r0` to `r10`.
+-- the name of a register, `r0` to `r10`.
 abbrev pub register : ℕ → Text
 register r = codes "r" ++ decimal r
 
@@ -20,7 +20,7 @@ abbrev pub operand_text : Operand → Text
 operand_text (Imm k) = signed_decimal k
 operand_text (Reg r) = register r
 
--- the second half of a wide load has no line.
+-- the mnemonic of an instruction. The second half of a wide load has none, and no line.
 abbrev pub mnemonic_of : Insn → Option Mnemonic
 mnemonic_of (Alu op width dst operand) = Some (mnemonic.Alu op width)
 mnemonic_of (Neg width dst) = Some (mnemonic.Neg width)
@@ -56,7 +56,7 @@ operands_of (CallHelper number) = signed_decimal number ∷ []
 operands_of (CallLocal offset) = signed_decimal offset ∷ []
 operands_of Exit = []
 
--- the rest of a line after an operand.
+-- the text of a line after an operand.
 abbrev pub rest_of_line : List Text → Text
 rest_of_line [] = codes "\n"
 rest_of_line (operand ∷ more) = codes ", " ++ (operand ++ rest_of_line more)

@@ -95,13 +95,14 @@ name_of mnemonic.CallHelper = codes "call"
 name_of mnemonic.CallLocal = codes "callf"
 name_of mnemonic.Exit = codes "exit"
 
--- the names of all mnemonics.
+-- the operations of arithmetic instructions with two operands.
 abbrev pub alu_ops : List AluOp
 alu_ops = Add ∷ Sub ∷ Mul ∷ Div ∷ Or ∷ And ∷ Lsh ∷ Rsh ∷ Mod ∷ Xor ∷ Mov ∷ Arsh ∷ Sdiv ∷ Smod ∷ []
 
 abbrev pub swaps : ByteOrder → List Mnemonic
 swaps order = mnemonic.End order S16 ∷ mnemonic.End order S32 ∷ mnemonic.End order S64 ∷ []
 
+-- all mnemonics.
 abbrev pub mnemonics : List Mnemonic
 mnemonics =
     map (λ op. mnemonic.Alu op W64) alu_ops ++ (map (λ op. mnemonic.Alu op W32) alu_ops
@@ -110,6 +111,6 @@ mnemonics =
     ++ (map mnemonic.StoreImm sizes ++ (map mnemonic.Store sizes ++ (mnemonic.JumpAlways ∷ mnemonic.JumpAlwaysLong ∷ [] ++ (map (λ relation. mnemonic.JumpIf relation W64) relations
     ++ (map (λ relation. mnemonic.JumpIf relation W32) relations ++ (mnemonic.CallHelper ∷ mnemonic.CallLocal ∷ mnemonic.Exit ∷ []))))))))))))))
 
--- the mnemonic with this name.
+-- the mnemonic with this name, or `None` if there is none.
 unfoldable pub mnemonic_named : Text → Option Mnemonic
 mnemonic_named word = find (λ mnemonic. bytes_eq (name_of mnemonic) word) mnemonics

@@ -46,22 +46,22 @@ registers = codes "r0" ∷ codes "r1" ∷ codes "r2" ∷ codes "r3" ∷ codes "r
 unfoldable pub register_from : Text → Reading ℕ
 register_from word = ok_or (position (λ name. bytes_eq name word) registers) mistake.Operand
 
--- R10 isn't writable.
+-- the register, if it is writable: R10 isn't.
 abbrev pub written : ℕ → Reading ℕ
 written r = if nat_lt r 10 then Ok r else Err mistake.Operand
 
 abbrev pub target_from : Text → Reading ℕ
 target_from word = if_ok (register_from word) written
 
--- one or more decimal digits.
+-- the text is one or more decimal digits.
 abbrev pub is_digits : Text → Bool
 is_digits digits = nat_lt 0 (length digits) && all_ascii_digits digits
 
--- digits, with or without a leading `-`.
+-- the word is digits, with or without a leading `-`.
 abbrev pub writes_number : Text → Bool
 writes_number word = is_digits (if slice_index word 0 == 45 then drop 1 word else word)
 
--- -2^k to 2^k - 1.
+-- a number is from -2^k to 2^k - 1.
 abbrev pub within : ℕ → ℤ → Bool
 within k (pos n) = nat_lt n (2 ^ k)
 within k (negsuc n) = nat_lt n (2 ^ k)
@@ -69,12 +69,12 @@ within k (negsuc n) = nat_lt n (2 ^ k)
 abbrev pub in_range : ℕ → ℤ → Reading ℤ
 in_range k z = if within k z then Ok z else Err OutOfRange
 
--- 0 to 2^64 - 1.
+-- a number, if it is from 0 to 2^64 - 1.
 abbrev pub natural : ℤ → Reading ℕ
 natural (pos n) = if nat_lt n (2 ^ 64) then Ok n else Err OutOfRange
 natural (negsuc n) = Err OutOfRange
 
--- the number that a word represents, of any length.
+-- the number that a word represents; the word may have any length.
 abbrev pub number_from : Text → Reading ℤ
 number_from word = if writes_number word then Ok (signed_digits_value 10 word) else Err mistake.Operand
 

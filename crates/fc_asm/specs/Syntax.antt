@@ -9,19 +9,19 @@ use Rattle.fc_asm.specs.declared.mnemonic.Mnemonic.TheVariants as mnemonic
 use Rattle.fc_asm.specs.Names.{Text, mnemonic_named}
 use Rattle.fc_asm.specs.Operands.{Reading, map_ok, if_ok, both_of, target_from, register_from, imm_from, offset_from, wide_from, operand_from, extension_from}
 
--- lines end with a line feed.
+-- the lines of a text, which line feeds separate.
 unfoldable pub lines_of : Text → List Text
 lines_of text = slice_split (λ b. b == 10) text
 
--- the part before a `;`.
+-- the part of a line before the first `;`.
 abbrev pub before_comment : Text → Text
 before_comment line = before_first (λ b. b == 59) line
 
--- commas separate words.
+-- the words of a part of a line, which commas separate. An empty text isn't a word.
 abbrev pub split_commas : Text → List Text
 split_commas part = filter (λ word. nat_lt 0 (length word)) (slice_split (λ b. b == 44) part)
 
--- spaces separate words too.
+-- the words of a line without a comment, which spaces and commas separate.
 abbrev pub split_words : Text → List Text
 split_words code = flat_map split_commas (slice_split (λ b. b == 32) code)
 
@@ -29,7 +29,7 @@ split_words code = flat_map split_commas (slice_split (λ b. b == 32) code)
 unfoldable pub words_of : Text → List Text
 words_of line = split_words (before_comment line)
 
--- exactly one operand, two, or three.
+-- the operands of a line, if there is exactly one; if there are two; if there are three.
 abbrev pub one_of : List Text → Reading Text
 one_of (a ∷ []) = Ok a
 one_of other = Err Operand

@@ -45,13 +45,13 @@ fn assemble_lines(alloc: Global, names: &Names, text: &str) -> Result<Vec<Insn>,
     Ok(program)
 }
 
-/// Appends the slots of the line `code`, which has this number.
+/// Appends the slots of the line `code`, whose number is `line`.
 ///
 /// A line without an instruction has no slots.
 ///
 /// # Errors
 /// Returns the line's mistake, or `NoMemory` if memory can't be allocated. The contract then
-/// doesn't say what `program` has.
+/// doesn't say what `program` contains.
 fn assemble_line(
     alloc: Global,
     names: &Names,
@@ -78,7 +78,7 @@ fn assemble_line(
     }
 }
 
-/// Returns an instruction's slots: itself, and a wide load's second half or `None`.
+/// Returns the instruction, and its second half if it is a wide load, else `None`.
 fn slots(insn: Insn) -> (Insn, Option<Insn>)
     ensures first { result.0 ≡ insn }
     ensures second { result.1 ≡ second_slot insn }

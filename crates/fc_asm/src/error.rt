@@ -6,7 +6,7 @@ use std::alloc::{AllocError, AllocFailed};
 use std::error::Error;
 use std::fmt;
 
-/// A mistake in a line. If a line has several, the first of these is reported.
+/// A mistake in a line. If there are several, the first of these is reported.
 #[derive(Clone, Copy, Debug, PartialEq, Eq)]
 pub enum Mistake {
     /// The first word isn't the name of an instruction.
@@ -22,7 +22,7 @@ pub enum Mistake {
 /// A mistake prints as `A1 line 7`.
 #[derive(Clone, Copy, Debug, PartialEq, Eq)]
 pub enum AsmError {
-    /// The first line with a mistake, counted from 1.
+    /// The first mistake, and the number of its line, counted from 1.
     Faulty { mistake: Mistake, line: usize },
     /// Memory for the program can't be allocated.
     NoMemory,
@@ -42,7 +42,7 @@ impl fmt::Display for AsmError {
     }
 }
 
-/// Returns the code that a mistake prints.
+/// Returns the code of a mistake, `A1` to `A3`, that is printed.
 fn code(mistake: Mistake) -> &'static str
     ensures { result.now ≡ mistake_text mistake }
 {

@@ -16,8 +16,8 @@
 //! - A text gives its program, or has a fault: the first faulty line, with its first mistake. The
 //!   order of mistakes is: A1 (the first word isn't the name of an instruction), A2 (operands too
 //!   few, too many or of the wrong sort), A3 (a number out of range).
-//! - A program is disassembled as the definitions say, and assembling the result gives that
-//!   program, for every program.
+//! - The disassembly of a program is as the definitions state. Assembling it gives the program, for
+//!   every program.
 //!
 //! By the contracts of `assemble`, `disassemble`.
 #![tactic(auto)]

@@ -1,6 +1,6 @@
 //! Parsing of a line: from its words to the instruction.
 //!
-//! A function for a sort of instruction returns `Mistake::Operand` if the operands are too few, too
+//! Each function that parses operands returns `Mistake::Operand` if the operands are too few, too
 //! many or of another sort. Otherwise it returns `Mistake::OutOfRange` if a number is out of range.
 ghost use Rattle.std.specs.Prelude.{IfOk, OnOk, map, ◌++◌, ◌≡◌};
 ghost use Rattle.fc_asm.specs.Operands.{if_ok, imm_from, map_ok, offset_from, target_from};
@@ -51,7 +51,7 @@ fn push_words<'a>(words: &mut Vec<&'a str>, part: &'a str) -> Result<(), AllocEr
     Ok(())
 }
 
-/// Parses the instruction in the words of a line; returns `None` if it is blank.
+/// Parses the instruction in the words of a line, or `None` if there is no word.
 ///
 /// # Errors
 /// Returns `UnknownWord` if the first word is no mnemonic. Otherwise returns the mistake of the
@@ -68,7 +68,7 @@ pub fn read(names: &Names, words: &[&str]) -> Result<Option<Insn>, Mistake>
     }
 }
 
-/// Parses the operands of a mnemonic, and returns their instruction.
+/// Parses the operands of a mnemonic, and returns the instruction with them.
 fn insn(mnemonic: Mnemonic, operands: &[&str]) -> Result<Insn, Mistake>
     ensures { result ≡ insn_from mnemonic (map (λ word. word.now) operands.now) }
 {
@@ -225,9 +225,11 @@ fn only_imm(operands: &[&str]) -> Result<i32, Mistake>
     }
 }
 
-/// Parses the only operand as a 16-bit number.
+/// Parses the only operand as a signed 16-bit number.
 ///
-/// Returns the mistake `Operand` if there isn't exactly one operand.
+/// # Errors
+/// Returns the mistake `Operand` if there isn't exactly one operand, or if the operand isn't a
+/// number. Returns the mistake `OutOfRange` if the number doesn't fit.
 fn only_offset(operands: &[&str]) -> Result<i16, Mistake>
     ensures { result ≡ if_ok (one_of (map (λ word. word.now) operands.now)) offset_from }
 {
@@ -237,7 +239,7 @@ fn only_offset(operands: &[&str]) -> Result<i16, Mistake>
     }
 }
 
-/// Returns the two operands, or the mistake `Operand` for any other number of them.
+/// Returns the two operands, or the mistake `Operand` if there aren't two.
 fn two<'a>(operands: &[&'a str]) -> Result<(&'a str, &'a str), Mistake>
     ensures { map_ok (λ p. (p.0.now, p.1.now)) result ≡ two_of (map (λ word. word.now) operands.now) }
 {

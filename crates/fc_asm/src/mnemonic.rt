@@ -7,7 +7,7 @@ use std::fmt;
 
 /// A mnemonic, the first word of a line: an instruction without its operands.
 ///
-/// It prints as that word.
+/// A mnemonic prints as that word.
 #[derive(Clone, Copy)]
 pub enum Mnemonic {
     /// `add64` and similar mnemonics.

@@ -1,7 +1,7 @@
 //! Parsing of operands, each from a word of a line.
 //!
 //! The functions return `Mistake::Operand` for a word of another sort, and `Mistake::OutOfRange`
-//! for a number that the operand can't be.
+//! for a number out of the operand's range.
 ghost use Rattle.std.specs.Prelude.{◌≡◌};
 ghost use Rattle.fc_asm.specs.Operands.{both_of, graver, imm_from, is_digits, writes_number, offset_from, operand_from, register_from, target_from, wide_from, extension_from};
 
@@ -95,7 +95,7 @@ pub fn operand(word: &str) -> Result<Operand, Mistake>
 
 /// Parses the number of bits that a move to `width` sign-extends.
 ///
-/// It is 8 or 16, or 32 if the width is 64. Any other number is out of range.
+/// The number is 8 or 16, or also 32 if `width` is 64 bits. Any other number is out of range.
 pub fn extension(width: Width, word: &str) -> Result<SignExtension, Mistake>
     ensures { result ≡ extension_from width word.now }
 {
@@ -107,7 +107,9 @@ pub fn extension(width: Width, word: &str) -> Result<SignExtension, Mistake>
     }
 }
 
-/// Joins two results: returns both values, or the mistake with higher precedence.
+/// Returns the values of two results, or the mistake that is reported first.
+///
+/// If both results are mistakes, `Operand` is reported in preference to `OutOfRange`.
 pub fn both<A: Drop, B: Drop>(
     a: Result<A, Mistake>,
     b: Result<B, Mistake>,
@@ -122,7 +124,7 @@ pub fn both<A: Drop, B: Drop>(
     }
 }
 
-/// Returns the mistake to report of two: `b` if `a` is `OutOfRange`, else `a`.
+/// Returns the mistake that is reported first: `b` for `OutOfRange`, else `a`.
 fn graver(a: Mistake, b: Mistake) -> Mistake
     ensures { result ≡ graver a b }
 {
@@ -132,7 +134,7 @@ fn graver(a: Mistake, b: Mistake) -> Mistake
     }
 }
 
-/// Returns whether the word is digits, with or without a leading `-`.
+/// Returns whether the word is decimal digits, with or without a leading `-`.
 fn writes_number(word: &str) -> bool
     ensures { result ≡ writes_number word.now }
 {

@@ -1,4 +1,4 @@
--- Calls of counters.
+-- The calls of counters.
 use Rattle.std.proofs.Common.{◌≡◌, ◌≢◌, ℕ, ◌+◌, ◌%◌, ◌<◌, ◌≤◌, List, [], ◌∷◌, ◌++◌, Bool, true, length, refl, sym, ap, ◌∙◌, subst, inl, arith, length-append, mod-lt}
 use Rattle.std.proofs.lemmas.Bool.Decides.{nat_tests}
 use Rattle.fc_book.specs.declared.entry.CallEntry.{CallEntry}
@@ -25,14 +25,15 @@ caller_has who calls v answers c = subst (λ (v : BookView CallEntry). IsThread 
 on_own : (part who n : ℕ) → is_on keys_of who (call_of part who n) ≡ true
 on_own part who n = grind (arith, nat_tests)
 
--- a number that isn't even is odd
+-- a number that isn't even is odd.
 pub odd : (n : ℕ) → (n % 2 ≢ 0) → 1 ≡ n % 2
 odd n uneven = let low : n % 2 < 2 = mod-lt n (omega arith) in grind (uneven, low, arith)
 
 at : (calls n : ℕ) → n ≡ calls → calls ≡ 0 + n
 at calls n is = omega (arith, is)
 
--- the next call of a thread goes to the counter that is next by its index.
+-- one more call of a thread keeps the form of the thread's track, if it is of the counter that is
+-- next.
 pub caller_more : (who part n calls : ℕ) (v w : BookView CallEntry) (answers : List ℕ) → IsCaller who calls v answers → part ≡ calls % 2 → w ≡ with_call (call_of part who n) v → IsCaller who (calls + 1) w (answers ++ n ∷ [])
 caller_more who part n calls v w answers c due is = record {
   entries = c.entries ++ call_of part who n ∷ [];

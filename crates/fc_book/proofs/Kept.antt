@@ -1,4 +1,4 @@
--- Each move keeps the rule.
+-- Each move keeps the rule of the book.
 use Rattle.std.proofs.Common.{◌≡◌, ◌≢◌, ◌⊎◌, ℕ, zero, suc, ◌+◌, ◌<◌, ◌≤◌, true, false, List, [], ◌∷◌, ◌++◌, set, refl, sym, ap, ◌∙◌, subst, ⊎_elim, inl, inr, arith}
 use Rattle.std.proofs.lemmas.Bool.{cases_lt}
 use mathlib.Core.Option.{some, some-ne-none, some-injective}
@@ -116,7 +116,7 @@ module _ {E : Type 0} (keys : E → EntryKeys) where
       single = a.single;
     }
 
-    -- the next track isn't one of the remaining ones.
+    -- an owner that begins the next track for another owner doesn't have that track.
     next_apart : (log : List E) → IsViewOf keys log v → (k : ℕ) → HasTrack k (with_next v) → v.next ≡ k → ⊥
     next_apart log a k (inl s) p = a.unlike k s (inr (may_begin, omega (arith, p)))
     next_apart log a k (inr (inl h)) p = let lt : k < v.next = a.fresh may_begin k h in absurd (omega (arith, p))

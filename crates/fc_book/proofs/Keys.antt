@@ -1,4 +1,4 @@
--- Tracks by their keys.
+-- Tracks, found by their keys.
 use Rattle.std.proofs.Common.{◌≡◌, ◌≢◌, ◌⊎◌, ℕ, Bool, true, false, List, [], ◌∷◌, ◌++◌, refl, sym, ap, ◌∙◌, ⊎_elim, inl, inr, arith}
 use Rattle.std.specs.Prelude.{◌==◌, ◌||◌}
 use Rattle.std.proofs.lemmas.List.{append-nil}
@@ -7,7 +7,7 @@ use Rattle.std.proofs.lemmas.Bool.Decides.{nat_tests}
 use Rattle.fc_book.specs.declared.view.Track.{Track}
 use Rattle.fc_book.specs.Tracks.{EntryKeys, is_on, on, HasKey, AreOn, AreSingle, entries_with, with_entry}
 
--- an entry is on the tracks of its three keys alone
+-- an entry is on no track but those of its three keys.
 is_off_keys : (a b c k : ℕ) → a ≢ k → b ≢ k → c ≢ k → (a == k) || ((b == k) || (c == k)) ≡ false
 is_off_keys a b c k x y z = grind (x, y, z, arith, nat_tests)
 
@@ -33,7 +33,7 @@ module _ {E : Type 0} (keys : E → EntryKeys) where
   has-with k e (t ∷ ts) (inl p) = inl p
   has-with k e (t ∷ ts) (inr h) = inr (has-with k e ts h)
 
-  -- an entry that is on none of them leaves them unchanged.
+  -- further entries that are on none of the tracks leave the tracks those of the history.
   pub stays : (log more : List E) (ts : List (Track E)) → ((k : ℕ) → HasKey k ts → on keys k more ≡ []) → AreOn keys log ts → AreOn keys (log ++ more) ts
   stays log more [] none a = tt
   stays log more (t ∷ ts) none a = (
@@ -45,7 +45,7 @@ module _ {E : Type 0} (keys : E → EntryKeys) where
   entries_on k true log xs e is at = rw is (ap (λ (l : List E). l ++ e ∷ []) at)
   entries_on k false log xs e is at = rw is (at ∙ sym (append-nil (on keys k log)))
 
-  -- and one that is on some of them is the last entry there.
+  -- an entry that is filed on these tracks leaves them those of the history.
   pub with_is : (log : List E) (e : E) (ts : List (Track E)) → AreOn keys log ts → AreOn keys (log ++ e ∷ []) (with_entry keys e ts)
   with_is log e [] a = tt
   with_is log e (t ∷ ts) a = (entries_on t.key (is_on keys t.key e) log t.entries e refl a.0 ∙ sym (on-append t.key log (e ∷ [])), with_is log e ts a.1)
@@ -64,7 +64,7 @@ module _ {E : Type 0} (keys : E → EntryKeys) where
   single-with e [] s = tt
   single-with e (t ∷ ts) s = (λ h. s.0 (has-with t.key e ts h), single-with e ts s.1)
 
-  -- a track keeps its key
+  -- an entry that is filed changes no track's key.
   pub keeps-key : (k : ℕ) (e : E) (ts : List (Track E)) → HasKey k ts → HasKey k (with_entry keys e ts)
   keeps-key k e [] h = h
   keeps-key k e (t ∷ ts) (inl p) = inl p

@@ -1,4 +1,4 @@
--- Each step keeps the rule.
+-- Each step keeps the rule of the book.
 use Rattle.std.proofs.Common.{◌≡◌, ◌≢◌, ◌⊎◌, ℕ, zero, suc, ◌<◌, List, [], ◌∷◌, ◌++◌, length, set, refl, sym, ap, ◌∙◌, subst, ⊎_elim, inl, inr, arith}
 use Rattle.std.proofs.lemmas.List.{length-set}
 use mathlib.Core.Option.{some, some-ne-none, some-injective}
@@ -24,7 +24,7 @@ module _ {E : Type 0} (keys : E → EntryKeys) where
   owns_nothing k (inr (inl h)) = h
   owns_nothing k (inr (inr m)) = absurd (cc m.0)
 
-  -- a view that has none of the tracks of the additional entries.
+  -- further entries that are on none of a view's tracks leave the view one of the history.
   pub others_stay : (log more : List E) (v : BookView E) → ((k : ℕ) → HasTrack k v → on keys k more ≡ []) → IsViewOf keys log v → IsViewOf keys (log ++ more) v
   others_stay log more v none is = record {
     locked = stays keys log more v.locked (λ k h. none k (inl h)) is.locked;
@@ -35,8 +35,8 @@ module _ {E : Type 0} (keys : E → EntryKeys) where
     single = is.single;
   }
 
-  -- one view changes into another that owns no more, and one is removed, whose tracks the first may
-  -- have taken over.
+  -- one view changes into another that owns no more, and another view is removed. The first view
+  -- may take over the tracks of the removed one.
   module _ (views : List (BookView E)) (id other : ℕ) (v w both : BookView E) (log after : List E) (h : AreViewsOf keys log views) (at : get_elem? views id ≡ some v) (apart : other ≢ id) (there : get_elem? (set views id both) other ≡ some w)
       (stay : (u : BookView E) → ((k : ℕ) → HasTrack k u → (HasTrack k v → ⊥) × (HasTrack k w → ⊥)) → IsViewOf keys log u → IsViewOf keys after u) (keep : (k : ℕ) → HasTrack k both → HasTrack k v ⊎ HasTrack k w)
       (mine : IsViewOf keys log v → IsViewOf keys log w → ((k : ℕ) → HasTrack k v → HasTrack k w → ⊥) → IsViewOf keys after both) where
@@ -46,7 +46,7 @@ module _ {E : Type 0} (keys : E → EntryKeys) where
     parted : (k : ℕ) → HasTrack k v → HasTrack k w → ⊥
     parted k a b = apart (sym (h.apart id other v w k at there' a b))
 
-    -- the present view at a place.
+    -- the view that is at a place after the step.
     abbrev Place : ℕ → BookView E → Type 0
     Place j u = ((j ≡ other) × (no_tracks ≡ u)) ⊎ (((j ≡ id) × (both ≡ u)) ⊎ ((j ≢ other) × ((j ≢ id) × (get_elem? views j ≡ some u))))
 
@@ -66,7 +66,7 @@ module _ {E : Type 0} (keys : E → EntryKeys) where
         (λ k o. ((λ a. z.1.0 (h.apart j id u v k z.1.1 at o a)), (λ b. z.0 (h.apart j other u w k z.1.1 there' o b))))
         (h.each j u z.1.1)
 
-    -- the present owner of a track.
+    -- the view at a place owns a track after the step.
     abbrev Has : ℕ → ℕ → Type 0
     Has j k = ((j ≡ id) × (HasTrack k v ⊎ HasTrack k w)) ⊎ ((j ≢ other) × ((j ≢ id) × ((u : BookView E) × ((get_elem? views j ≡ some u) × HasTrack k u))))
 
@@ -91,7 +91,7 @@ module _ {E : Type 0} (keys : E → EntryKeys) where
       apart = λ i j u x k eu ex ou ox. alone i j k (has i u k (place i u eu) ou) (has j x k (place j x ex) ox);
     }
 
-  -- a view is split in two.
+  -- an element of a list with one more is one of the list, or the additional one.
   at_snoc : (l : List (BookView E)) (a b : BookView E) (j : ℕ) → get_elem? (l ++ a ∷ []) j ≡ some b → ((j < length l) × (get_elem? l j ≡ some b)) ⊎ ((j ≡ length l) × (a ≡ b))
   at_snoc [] a b zero e = inr (refl, some-injective a b e)
   at_snoc [] a b (suc j) e = absurd (some-ne-none b (sym e))
@@ -120,7 +120,7 @@ module _ {E : Type 0} (keys : E → EntryKeys) where
     each_cut j u (inr (inl y)) = subst (λ (u : BookView E). IsViewOf keys log u) y.1.1 (is (h.each id v at)).0
     each_cut j u (inr (inr z)) = h.each j u z.1.1
 
-    -- the earlier owner of a track that this place has now.
+    -- if a place has a track after the split, some place had the track before the split.
     was : (j : ℕ) (u : BookView E) (k : ℕ) → Cut j u → HasTrack k u → (i : ℕ) × ((x : BookView E) × ((get_elem? views i ≡ some x) × HasTrack k x))
     was j u k (inl x) o = (id, (v, (at, keep k (inr (subst (λ (u : BookView E). HasTrack k u) (sym x.1) o)))))
     was j u k (inr (inl y)) o = (id, (v, (at, keep k (inl (subst (λ (u : BookView E). HasTrack k u) (sym y.1.1) o)))))
@@ -143,7 +143,7 @@ module _ {E : Type 0} (keys : E → EntryKeys) where
       apart = λ i j u x k eu ex ou ox. one i j u x k (cut i u eu) (cut j x ex) ou ox;
     }
 
-  -- a view changes into one that owns no more
+  -- one view changes into another that owns no more.
   module _ (views : List (BookView E)) (id : ℕ) (v w : BookView E) (log after : List E) (h : AreViewsOf keys log views) (at : get_elem? views id ≡ some v)
       (stay : (u : BookView E) → ((k : ℕ) → HasTrack k u → HasTrack k v → ⊥) → IsViewOf keys log u → IsViewOf keys after u) (keep : (k : ℕ) → HasTrack k w → HasTrack k v)
       (is : IsViewOf keys log v → IsViewOf keys after w) where

@@ -1,4 +1,5 @@
--- Numbers of a range that are as many as the range: each number of the range is among them.
+-- If numbers of a range are different and as many as the range, each number of the range is among
+-- them.
 use Rattle.std.proofs.Common.{◌≡◌, ◌≢◌, ◌⊎◌, ℕ, ◌+◌, ◌-◌, ◌<◌, ◌≤◌, true, false, List, [], ◌∷◌, length, map, sym, ◌∙◌, ⊎_elim, inl, inr, arith}
 use Rattle.std.specs.Prelude.{eqb}
 use Rattle.std.specs.List.{AllByRecursion, IsDistinct, list_any}
@@ -15,7 +16,7 @@ abbrev pub AreApart : List ℕ → Type 0
 AreApart [] = Unit {0}
 AreApart (m ∷ ms) = (HasNumber m ms → ⊥) × AreApart ms
 
--- each is from a on and below n.
+-- each of the numbers is at least a and below n.
 abbrev pub AreBetween : ℕ → ℕ → List ℕ → Type 0
 AreBetween a n [] = Unit {0}
 AreBetween a n (m ∷ ms) = (a ≤ m) × (m < n) × AreBetween a n ms
@@ -58,7 +59,8 @@ module _ (a n : ℕ) where
       (has_or_not k ms))
       (cases_Bool (eqb m k))
 
-  -- each number from a on and below n is among them, if they are as many.
+  -- if the numbers are different and as many as the range from a to n, each number of the range is
+  -- among them.
   pub all_among : (ms : List ℕ) (k : ℕ) → AreBetween a n ms → AreApart ms → a + length ms ≡ n → a ≤ k → k < n → HasNumber k ms
   all_among ms k b s count low high = ⊎_elim
       (λ (h : HasNumber k ms). h)

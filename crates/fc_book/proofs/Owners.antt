@@ -1,4 +1,4 @@
--- Tracks of several owners together.
+-- The tracks of several owners together.
 use Rattle.std.proofs.Common.{◌≡◌, ◌≢◌, ℕ, Bool, true, false, if◌then◌else◌, List, [], ◌∷◌, ◌++◌, refl, sym, ap, ◌∙◌, subst, inl, inr, arith}
 use Rattle.std.specs.Prelude.{◌==◌}
 use Rattle.std.proofs.lemmas.Bool.Decides.{nat_tests}
@@ -25,7 +25,7 @@ module _ {E : Type 0} where
   single_rest [] ys s = s
   single_rest (x ∷ xs) ys s = single_rest xs ys s.1
 
-  -- no track of the first owner is the other's.
+  -- no track of the first owner has the key of a track of the other owner.
   pub single_apart : (k : ℕ) (xs ys : List (Track E)) → AreSingle (xs ++ ys) → HasKey k xs → HasKey k ys → ⊥
   single_apart k [] ys s a b = a
   single_apart k (x ∷ xs) ys s (inl e) b = s.0 (subst (λ (j : ℕ). HasKey j (xs ++ ys)) (sym e) (has_right k xs ys b))
@@ -42,7 +42,7 @@ module _ {E : Type 0} (keys : E → EntryKeys) where
   at_first false k log t ts is here rest (inl e) = absurd (other_number t.key k is e)
   at_first false k log t ts is here rest (inr h) = rest h
 
-  -- the entries on a track are those of the history with its key.
+  -- the entries on a track are those of the history with the track's key.
   pub entries_at_key : (k : ℕ) (log : List E) (ts : List (Track E)) → AreOn keys log ts → HasKey k ts → entries_at k ts ≡ on keys k log
   entries_at_key k log [] a h = absurd h
   entries_at_key k log (t ∷ ts) a h = at_first (t.key == k) k log t ts refl a.0 (entries_at_key k log ts a.1) h

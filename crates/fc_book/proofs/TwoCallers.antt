@@ -1,4 +1,4 @@
--- Calls of two counters by two threads have one history.
+-- The calls of two counters by two threads have one history.
 use Rattle.std.proofs.Common.{◌≡◌, ℕ, zero, suc, ◌+◌, ◌<◌, ◌≤◌, Bool, true, false, if◌then◌else◌, List, [], ◌∷◌, length, refl, sym, subst, ⊎_elim, arith, mod-lt}
 use Rattle.std.proofs.lemmas.Bool.{cases_lt}
 use Rattle.std.proofs.lemmas.Bool.Decides.{nat_tests}
@@ -9,7 +9,8 @@ use Rattle.fc_book.specs.Counters.{AreCounted, AreTheirs, HasMadeCalls, HasOneHi
 use Rattle.fc_book.specs.Calls.{keys_of}
 use Rattle.fc_book.specs.Tracks.{HasHistory, is_on, on, track}
 
--- form of an entry on the track of a key.
+-- the form of an entry on the track of a key, which is that of a counter or a thread. On a
+-- counter's track the entry is a thread's, and on a thread's track a counter's.
 abbrev Fits : ℕ → CallEntry → Type 0
 Fits k e = (k < 4) × (k < 2 → 2 ≤ e.who) × (2 ≤ k → e.part < 2)
 
@@ -25,7 +26,7 @@ fits_thread : (who i : ℕ) (answers : List ℕ) → 2 ≤ who → who < 4 → A
 fits_thread who i [] two four = tt
 fits_thread who i (a ∷ answers) two four = ((four, (λ l. two), (λ h. mod-lt i (omega arith))), fits_thread who (i + 1) answers two four)
 
--- the first entry of a history fits each of its keys, and the others fit theirs
+-- the first entry of a history fits each of its keys, and the other entries fit theirs.
 module _ (k : ℕ) (e : CallEntry) (es : List CallEntry) where
   first_fits : is_on keys_of k e ≡ true → AllFit k (on keys_of k (e ∷ es)) → Fits k e
   first_fits is fit = (subst (λ (b : Bool). AllFit k (if b then e ∷ on keys_of k es else on keys_of k es)) is fit).0
@@ -52,7 +53,7 @@ are_theirs (e ∷ es) fit =
     let p = part_fits e (first_fits e.part e es (on_part e) (fit e.part)) (first_fits e.who e es (on_who e) (fit e.who)) in
     (p.0, p.1, p.2, are_theirs es (λ k. rest_fits k e es (is_on keys_of k e) refl (fit k)))
 
--- view of an owner that has the tracks of both counters and both threads.
+-- the view of an owner that has the tracks of both counters and both threads.
 abbrev pub all_tracks : List CallEntry → List CallEntry → List CallEntry → List CallEntry → BookView CallEntry
 all_tracks left right first second = record {
   locked = [];

@@ -1,4 +1,4 @@
--- Calls that this crate's book lists: their keys, and the call that no caller chose.
+-- The calls that this crate's book lists: their keys, and the call that no caller chose.
 use Rattle.fc_book.specs.declared.entry.CallEntry.{CallEntry}
 use Rattle.fc_book.specs.Tracks.{EntryKeys}
 

@@ -6,20 +6,21 @@ use Rattle.fc_book.specs.declared.callers.CallerResults.{CallerResults}
 use Rattle.fc_book.specs.Calls.{keys_of}
 use Rattle.fc_book.specs.Tracks.{HasKey, on, own_view, with_filed}
 
--- a thread calls a counter, for a job with its own key, with this number as the result.
+-- the call of a counter by a thread, for a job with the thread's key, with this number as the
+-- result.
 abbrev pub call_of : ℕ → ℕ → ℕ → CallEntry
 call_of part who n = record { part = part; who = who; job = who; answer = n }
 
 -- ---- a counter
 
--- each is a call of the counter by a thread, and their results are the numbers from n on, in order.
+-- each entry is a call of the counter by a thread. The results are the numbers from n on, in order.
 abbrev pub AreCounted : ℕ → ℕ → List CallEntry → Type 0
 AreCounted part n [] = Unit {0}
 AreCounted part n (e ∷ es) = (e ≡ call_of part e.who n) × (2 ≤ e.who) × AreCounted part (n + 1) es
 
 -- ---- a thread
 
--- the thread's own track is among those of the view.
+-- the view has the thread's own track.
 abbrev pub IsThread : ℕ → BookView CallEntry → Type 0
 IsThread who v = HasKey who v.own
 
@@ -33,12 +34,12 @@ abbrev pub calls_in_turn : ℕ → ℕ → List ℕ → List CallEntry
 calls_in_turn who i [] = []
 calls_in_turn who i (a ∷ answers) = call_of (i % 2) who a ∷ calls_in_turn who (i + 1) answers
 
--- a thread has made this many calls, of counters 0 and 1 alternately, with these results.
+-- the thread has made this many calls, of counters 0 and 1 alternately, with these results.
 pub record HasMadeCalls (who calls : ℕ) (entries : List CallEntry) (answers : List ℕ) : Type 0 where
   pub entries_are : entries ≡ calls_in_turn who 0 answers
   pub count : length answers ≡ calls
 
--- the thread's track alone is in the view, with these calls.
+-- the view has only the track of the thread, with these calls.
 pub record IsCaller (who calls : ℕ) (v : BookView CallEntry) (answers : List ℕ) : Type 0 where
   pub entries : List CallEntry
   pub view : v ≡ own_view who entries
@@ -52,8 +53,8 @@ AreTheirs [] = Unit {0}
 AreTheirs (e ∷ es) = (e.part < 2) × (2 ≤ e.who) × (e.who < 4) × AreTheirs es
 
 -- there is one history, of calls of these counters by these threads alone. The calls of each
--- counter are numbered from 0 on, as many as the counter counted. The calls of each thread are as
--- many as it made, of the counters alternately, with its results.
+-- counter are numbered from 0 on, and are as many as the counter counted. The calls of each thread
+-- are as many as the thread made, of the counters alternately, with the thread's results.
 pub record HasOneHistory (calls : ℕ) (r : CallerResults) : Type 0 where
   pub log : List CallEntry
   pub theirs : AreTheirs log

@@ -1,5 +1,5 @@
--- Tracks of one history, and their owners, for entries of any form: a function returns the keys of
--- each entry.
+-- Tracks of one history, and their owners. The entries may have any form; a function returns the
+-- keys of each entry.
 use Rattle.std.specs.Prelude.{◌≡◌, ◌⊎◌, ℕ, ◌+◌, ◌<◌, ◌≤◌, ◌==◌, ◌||◌, Bool, true, false, if◌then◌else◌, List, [], ◌∷◌, ◌++◌, map}
 use Rattle.std.specs.List.{filter}
 use lib.ListN.{get_elem?}
@@ -8,7 +8,8 @@ use Rattle.atomic_table.specs.Seated.{TableId}
 use Rattle.fc_book.specs.declared.view.Track.{Track}
 use Rattle.fc_book.specs.declared.view.BookView.{BookView}
 
--- the keys of an entry: of its part, of the thread that made the call, and of its job.
+-- the keys of an entry: that of its part, that of the thread that made the call, and that of its
+-- job.
 pub record EntryKeys : Type 0 where
   pub part : ℕ
   pub who : ℕ
@@ -25,7 +26,7 @@ module _ {E : Type 0} where
   HasKey k [] = ⊥
   HasKey k (t ∷ ts) = (t.key ≡ k) ⊎ HasKey k ts
 
-  -- no two have the same key.
+  -- no two of the tracks have the same key.
   abbrev pub AreSingle : List (Track E) → Type 0
   AreSingle [] = Unit {0}
   AreSingle (t ∷ ts) = (HasKey t.key ts → ⊥) × AreSingle ts
@@ -52,47 +53,48 @@ module _ {E : Type 0} where
   other_tracks [] = []
   other_tracks (t ∷ ts) = ts
 
-  -- the view of an owner that has no track, and may begin none.
+  -- the view of an owner that has no track, and may begin no track.
   abbrev pub no_tracks : BookView E
   no_tracks = record { locked = []; own = []; may_begin = false; next = 0 }
 
-  -- the first owner's view: no track has begun, and the owner may begin each.
+  -- the view of the first owner: no track has begun, and the owner may begin each track.
   abbrev pub first_view : BookView E
   first_view = record { locked = []; own = []; may_begin = true; next = 0 }
 
-  -- the view of a part's lock.
+  -- the view of a part's lock, which has the part's track.
   abbrev pub part_view : ℕ → List E → BookView E
   part_view k entries = record { locked = track k entries ∷ []; own = []; may_begin = false; next = 0 }
 
-  -- the view of a thread, or a message, that owns one track.
+  -- the view of an owner, of a thread or a message, with one track of its own.
   abbrev pub own_view : ℕ → List E → BookView E
   own_view k entries = record { locked = []; own = track k entries ∷ []; may_begin = false; next = 0 }
 
-  -- the owner owns the track: it is one of the owner's own, or one that the owner may begin.
+  -- the owner owns the track with this key: it is one of the owner's own tracks, or the owner may
+  -- begin it.
   abbrev pub OwnsTrack : ℕ → BookView E → Type 0
   OwnsTrack k v = HasKey k v.own ⊎ ((v.may_begin ≡ true) × (v.next ≤ k))
 
-  -- the owner owns the track, or has it as a part's.
+  -- the owner owns the track with this key, or has it as that of a part.
   abbrev pub HasTrack : ℕ → BookView E → Type 0
   HasTrack k v = HasKey k v.locked ⊎ OwnsTrack k v
 
 -- ---- the entries on a track
 
 module _ {E : Type 0} (keys : E → EntryKeys) where
-  -- an entry is on the tracks of its part, its thread and its job.
+  -- whether an entry is on the track with this key: that of its part, its thread or its job.
   abbrev pub is_on : ℕ → E → Bool
   is_on k e = ((keys e).part == k) || (((keys e).who == k) || ((keys e).job == k))
 
-  -- the subhistory of a key: the entries on its track, oldest first.
+  -- the subhistory of a key: the entries on the key's track, oldest first.
   abbrev pub on : ℕ → List E → List E
   on k log = filter (is_on k) log
 
-  -- each has exactly the entries of the history with its key.
+  -- each track has exactly the entries of the history with the track's key.
   abbrev pub AreOn : List E → List (Track E) → Type 0
   AreOn log [] = Unit {0}
   AreOn log (t ∷ ts) = (t.entries ≡ on t.key log) × AreOn log ts
 
-  -- the track after an entry is filed: the entry is appended if it is on the track.
+  -- the track after an entry is filed: the entry is appended if it belongs to the track.
   abbrev pub track_with : E → Track E → Track E
   track_with e t = track t.key (entries_with (is_on t.key e) t.entries e)
 
@@ -102,8 +104,9 @@ module _ {E : Type 0} (keys : E → EntryKeys) where
 
 -- ---- the rule
 
--- the view's tracks are exactly the entries of the history with their keys. No two tracks have the
--- same key, and the tracks that the owner may begin have no entry.
+-- the view is one of the history: its tracks are exactly the entries of the history with their
+-- keys. No two tracks of the view have the same key, and the tracks that the owner may begin have
+-- no entry.
 pub record IsViewOf {E : Type 0} (keys : E → EntryKeys) (log : List E) (v : BookView E) : Type 0 where
   pub locked : AreOn keys log v.locked
   pub own : AreOn keys log v.own
@@ -112,17 +115,17 @@ pub record IsViewOf {E : Type 0} (keys : E → EntryKeys) (log : List E) (v : Bo
   pub unlike : (k : ℕ) → HasKey k v.locked → OwnsTrack k v → ⊥
   pub single : AreSingle v.own
 
--- each view is one of the history, and no two have the same track.
+-- each view is one of the history, and no two views have the same track.
 pub record AreViewsOf {E : Type 0} (keys : E → EntryKeys) (log : List E) (views : List (BookView E)) : Type 0 where
   pub each : (i : ℕ) (v : BookView E) → get_elem? views i ≡ some v → IsViewOf keys log v
   pub apart : (i j : ℕ) (v w : BookView E) (k : ℕ) → get_elem? views i ≡ some v → get_elem? views j ≡ some w → HasTrack k v → HasTrack k w → i ≡ j
 
--- there is one history, each view is one of it, and no two have the same track.
+-- there is one history, each view is one of this history, and no two views have the same track.
 pub record HaveOneHistory {E : Type 0} (keys : E → EntryKeys) (views : List (BookView E)) : Type 0 where
   pub log : List E
   pub views_of : AreViewsOf keys log views
 
--- the view is one of a history.
+-- the view is one of some history.
 pub record HasHistory {E : Type 0} (keys : E → EntryKeys) (v : BookView E) : Type 0 where
   pub log : List E
   pub is : IsViewOf keys log v
@@ -151,7 +154,8 @@ module _ {E : Type 0} where
   abbrev pub with_next : BookView E → BookView E
   with_next v = record v { next = v.next + 1 }
 
-  -- the owner's view after it begins the next track for itself: that track is the first of its own.
+  -- the owner's view after it begins the next track for itself: this track is then the first of its
+  -- own tracks.
   abbrev pub with_begun : BookView E → BookView E
   with_begun v = record v { own = track v.next [] ∷ v.own; next = v.next + 1 }
 
@@ -159,15 +163,15 @@ module _ {E : Type 0} where
   abbrev pub first_own : BookView E → BookView E
   first_own v = record { locked = []; own = first_track v.own; may_begin = false; next = 0 }
 
-  -- the owner's view without that track.
+  -- the owner's view without its first track.
   abbrev pub without_first : BookView E → BookView E
   without_first v = record v { own = other_tracks v.own }
 
-  -- the owner's view after a merge: the other's tracks are the first of its own.
+  -- the owner's view after a merge: the other owner's tracks come before the owner's own tracks.
   abbrev pub merged_with : BookView E → BookView E → BookView E
   merged_with v w = record v { own = w.own ++ v.own }
 
-  -- the owner's view after a part is closed: the part's track is the first of its own.
+  -- the owner's view after a part is closed: the part's track comes before the owner's own tracks.
   abbrev pub with_part : BookView E → BookView E → BookView E
   with_part v w = record v { own = w.locked ++ v.own }
 

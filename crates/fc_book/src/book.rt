@@ -12,7 +12,7 @@ use std::alloc::{AllocError, Global};
 use std::marker::{Brand, Model, PhantomData};
 use std::mem::replace;
 
-/// The name of a book, by its table. Types with the same name are of the same book.
+/// The name of a book, by the book's table. Types with one name are of one book.
 pub trait BookName {
     ghost table: { TableId };
 }
@@ -55,7 +55,7 @@ pub struct NewBook {
 
 /// The book: a table of words that are never written.
 ///
-/// Each step loads its first word.
+/// Each step loads the table's first word.
 #[derive(Drop)]
 pub struct Book<J: BookName> {
     words: Words,
@@ -66,7 +66,7 @@ pub struct Book<J: BookName> {
 
 /// The tracks that a thread or a message owns.
 ///
-/// It has no bytes; a clause sees its view.
+/// This type has no bytes. In contracts it is the owner's view.
 #[derive(Drop)]
 pub struct Tracks<J: BookName> {
     seat: CallSeat,
@@ -87,7 +87,7 @@ impl<J: BookName> Model for Tracks<J> {
 
 /// The track of a part, stored under the part's lock.
 ///
-/// It has no bytes; a clause sees the calls on it, oldest first.
+/// This type has no bytes. In contracts it is the list of the calls on the track, oldest first.
 #[derive(Drop)]
 pub struct PartTrack<P: Part> {
     seat: CallSeat,
@@ -157,7 +157,7 @@ impl<J: BookName> Tracks<J> {
 
     /// Begins the next track, and returns it in a new owner.
     ///
-    /// The owner is that of a thread or a message, and may begin no track.
+    /// The new owner is that of a thread or a message, and may begin no track.
     pub fn begin_tracks(&mut self, book: &Book<J>) -> Tracks<J>
         requires may_begin { self.old.may_begin ≡ true }
         ensures new { result ≡ own_view self.old.next [] }
@@ -179,7 +179,7 @@ impl<J: BookName> Tracks<J> {
 
     /// Splits off the first of the owner's tracks, and returns it in a new owner.
     ///
-    /// The new owner may begin no track, and has none if the owner had none.
+    /// The new owner may begin no track, and has no track if the owner had none.
     pub fn split_first(&mut self, book: &Book<J>) -> Tracks<J>
         ensures first { result ≡ first_own self.old }
         ensures kept { self.new ≡ without_first self.old }
@@ -199,7 +199,7 @@ impl<J: BookName> Tracks<J> {
         steps::merge(&book.words, &mut self.seat, seat);
     }
 
-    /// Closes a part: its track becomes one of the owner's.
+    /// Closes a part: the part's track becomes one of the owner's.
     pub fn close<P: Part>(&mut self, book: &Book<J>, part: PartTrack<P>)
         requires { P.table ≡ J.table }
         ensures closed { self.new ≡ with_part self.old (part_view P.key part) }
@@ -210,8 +210,8 @@ impl<J: BookName> Tracks<J> {
 
     /// Shows that the owner's tracks are those of one history.
     ///
-    /// Each track has exactly the entries of the history with its key. The owner stays as it is:
-    /// only the contract is of use.
+    /// Each track has exactly the entries of the history with the track's key. The call changes
+    /// nothing; only its contract is of use.
     pub fn attest(&mut self, book: &Book<J>)
         ensures one { HasHistory keys_of self.old }
         ensures kept { self.new ≡ self.old }
@@ -221,7 +221,7 @@ impl<J: BookName> Tracks<J> {
 
     /// Files a call of a part; the caller holds the part's lock.
     ///
-    /// The call becomes the last entry on the tracks of its part, its thread and its job.
+    /// The call becomes the last entry on the tracks of its part, of its thread and of its job.
     pub fn file<P: Part>(&mut self, book: &Book<J>, part: &mut PartTrack<P>, entry: &CallEntry)
         requires same { P.table ≡ J.table }
         requires part { entry.now.part ≡ P.key }
@@ -236,7 +236,7 @@ impl<J: BookName> Tracks<J> {
 
 /// Files a call for [`Tracks::file`].
 ///
-/// `X` is a type that names `entry` in contracts. The owner has the part's track while the call is
+/// `X` is a type that names `entry` in contracts. The owner has the part's track while the entry is
 /// filed.
 fn file_as<X: EntryName, J: BookName, P: Part>(
     book: &Book<J>,

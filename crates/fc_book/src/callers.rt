@@ -1,6 +1,6 @@
 //! Two threads that call two counters: their calls have one history.
 //!
-//! It is an example of the book's use: no server calls it.
+//! This module is an example of the book's use; no server calls it.
 ghost use Rattle.std.specs.Prelude.{◌≡◌, ◌≤◌, [], IfSome};
 ghost use Rattle.fc_book.specs.Counters.{HasOneHistory, IsCaller};
 ghost use Rattle.fc_book.specs.Tracks.{own_view};
@@ -23,8 +23,8 @@ pub struct CallerResults {
 
 /// Calls two counters alternately as thread `who`, and returns the results.
 ///
-/// Makes `calls` calls, and returns the thread's tracks, on which they are filed, with the results.
-/// Returns `None` if memory can't be allocated, or if a counter is at its maximum.
+/// Makes `calls` calls, and files them on the thread's tracks, which are returned too. Returns
+/// `None` if memory can't be allocated, or if a counter is at its maximum.
 fn call_in_turn<J: BookName, R: Wait>(
     rt: &R,
     alloc: Global,

@@ -10,7 +10,7 @@ use std::sync::{Mutex, Wait};
 
 /// The contents of a counter's lock: the count, and the track of the counted calls.
 ///
-/// A clause sees those calls.
+/// In contracts a counter is the list of these calls.
 #[derive(Drop)]
 pub struct CallCounter<J: BookName, const KEY: u64> {
     count: u64,
@@ -41,7 +41,8 @@ impl<J: BookName, const KEY: u64> CallCounter<J, KEY> {
 
     /// Counts and files a call by thread `who`, and returns its number.
     ///
-    /// Returns `None` and files nothing if the count is at its maximum; no clause says so.
+    /// If the count is at its maximum, returns `None` and files nothing; the contract doesn't say
+    /// so.
     pub fn count(&mut self, book: &Book<J>, tracks: &mut Tracks<J>, who: u64) -> Option<u64>
         requires thread { IsThread who tracks.old }
         requires key { 2 ≤ who }

@@ -2,7 +2,8 @@
 
 /// A call.
 ///
-/// It has the keys of its part, of the thread that made it and of its job, and its result.
+/// It has the keys of the call's part, of the thread that made the call, and of the call's job, and
+/// the call's result.
 #[derive(Clone, Copy)]
 pub struct CallEntry {
     pub part: u64,

@@ -1,8 +1,9 @@
 //! The steps of the book's rule, for the methods of [`Tracks`](crate::Tracks).
 //!
-//! A seat is an owner's handle at the book's table, `words`. In a clause `me.0` is its view: its
-//! tracks, and whether it may begin others. `me.1` lists the table's slots that the handle has
-//! taken out: none. Each step loads the table's first word, which no thread writes.
+//! A seat is an owner's handle at the book's table, `words`. In contracts `me.0` is the owner's
+//! view: the owner's tracks, and whether the owner may begin others. `me.1` lists the table's slots
+//! that the handle has taken out: none. Each step loads the table's first word, which no thread
+//! writes.
 ghost use Rattle.std.specs.Prelude.{◌≡◌, ◌<◌, ◌+◌, [], ◌∷◌, ◌++◌, true, false};
 ghost use Rattle.fc_book.specs.Calls.{keys_of};
 ghost use Rattle.fc_book.specs.Tracks.{AreSingle, HasHistory, HasKey, with_begun, filed_with, first_own, locked_of, merged_with, no_tracks, own_view, part_view, with_next, with_part, without_first, without_locked};
@@ -15,11 +16,13 @@ use crate::view::{
 use atomic_table::{Seat, Table};
 use std::alloc::Global;
 
+/// The handle of an owner at the book's table.
 pub(crate) type CallSeat = Seat<u8, BookView<CallEntry>>;
 
+/// The book's table of words.
 pub(crate) type Words = Table<u8, BookView<CallEntry>, (), BookRule, Global>;
 
-/// Makes a handle with no track, to replace a part's handle while a call is filed.
+/// Makes a handle without tracks, to replace a part's handle while a call is filed.
 pub(crate) fn empty_seat(words: &Words, seat: &mut CallSeat) -> CallSeat
     requires size { 0 < words.now.shared.table_id.words }
     requires table { seat.old.table_id ≡ words.now.shared.table_id }
@@ -31,8 +34,8 @@ pub(crate) fn empty_seat(words: &Words, seat: &mut CallSeat) -> CallSeat
 
 /// Moves the track of `part` to the owner, and files the entry that `X` names.
 ///
-/// The entry becomes the last on the tracks of its part, its thread and its job. The owner has the
-/// part's track until `return_part`.
+/// The entry becomes the last on the tracks of its part, of its thread and of its job. The owner
+/// has the part's track until `return_part`.
 pub(crate) fn file<X: EntryName>(words: &Words, seat: &mut CallSeat, part: CallSeat)
     requires size { 0 < words.now.shared.table_id.words }
     requires table { seat.old.table_id ≡ words.now.shared.table_id }
@@ -58,7 +61,7 @@ pub(crate) fn return_part(words: &Words, seat: &mut CallSeat) -> CallSeat
     words.shared.split_seat::<ReturnsPart>(seat)
 }
 
-/// Begins the next track, which is a part's, and returns it in a new handle.
+/// Begins the next track, which is that of a part, and returns it in a new handle.
 pub(crate) fn begin_part(words: &Words, seat: &mut CallSeat) -> CallSeat
     requires size { 0 < words.now.shared.table_id.words }
     requires table { seat.old.table_id ≡ words.now.shared.table_id }
@@ -71,7 +74,7 @@ pub(crate) fn begin_part(words: &Words, seat: &mut CallSeat) -> CallSeat
 
 /// Begins the next track, and returns it in a new owner.
 ///
-/// The owner is that of a thread or a message, and may begin no track.
+/// The new owner is that of a thread or a message, and may begin no track.
 pub(crate) fn begin_tracks(words: &Words, seat: &mut CallSeat) -> CallSeat
     requires size { 0 < words.now.shared.table_id.words }
     requires table { seat.old.table_id ≡ words.now.shared.table_id }
@@ -82,7 +85,7 @@ pub(crate) fn begin_tracks(words: &Words, seat: &mut CallSeat) -> CallSeat
     words.shared.split_seat::<BeginsTracks>(seat)
 }
 
-/// Begins the next track, and puts it first among the owner's.
+/// Begins the next track, and puts it first among the owner's tracks.
 pub(crate) fn begin(words: &Words, seat: &mut CallSeat)
     requires size { 0 < words.now.shared.table_id.words }
     requires table { seat.old.table_id ≡ words.now.shared.table_id }
@@ -95,7 +98,7 @@ pub(crate) fn begin(words: &Words, seat: &mut CallSeat)
 
 /// Splits off the first of the owner's tracks, and returns it in a new owner.
 ///
-/// The new owner may begin no track, and has none if the owner had none.
+/// The new owner may begin no track, and has no track if the owner had none.
 pub(crate) fn split_first(words: &Words, seat: &mut CallSeat) -> CallSeat
     requires size { 0 < words.now.shared.table_id.words }
     requires table { seat.old.table_id ≡ words.now.shared.table_id }
@@ -105,7 +108,7 @@ pub(crate) fn split_first(words: &Words, seat: &mut CallSeat) -> CallSeat
     words.shared.split_seat::<SplitsFirst>(seat)
 }
 
-/// Puts the tracks of `other`, which may begin none, first among the owner's.
+/// Puts the tracks of `other`, which may begin none, before the owner's tracks.
 pub(crate) fn merge(words: &Words, seat: &mut CallSeat, other: CallSeat)
     requires size { 0 < words.now.shared.table_id.words }
     requires table { seat.old.table_id ≡ words.now.shared.table_id }
@@ -117,7 +120,7 @@ pub(crate) fn merge(words: &Words, seat: &mut CallSeat, other: CallSeat)
     words.shared.join_seat::<Merges>(seat, other);
 }
 
-/// Puts the track of `part`, which is closed, first among the owner's.
+/// Puts the track of `part`, which is closed, before the owner's tracks.
 pub(crate) fn close(words: &Words, seat: &mut CallSeat, part: CallSeat)
     requires size { 0 < words.now.shared.table_id.words }
     requires table { seat.old.table_id ≡ words.now.shared.table_id }
@@ -131,7 +134,7 @@ pub(crate) fn close(words: &Words, seat: &mut CallSeat, part: CallSeat)
 
 /// Shows that the owner's tracks are those of one history.
 ///
-/// Each track has exactly the entries of the history with its key. The owner stays as it is.
+/// Each track has exactly the entries of the history with the track's key. Nothing changes.
 pub(crate) fn attest(words: &Words, seat: &mut CallSeat)
     requires size { 0 < words.now.shared.table_id.words }
     requires table { seat.old.table_id ≡ words.now.shared.table_id }

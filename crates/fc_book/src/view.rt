@@ -6,18 +6,18 @@ use atomic_table::{Join, Play, Split, TableRule};
 use std::collections::LinkedList;
 use std::marker::{Brand, PhantomData};
 
-/// A track: the entries of the history with its key, oldest first.
+/// A track: the entries of the history with the track's key, oldest first.
 ///
-/// It is seen by clauses alone; no value of it is made.
+/// Only contracts use this type; no value of it is made.
 pub struct Track<E> {
     pub key: u64,
     pub entries: LinkedList<E>,
 }
 
-/// The tracks that an owner has: a part's, while its lock is held, and its own.
+/// The tracks of an owner: that of a part, while its lock is held, and its own.
 ///
-/// If it may begin tracks, `next` is the key of the next one. It is seen by clauses alone; no value
-/// of it is made.
+/// If the owner may begin tracks, `next` is the key of the next one. Only contracts use this type;
+/// no value of it is made.
 pub struct BookView<E> {
     pub locked: LinkedList<Track<E>>,
     pub own: LinkedList<Track<E>>,
@@ -27,7 +27,7 @@ pub struct BookView<E> {
 
 /// The rule of a book.
 ///
-/// There is one history, each view is one of it, and no track is in two views.
+/// There is one history, each view is one of this history, and no track is in two views.
 pub struct BookRule;
 
 impl TableRule<u8, BookView<CallEntry>, ()> for BookRule {
@@ -77,7 +77,7 @@ impl<E> Split<BookView<E>> for ReturnsPart {
     ghost right = { locked_of };
 }
 
-/// Makes a handle with no track.
+/// Makes a handle without tracks.
 pub struct MakesEmpty;
 
 impl<E> Split<BookView<E>> for MakesEmpty {
@@ -133,7 +133,7 @@ impl<E> Split<BookView<E>> for SplitsFirst {
     ghost right = { first_own };
 }
 
-/// Merges another's tracks into the owner's.
+/// Merges the tracks of another owner into the owner's tracks.
 pub struct Merges;
 
 impl<E> Join<BookView<E>> for Merges {
@@ -144,7 +144,7 @@ impl<E> Join<BookView<E>> for Merges {
     ghost spent = { no_tracks };
 }
 
-/// Makes a part's track one of the owner's.
+/// Makes the track of a part one of the owner's tracks.
 pub struct Closes;
 
 impl<E> Join<BookView<E>> for Closes {
@@ -155,7 +155,7 @@ impl<E> Join<BookView<E>> for Closes {
     ghost spent = { no_tracks };
 }
 
-/// Attests the history.
+/// Shows that the owner's view is one of the history.
 pub(crate) struct Attests;
 
 impl Play<u8, BookView<CallEntry>> for Attests {

@@ -1,4 +1,4 @@
--- No call changes after how many ms the notifications of a shard are confirmable again.
+-- No call changes the time after which the notifications of a shard are confirmable again.
 use Rattle.std.proofs.Common.{◌≡◌, ◌∙◌, ℕ, zero, suc, Bool, true, false, List, [], ◌∷◌, Option, None, Some, ap, refl}
 use Rattle.std.specs.Prelude.{if◌then◌else◌, map, slice_index_or, slice_set}
 use Rattle.fc_observe.specs.Calls.{ObserverCall, NextDue, Tick, after_calls, observers_after}
@@ -14,7 +14,7 @@ turn_keeps : (gives : Bool) (notify_serial : ℕ) (w : ObserverList) → (turn_g
 turn_keeps true notify_serial w = refl
 turn_keeps false notify_serial w = refl
 
--- a call on the observers of a slot
+-- a call on the observers of a slot leaves this time of the list unchanged.
 call_keeps : (c : ObserverCall) (w : ObserverList) → (observers_after c w).confirm_after ≡ w.confirm_after
 call_keeps (NextDue now notify_serial) w = turn_keeps (gives_turn notify_serial (list_at_time now w)) notify_serial (list_at_time now w)
 call_keeps other w = refl
@@ -23,20 +23,21 @@ calls_keep : (cs : List ObserverCall) (w : ObserverList) → (after_calls cs w).
 calls_keep [] w = refl
 calls_keep (c ∷ cs) w = call_keeps c (after_calls cs w) ∙ calls_keep cs w
 
--- the list at a place is replaced by one that keeps its time
+-- if the list at a place is replaced by one with the same time, the times of all lists are
+-- unchanged.
 set_keeps : (ws : List ObserverList) (k : ℕ) (d w : ObserverList) → w.confirm_after ≡ (slice_index_or ws k d).confirm_after → times (slice_set ws k w) ≡ times ws
 set_keeps [] k d w same = refl
 set_keeps (v ∷ ws) zero d w same = ap (λ (t : ℕ). t ∷ times ws) same
 set_keeps (v ∷ ws) (suc k) d w same = ap (λ (ts : List ℕ). v.confirm_after ∷ ts) (set_keeps ws k d w same)
 
--- calls on the list at a place
+-- calls on the list at a place leave the times of all lists unchanged.
 called_keep : (cs : List ObserverCall) (k : ℕ) (ws : List ObserverList) → times (watches_called cs k ws) ≡ times ws
 called_keep [] k ws = refl
 called_keep (c ∷ cs) k ws =
     let at = slice_index_or ws k (no_observers 0 0) in
     set_keeps ws k (no_observers 0 0) (after_calls (c ∷ cs) at) (calls_keep (c ∷ cs) at)
 
--- a call on each list
+-- a call on each list leaves the times of all lists unchanged.
 mapped_keep : (c : ObserverCall) (ws : List ObserverList) → times (map (observers_after c) ws) ≡ times ws
 mapped_keep c [] = refl
 mapped_keep c (w ∷ ws) = ap (λ (t : ℕ). t ∷ times (map (observers_after c) ws)) (call_keeps c w) ∙ ap (λ (ts : List ℕ). w.confirm_after ∷ ts) (mapped_keep c ws)

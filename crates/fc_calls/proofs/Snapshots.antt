@@ -1,4 +1,4 @@
--- A request's snapshot changes nothing.
+-- The snapshot of a request changes nothing.
 use Rattle.std.proofs.Common.{◌≡◌, ◌∙◌, ℕ, ◌/◌, List, Option, None, ap}
 use Rattle.fc_registry.specs.declared.job.Job.{Job}
 use Rattle.fc_registry.specs.Calls.{after_snapshot, snapshot_calls_by}

@@ -1,5 +1,5 @@
--- Effect of each call of a shard: the shard before, the result, and the shard after; and the effect
--- of each call of a front.
+-- The effect of each call of a shard: the shard before, the result, and the shard after. The same
+-- for each call of a front.
 use Rattle.std.specs.Prelude.{◌≡◌, ℕ, Bool, false, if◌then◌else◌, List, Option, Some, None}
 use Rattle.coap_msg.specs.declared.types.Emission.{Emission}
 use Rattle.coap_msg.specs.declared.types.Endpoint.{Endpoint}
@@ -36,8 +36,8 @@ use Rattle.fc_registry.specs.Watches.{StaysIdleUntil, after_due, after_given_up,
 abbrev pub CommitsAt : ℕ → Ran → Ticket → Shard → Committed → Shard → Type 0
 CommitsAt now ran ticket before committed after = CommitsTo ran ticket before now committed after
 
--- the first notification that has timed out at this time is retransmitted, or its observer is
--- removed.
+-- the first notification that has timed out at this time is retransmitted, or the notification's
+-- observer is removed.
 abbrev pub TicksAt : ℕ → Shard → Ticked → Shard → Type 0
 TicksAt now before ticked after =
     let at = at_time before now in
@@ -59,12 +59,12 @@ GivesTurnAt now before job after =
     let at = at_time before now in
     (job ≡ due_job (due_place at) at) × (after ≡ after_due (due_place at) at)
 
--- a signal reaches the observers of every slot. This definition and the next one aren't
--- abbreviations: a proof about another call has to state which call it is.
+-- a signal reaches the observers of every slot. This definition isn't an abbreviation, so that no
+-- proof about another call mistakes that call for a signal.
 unfoldable pub HandsOn : Bool → Endpoint → ℕ → Shard → Shard → Type 0
 HandsOn reset from id before after = after ≡ signalled (signal_call reset from id) before
 
--- a lease is released at this time.
+-- a lease is released at this time. This isn't an abbreviation either.
 unfoldable pub GivesUpAt : ℕ → Turn → Shard → Shard → Type 0
 GivesUpAt now turn before after = after ≡ after_given_up turn (at_time before now)
 
@@ -72,8 +72,8 @@ GivesUpAt now turn before after = after ≡ after_given_up turn (at_time before 
 abbrev pub TakesTo : Job → List ℕ → Shard → Taken → Shard → Type 0
 TakesTo job readings before taken after = TakesAt job readings before taken × (after ≡ after_snapshot job before)
 
--- a job takes a snapshot, with the variables written to the snapshot's memory. A program in the
--- snapshot has as many variables as were written.
+-- a job takes a snapshot, which writes its variables over `found`. If the snapshot gives a program,
+-- the program has as many variables as were written.
 abbrev pub TakesInto : Job → List ℕ → Shard → handles.Taken → SlotSnapshot → Shard → Type 0
 TakesInto job readings before taken found after = TakesTo job readings before (taken_with taken found) after × HasSize taken found
 
@@ -92,7 +92,7 @@ RemovesFrom job before removal after =
     let called = remove_from (slot_in before slot) in
     (removal ≡ called.answer) × (after ≡ with_slot before slot (after_changes (slot_in before slot) called.changes))
 
--- the receipt of the program in a job's slot.
+-- the receipt of the program in a job's slot is read.
 abbrev pub DescribesTo : Job → Shard → Option Receipt → Shard → Type 0
 DescribesTo job before receipt after = (receipt ≡ receipt_at (slot_in before job.origin.slot).present) × (after ≡ before)
 
@@ -113,12 +113,12 @@ HandlesAt now from bytes brings before after =
     let at = advanced before now in
     (brings ≡ delivered at from bytes) × (after ≡ after_delivered at from bytes)
 
--- a front is advanced to this time. It isn't an abbreviation, so that no other call of a front
+-- a front is advanced to this time. This isn't an abbreviation, so that no other call of a front
 -- counts as this one.
 unfoldable pub AdvancesTo : ℕ → FrontState → FrontState → Type 0
 AdvancesTo now before after = after ≡ advanced before now
 
--- the timer of a slot fires at this time. Its job depends on the slot alone.
+-- the timer of a slot fires at this time. The timer's job depends on the slot alone.
 unfoldable pub FiresAt : ℕ → FrontState → FrontState → Type 0
 FiresAt now before after = after ≡ advanced before now
 

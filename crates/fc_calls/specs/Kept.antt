@@ -1,4 +1,5 @@
--- Properties of a shard that every call keeps, and the increase of its slots' serials by each call.
+-- Properties of a shard that every call keeps, and by how much each call increases the serials of
+-- its slots.
 use Rattle.std.specs.Prelude.{◌≡◌, ℕ, if◌then◌else◌, List, length, map, sum_by}
 use Rattle.fc_registry.specs.declared.commit.Committed.{Committed}
 use Rattle.fc_registry.specs.declared.commit.Committed.TheVariants.{Done}
@@ -11,8 +12,8 @@ use Rattle.fc_registry.specs.Slots.{Shard, Slot}
 abbrev pub HasEightSlots : Shard → Type 0
 HasEightSlots shard = length shard.slots ≡ 8
 
--- the time in ms after which a notification of each slot of a shard is confirmable again (RFC 7641,
--- section 4.5).
+-- for each slot of a shard, the time in ms after which a notification is confirmable again (RFC
+-- 7641, section 4.5).
 abbrev pub confirm_times : Shard → List ℕ
 confirm_times shard = map (λ watch. watch.confirm_after) shard.watches
 

@@ -1,4 +1,4 @@
--- Calls that threads make of a server, each with its arguments and its result.
+-- The calls that threads make of a server, each with its arguments and its result.
 use Rattle.std.specs.Prelude.{ℕ, Bool, List, Option}
 use Rattle.coap_msg.specs.declared.types.Emission.{Emission}
 use Rattle.coap_msg.specs.declared.types.Endpoint.{Endpoint}
@@ -30,27 +30,27 @@ pub data LoggedCall : Type 0 where
   DrawsId : (now : ℕ) (id : Option ℕ) → LoggedCall
   -- a job is answered at this time, and this emission, or nothing, is to be sent.
   AnswersRequest : (now : ℕ) (job : Job) (content : Content) (sent : Option Emission) → LoggedCall
-  -- the receipt of the program in a job's slot.
+  -- the receipt of the program in a job's slot is read.
   TellsReceipt : (job : Job) (receipt : Option Receipt) → LoggedCall
-  -- the readings of the device.
+  -- the device returns these readings.
   GivesReadings : (readings : List ℕ) → LoggedCall
   -- the head word of a slot is read.
   LooksAt : (slot word : ℕ) → LoggedCall
   -- a job takes a snapshot of its slot, with these readings.
   TakesForJob : (job : Job) (readings : List ℕ) (taken : Taken) → LoggedCall
-  -- a run is committed at this time, by its ticket.
+  -- a ticket's run is committed at this time.
   CommitsRun : (now : ℕ) (ran : Ran) (ticket : Ticket) (committed : Committed) → LoggedCall
   -- a program is installed in the slot of a job.
   InstallsProgram : (job : Job) (program : Program) (made : Made) → LoggedCall
   -- the program in a job's slot is removed.
   RemovesProgram : (job : Job) (removal : Removal) → LoggedCall
-  -- a shard is passed a Reset message or an Acknowledgement, by its endpoint and message ID.
+  -- a shard is passed a Reset message, or an Acknowledgement, with this endpoint and message ID.
   HandsSignal : (shard : ℕ) (from : Endpoint) (id : ℕ) (reset : Bool) → LoggedCall
   -- a shard that is idle at this time is advanced to it.
   AdvancesIdle : (shard now : ℕ) → LoggedCall
   -- a shard is advanced to this time, with this result.
   AdvancesShard : (shard now : ℕ) (ticked : Ticked) → LoggedCall
-  -- a shard is asked at this time for its next lease.
+  -- a shard is asked at this time for its next lease, with this result.
   GivesTurn : (shard now : ℕ) (turn : Option Job) → LoggedCall
   -- the observer of a lease is notified at this time, with this message ID.
   NotesTurn : (turn : Turn) (id now random : ℕ) (told : Notification) (noted : Noted) → LoggedCall

@@ -1,7 +1,7 @@
 //! Calls of a shard.
 //!
-//! The contract of a call mentions only the shard that is passed to it. The workers (`fc_workers`)
-//! call a shard by one of these under the shard's lock, and `fc_filed` files the calls.
+//! The contract of a call mentions only the shard that is passed to the call. The workers
+//! (`fc_workers`) make these calls under the shard's lock, and `fc_filed` files them.
 ghost use Rattle.std.specs.Prelude.{◌≡◌, ℕ, ◌+◌, ⊤, if◌then◌else◌};
 ghost use Rattle.fc_registry.specs.Notes.{noted_as};
 ghost use Rattle.fc_registry.specs.Slots.{IsOwned, Shard as Seen};
@@ -23,15 +23,15 @@ use std::sync::Arc;
 
 /// A call of a shard, with its arguments.
 ///
-/// It keeps the shard's index, and the time after which the shard's notifications are confirmable
-/// again. Its result reports the increase of the sum of the serials of the shard's slots; a tally
-/// counts this number. If it is 0, no slot changes. Large results are written in place, into the
-/// caller's room.
+/// A call changes neither the shard's index, nor the time after which the shard's notifications are
+/// confirmable again. The result reports by how much the sum of the serials of the shard's slots
+/// increased; a tally counts this number. If it is 0, no slot changed. A large result is written in
+/// place, into the caller's room.
 pub trait ShardCall {
     /// The shard's result.
     type Answer;
 
-    /// The caller's room that it writes into; `()` if it writes nothing.
+    /// The caller's room that the call writes into; `()` if it writes nothing.
     type Room;
 
     // The shards that may be called.
@@ -225,7 +225,7 @@ impl ShardCall for Signal {
 
 /// Retransmits the first notification that has timed out, or removes its observer.
 ///
-/// The time is in milliseconds. See [`Shard::tick`].
+/// `now` is in milliseconds. See [`Shard::tick`].
 #[derive(Drop)]
 pub struct Tick {
     pub now: u64,
@@ -245,7 +245,7 @@ impl ShardCall for Tick {
 
 /// Advances an idle shard to a time in milliseconds.
 ///
-/// It is idle if no notification has timed out and no observer has a pending one. See
+/// A shard is idle if no notification has timed out and no observer has a pending one. See
 /// [`Shard::advance_if_idle`].
 #[derive(Drop)]
 pub struct AdvanceIfIdle {
@@ -282,7 +282,7 @@ impl ShardCall for IdleUntil {
 
 /// Grants a lease to the first observer with a pending notification.
 ///
-/// The time is in milliseconds. See [`Shard::write_due`].
+/// `now` is in milliseconds. See [`Shard::write_due`].
 #[derive(Drop)]
 pub struct NextDue {
     pub now: u64,

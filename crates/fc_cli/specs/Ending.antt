@@ -23,7 +23,7 @@ explained DisplayHelp = Done
 explained DisplayVersion = Done
 explained mistake = Bad
 
--- the program ends with this status because its words aren't a command, for some reason.
+-- the program's words aren't a command, and this is the status for the reason.
 pub record IsExplained (status : Status) : Type 0 where
   pub reason : ErrorKind
   pub ends : status ≡ explained reason

@@ -19,7 +19,7 @@ pub const VERSION: &str = "0.1.0, of sources that rattle-kit-13f logic dac8208d6
 
 /// Returns the words of the command line, or `None` if one of them isn't UTF-8.
 ///
-/// In that case a message is written to `err`, and the program ends with `Bad`.
+/// In that case a message is written to `err`, and the caller is to end with `Bad`.
 ///
 /// # Errors
 /// Returns an error if the words can't be read, if memory can't be allocated, or if `err` fails.
@@ -39,8 +39,8 @@ pub fn words<R: Runtime + AllocGlobal, E: Write>(
 
 /// Prints why the words aren't a command, and returns the program's status.
 ///
-/// For words that ask for help or the version, prints that and returns `Done`. Returns `Failed` if
-/// memory couldn't be allocated, and `Bad` for any other reason.
+/// For words that ask for help or the version, prints the help or version and returns `Done`.
+/// Returns `Failed` if memory couldn't be allocated, and `Bad` for any other reason.
 ///
 /// # Errors
 /// Returns an error if printing fails.
@@ -55,9 +55,10 @@ pub fn explain<R: Runtime>(rt: &R, error: &Error) -> anyhow::Result<Status>
     })
 }
 
-/// Parses the words of the command line by a command.
+/// Parses the words of the command line as `command` defines them.
 ///
-/// If they don't match, prints why, and returns the program's status.
+/// If the words don't match, prints why and returns the program's status as the inner error. See
+/// [`explain`].
 ///
 /// # Errors
 /// Returns an error if printing fails.
@@ -74,9 +75,9 @@ pub fn parse<'a, R: Runtime>(
     }
 }
 
-/// Returns the exit code for a program's end, that of `main`.
+/// Returns the exit code of `main`, from the result of the program.
 ///
-/// A failure is written to `err`, and has the exit status 3.
+/// The exit code is that of the status. An error is written to `err`, and has the exit status 3.
 pub fn exit_code<E: Write>(err: &mut E, ended: anyhow::Result<Status>) -> ExitCode
     ensures ended { IfOk ended (λ status. exit_status result ≡ status_number status) }
     ensures failed { IfErr ended (λ _. exit_status result ≡ 3) }

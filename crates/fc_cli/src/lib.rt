@@ -4,7 +4,7 @@
 //!
 //! # What is proved
 //!
-//! - Each outcome of a program has its exit status. Words that aren't a command give 2. Help
+//! - Each outcome of a program has its own exit status. Words that aren't a command give 2. Help
 //!   and the version give 0, and a failed allocation gives 3.
 //!
 //! By the contracts of `Status`, `Stop::status`, `exit_code`, `explain`.

@@ -1,4 +1,4 @@
-//! A first message ID from random bytes of the system, for a server.
+//! A server's first message ID, from random bytes of the system.
 use std::io;
 use std::random::RandomSource;
 

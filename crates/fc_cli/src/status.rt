@@ -35,7 +35,7 @@ impl From<Status> for ExitCode {
     }
 }
 
-/// Writes to `err`, in a line, why a program ends with `status`.
+/// Writes `why`, the reason for ending with `status`, and a line feed to `err`.
 ///
 /// Returns `status`, or `Failed` if writing fails.
 pub fn tell<E: Write, D: Display>(err: &mut E, why: &D, status: Status) -> Status

@@ -27,10 +27,10 @@ pub enum Stop {
 }
 
 impl Stop {
-    /// Makes the reason why reading the line with this number failed.
+    /// Makes a reason from the error of reading the line with this number.
     ///
-    /// It is `BadLine` if the reader reports `InvalidData`, for example for a line that is too
-    /// long. Any other error is one of the input.
+    /// The reason is `BadLine` if the reader reports `InvalidData`, for example for a line that is
+    /// too long. Any other error makes the reason `Input`.
     pub fn at_line(error: io::Error, number: u64) -> Stop
         ensures bad { error_kind error ≡ ErrorKind.InvalidData → result ≡ Stop.BadLine number }
         ensures failed { error_kind error ≢ ErrorKind.InvalidData → result ≡ Stop.Input error }

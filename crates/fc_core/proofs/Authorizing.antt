@@ -1,4 +1,4 @@
--- Handling of a request that its endpoint isn't allowed to send.
+-- The handling of a request that its endpoint isn't allowed to send.
 use Rattle.std.proofs.Common.{◌≡◌, Bool, true, false, refl, sym, ap, ◌∙◌}
 use Rattle.coap_msg.specs.Wire.{Message}
 use Rattle.coap_msg.specs.declared.code.Code.{Code}
@@ -12,7 +12,7 @@ use Rattle.fc_core.specs.Exchanges.{FrontState}
 use Rattle.fc_core.specs.Policies.{is_allowed}
 use Rattle.fc_core.specs.Receiving.{Received, Refused, received_if}
 
--- a request that is refused in the end is refused to the front.
+-- if a request is refused after the check of its endpoint, the front refuses it by the same code.
 pub is_refused : (f : FrontState) (to : Endpoint) (m : Message) (asking : Asking (Unit {0})) (request : Request) (answer : Code) (allowed : Bool)
     → is_allowed f.managers to request.action ≡ allowed → authorized allowed asking ≡ Refuse answer → new_request f to m asking request ≡ Refused m answer.byte
 is_refused f to m (Serve done) request answer true allowed is = absurd (cc is)

@@ -1,5 +1,6 @@
--- Transitions by one column: an event that is a call is a step, with the data of the event and of
--- the stage that needs it; any other event doesn't change its job.
+-- Transitions by cases of one value, a step, instead of an event and a stage. An event that is a
+-- call is a step, with the data of the event and of the stage that needs the call. Any other event
+-- doesn't change its job.
 use Rattle.std.proofs.Common.{◌≡◌, ℕ, Bool, true, false, Option, Some, None, List, [], refl, ap, length, max}
 use Rattle.std.specs.Prelude.{◌==◌, not}
 use Rattle.arrayvec.specs.ArrayVec.{ArrayVec}
@@ -28,9 +29,9 @@ use Rattle.fc_core.specs.Steps as calls
 abbrev at : Job → Slot → Around → Stage → Inputs
 at job slot ws stage = record { job = job; slot = slot; around = ws; stage = stage }
 
--- an event at a stage that needs it, with the data of both.
+-- an event at a stage that needs it, with the data of the event and of the stage.
 pub data Step : Type 0 where
-  -- reads of the head word of slot n: by a run, and by a list.
+  -- reads of the head word of slot n: by a run, and by a list of head words.
   Matches : (n : ℕ) → Step
   Lists : (n : ℕ) (seen : ArrayVec ℕ) → Step
   -- snapshots of a run and of a lease.
@@ -45,10 +46,10 @@ pub data Step : Type 0 where
   Draws : (now : ℕ) (turn : Turn) (found : Option Ticket) → Step
   Notes : (now random : ℕ) (turn : Turn) (found : Option Ticket) (id : ℕ) → Step
   GivesUp : (now : ℕ) (turn : Turn) (needs : TurnStage) → Step
-  -- of a worker, whatever its job needs.
+  -- the loss of a worker, whatever its job needs.
   Loses : (needs : Stage) → Step
 
--- the event, of job k
+-- the event of a step, for job k.
 abbrev pub event_by : ℕ → Step → Event
 event_by k (Matches n) = Peek k n
 event_by k (Lists n seen) = Peek k n
@@ -65,7 +66,7 @@ event_by k (Notes now random turn found id) = Note k now random
 event_by k (GivesUp now turn needs) = GiveUp k now
 event_by k (Loses needs) = Lose k
 
--- and the stage that needs it
+-- the stage of a step.
 abbrev pub stage_by : Step → Stage
 stage_by (Matches n) = ToMatch
 stage_by (Lists n seen) = ToList seen
@@ -88,7 +89,7 @@ IsAsked (Matches n) job = (n == job.origin.slot) ≡ true
 IsAsked (Lists n seen) job = (n == length seen.items) ≡ true
 IsAsked other job = Unit {0}
 
--- its call, with the result by the job's slot and its surroundings.
+-- the call of a step, with the result that the job's slot and its surroundings determine.
 abbrev pub call_by : Step → Job → Slot → Around → Call
 call_by (Matches n) job slot ws = calls.Matches job.etags.items (word_at ws.common.words n)
 call_by (Lists n seen) job slot ws = calls.Lists seen (word_at ws.common.words n)
@@ -105,16 +106,16 @@ call_by (Notes now random turn found id) job slot ws = calls.Notes turn found id
 call_by (GivesUp now turn needs) job slot ws = calls.GivesUp turn needs
 call_by (Loses needs) job slot ws = calls.Loses needs
 
--- its event names its job
+-- the event of a step names the step's job.
 pub names_job : (k : ℕ) (c : Step) → names (event_by k c) ≡ Some k
 names_job k (Matches n) = refl
 names_job k other = refl
 
--- transition of a step.
+-- the transition of a step.
 abbrev pub effect_by : Step → Job → Slot → Around → Effect
 effect_by c job slot ws = effect_of (event_by 0 c) (at job slot ws (stage_by c)) (Some (call_by c job slot ws))
 
--- transition of a commit, by its outcome at a slot of this serial.
+-- the transition of a commit with this outcome, at a slot of this serial.
 abbrev pub committed : CommitOutcome → ℕ → Ticket → ℕ → ℕ → Around → Effect
 committed o count t now serial ws = record {
   stage = after_commit count t (commits o t serial ws.watch).answer;
@@ -124,10 +125,10 @@ committed o count t now serial ws = record {
   raises = None;
 }
 
--- ---- an event that is no step
+-- ---- an event that isn't a step
 
--- properties of an event that is no call for a job: it is a no-op, answers nothing, passes no time
--- and gives no ticket.
+-- properties of an event that is no call for a job. The event is a no-op, answers nothing, passes
+-- no time and gives no ticket.
 pub record Rests (e : Event) (job : Job) (s : Stage) : Type 0 where
   pub none : (slot : Slot) (ws : Around) → call_at e (at job slot ws s) (at job slot ws s).stage ≡ None
   pub noop : (k : ℕ) → names e ≡ Some k → is_noop_at e job.origin.slot s ≡ true
@@ -152,8 +153,8 @@ module _ (P : Event → Stage → Effect → Type 0) (job : Job) (slot : Slot) (
   lists k n seen true is = step k (Lists n seen) is
   lists k n seen false is = rest (Peek k n) (ToList seen) (rests (λ slot ws. ap (λ (b : Bool). call_if b (call_by (Lists n seen) job slot ws)) is) (λ j named. ap not is) refl refl (λ slot ws cs. refl))
 
-  -- a property of each step with its transition, and of each event that is none and changes
-  -- nothing, holds for each transition.
+  -- a property holds for each transition if it holds for each step with its transition, and for
+  -- each event that is no step.
   pub by_step : (e : Event) (s : Stage) → P e s (transition e (at job slot ws s))
   by_step (Peek k n) ToMatch = matches k n (n == job.origin.slot) refl
   by_step (Peek k n) (ToList seen) = lists k n seen (n == length seen.items) refl
@@ -183,6 +184,6 @@ module _ (P : Event → Stage → Effect → Type 0) (job : Job) (slot : Slot) (
   by_step (Lose k) s = step k (Loses s) tt
   by_step other s = rest other s (rests (λ slot ws. refl) (λ j is. no_job is) refl refl (λ slot ws cs. refl))
 
--- the same for a property that doesn't mention the event.
+-- the lemma above for a property that doesn't mention the event.
 pub by_effect : (P : Stage → Effect → Type 0) (job : Job) (slot : Slot) (ws : Around) → ((c : Step) → IsAsked c job → P (stage_by c) (effect_by c job slot ws)) → ((s : Stage) → P s (goes_to s)) → (e : Event) (s : Stage) → P s (transition e (at job slot ws s))
 by_effect P job slot ws step rest e s = by_step (λ d st m. P st m) job slot ws (λ k c asked. step c asked) (λ d st w. rest st) e s

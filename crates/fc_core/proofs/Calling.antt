@@ -1,4 +1,5 @@
--- The calls of each event on the observers of slots, and that these observers' requests are within their limits.
+-- The calls of each event on the observers of slots. The requests of these observers are within
+-- their limits.
 use Rattle.std.proofs.Common.{◌≡◌, ℕ, ◌<◌, ◌+◌, ◌*◌, ◌%◌, List, [], ◌∷◌, ◌++◌, Bool, true, false, Option, Some, None, max, refl, sym, ap, ◌∙◌, subst, arith, cond, if◌then◌else◌}
 use Rattle.std.specs.Prelude.{◌==◌, find, nat_lt, IfSome}
 use Rattle.std.proofs.lemmas.Bool.{ltb-true}
@@ -47,8 +48,8 @@ use Rattle.fc_core.proofs.Watches.{after_append}
 
 -- ---- the calls of an event of a job
 
--- no calls; or those of a commit that has nothing to write, of the snapshot of a lease, of its
--- notification, or of the release of a lease.
+-- the calls of an event of a job: none, those of a commit without a write, of a lease's snapshot,
+-- of its notification, or of its release.
 pub data CallsBy (e : Event) (ws : Around) (at : Stage) (cs : List ObserverCall) : Type 0 where
   NoCall : (is : cs ≡ []) → CallsBy e ws at cs
   OfCommit : (k now n time : ℕ) (t : Ticket) (event : e ≡ Commit k now) (stands : at ≡ ToCommit n t) (is : cs ≡ observe_calls time t) → CallsBy e ws at cs
@@ -85,12 +86,12 @@ step_calls k other job slot ws = NoCall refl
 pub transition_calls : (e : Event) (job : Job) (slot : Slot) (ws : Around) (s : Stage) → CallsBy e ws s (transition e (at job slot ws s)).calls
 transition_calls e job slot ws s = by_step (λ d st m. CallsBy d ws st m.calls) job slot ws (λ k c asked. step_calls k c job slot ws) (λ d st rest. NoCall refl) e s
 
--- ---- a call keeps them within
+-- ---- a call keeps the requests within their limits
 
 abbrev pub EntryWithin : Entry → Type 0
 EntryWithin o = RequestWithin o.request
 
--- the request of a registration is within the limits.
+-- if the call registers an observer, the observer's request is within the limits.
 abbrev CallWithin : ObserverCall → Type 0
 CallWithin (Register now to token request szx serial) = RequestWithin request
 CallWithin other = Unit {0}

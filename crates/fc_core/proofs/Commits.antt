@@ -30,7 +30,8 @@ commit_done ran t slot v (Done m) after w = own_done ran t slot v (Done m) after
 commit_done ran t slot v Overtaken after w = tt
 commit_done ran t slot v Ended after w = tt
 
--- a commit to the slot that gave the ticket, with these observers.
+-- the result of a commit, and the slot after it, are those of the transition. The slot gave the
+-- ticket, and has these observers.
 pub record IsTransition (t : Ticket) (slot : Slot) (v : ObserverList) (c : Committed) (after : Slot) : Type 0 where
   pub answer : c ≡ (commits (outcome t slot) t slot.serial v).answer
   pub after_is : after ≡ after_changes slot (commits (outcome t slot) t slot.serial v).changes
@@ -49,11 +50,11 @@ commit_transition ran t slot v (Done m) after p r vars readings given none w = o
 commit_transition ran t slot v Overtaken after p r vars readings given none w = own_transition ran t slot v Overtaken after given w
 commit_transition ran t slot v Ended after p r vars readings given none w = own_transition ran t slot v Ended after given w
 
--- a shard after a commit at a slot, which has this state then.
+-- the shard after a commit with this result, whose slot is in this state then.
 abbrev pub left_by : Ticket → ℕ → Shard → Committed → Slot → Shard
 left_by t now shard c after = with_calls (commit_calls c (max shard.now now) t) t.origin.slot (with_slot (record shard { now = max shard.now now }) t.origin.slot after)
 
--- it is the shard of the transition.
+-- the shard after a commit is that of the transition.
 pub shard_of_transition : (o : CommitOutcome) (n : ℕ) (t : Ticket) (now : ℕ) (shard : Shard) → (let called = commits o t (slot_in shard t.origin.slot).serial (watch_at shard (t.origin.slot / 8)) in left_by t now shard called.answer (after_changes (slot_in shard t.origin.slot) called.changes) ≡ left_by t now shard called.answer (after_changes (slot_in shard t.origin.slot) (changes_of_call (Commits n t called.answer))))
 shard_of_transition Writes n t now shard = refl
 shard_of_transition Keeps n t now shard = refl

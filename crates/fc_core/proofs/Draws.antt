@@ -1,4 +1,4 @@
--- No draws.
+-- A list of 65,536 times `None` records no draws.
 use Rattle.std.proofs.Common.{◌≡◌, None, replicate, refl}
 use Rattle.fc_core.specs.Ids.{no_draws}
 

@@ -74,13 +74,13 @@ turn_changed job slot (turns.ToNote (Some t) id) cs own = ticket_changed job slo
 turn_changed job slot (turns.ToNote None id) cs own = tt
 turn_changed job slot turns.ToTake cs own = tt
 
--- a job fits its slot after changes
+-- a job that fits its slot fits it after each list of changes.
 pub fits_changed : (job : Job) (slot : Slot) (s : Stage) (cs : List Change) → FitsStage job slot s → FitsStage job (after_changes slot cs) s
 fits_changed job slot (ToCommit n t) cs f = (f.0, ticket_changed job slot t cs f.1, f.2)
 fits_changed job slot (ToTell turn needs) cs f = (f.0, f.1, turn_changed job slot needs cs f.2)
 fits_changed job slot other cs f = f
 
--- a job that lists head words has at least one left to read.
+-- if a job lists head words, at least one is left to read.
 pub fits_next : (job : Job) (slot : Slot) (s : Stage) → FitsStage job slot s → HasNext s
 fits_next job slot (ToList seen) f = f
 fits_next job slot other f = tt
@@ -171,7 +171,7 @@ step_fits (steps.Raises word content) job slot ws f = f
 step_fits (steps.Draws now turn found) job slot ws f = (f.0, f.1, drawn_fits job slot found (ws.common.free now) f.2)
 step_fits other job slot ws f = tt
 
--- a job that an event changed fits its slot as before.
+-- a job that fits its slot fits the slot after each transition of the job.
 pub transition_fits : (e : Event) (job : Job) (slot : Slot) (ws : Around) (s : Stage) → FitsStage job slot s → FitsStage job slot (transition e (at job slot ws s)).stage
 transition_fits e job slot ws s =
     by_effect (λ st m. FitsStage job slot st → FitsStage job slot m.stage) job slot ws
@@ -189,13 +189,13 @@ outcome_tests true false below e = absurd (cc)
 outcome_tests true true false e = absurd (cc)
 outcome_tests true true true e = (refl, refl)
 
--- a commit that writes finds the state of its ticket.
+-- a commit that writes finds its slot in the state of the ticket.
 pub writes_found : (slot : Slot) (t : Ticket) → HasGiven slot t → outcome t slot ≡ Writes → slot.present ≡ Some t.found
 writes_found slot t g e =
     let tests = outcome_tests (wants t) (slot.serial == t.serial) (nat_lt slot.serial last_serial) e in
     g.present (sym (eqb-true slot.serial t.serial tests.1))
 
--- a commit that writes is a link
+-- a commit that writes is a link of the slot's chain.
 writes_link : (slot : Slot) (t : Ticket) → HasGiven slot t → outcome t slot ≡ Writes → IsLink slot (commit_of t)
 writes_link slot t g e =
     let tests = outcome_tests (wants t) (slot.serial == t.serial) (nat_lt slot.serial last_serial) e in
@@ -251,7 +251,8 @@ request_fits : (ask : Ask) → AskWithin ask → FitsRegion (request_of ask)
 request_fits (Run request) f = record { query = f.0; payload = f.1 }
 request_fits other f = record { query = omega arith; payload = omega arith }
 
--- a slot that fits gives a job within its limits an input of its program.
+-- the variables of a program that fits, and the request of a job within its limits, are an input of
+-- the program.
 pub is_input : (job : Job) (p : Present) (request : Request) (readings : List ℕ) → AskWithin job.ask → request ≡ request_of job.ask → FitsPresent p → IsInput p.program (input_with request p.vars readings)
 is_input job p request readings within is fits = record { fits = subst FitsRegion (sym is) (request_fits job.ask within); vars = fits.vars }
 

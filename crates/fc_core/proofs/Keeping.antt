@@ -1,4 +1,4 @@
--- For any event, the summary of a history stays sound.
+-- The summary of a history stays sound after any event.
 use Rattle.std.proofs.Common.{◌≡◌, ℕ, ◌<◌, ◌≤◌, List, [], ◌∷◌, ◌++◌, Bool, true, false, Option, Some, None, Result, Ok, Err, length, map, refl, sym, ap, ◌∙◌, subst, arith, max, if◌then◌else◌}
 use Rattle.std.specs.Prelude.{◌==◌}
 use Rattle.std.proofs.lemmas.Bool.{eqb-true}
@@ -122,11 +122,11 @@ grows s e (Some k) n = grows_if s e k n ((job s k).origin.slot == n) refl
 abbrev slot_after : Option ℕ → Event → Seen → ℕ → Slot
 slot_after o e s n = after_changes (new_slot s.first_serial) (changes_after o e s n)
 
--- a slot after an event is the slot before it, after changes
+-- a slot after an event is the slot before it, after the changes of the event.
 pub slot_grows : (s : Seen) (e : Event) (o : Option ℕ) (n : ℕ) (g : Grows s e o n) → slot_after o e s n ≡ after_changes (slot_at s n) g.made
 slot_grows s e o n g = ap (after_changes (new_slot s.first_serial)) g.is ∙ after_changes-append (new_slot s.first_serial) g.made (s.changes n)
 
--- a job that fits its slot still does
+-- a job that fits its slot still fits it after an event.
 later_fits : (s : Seen) (e : Event) (o : Option ℕ) (j : Job) (st : Stage) → FitsStage j (slot_at s j.origin.slot) st → FitsStage j (slot_after o e s j.origin.slot) st
 later_fits s e o j st f =
     let g = grows s e o j.origin.slot in
@@ -189,7 +189,7 @@ safe_if s e k n true is a made f =
     (transition_safe e (job s k) (slot_at s m) (around s (job s k).origin.slot) (stage s k) (a.within k).1 (a.stages k) made (f.slots m)))
 safe_if s e k n false is a made f = f.slots n
 
--- the install by the event that names a job is safe.
+-- each program that the event installs is safe.
 abbrev pub IsSafeEffect : Option ℕ → Event → Seen → Type 0
 IsSafeEffect None e s = Unit {0}
 IsSafeEffect (Some k) e s = AllSafe (transition e (inputs s k)).changes

@@ -1,4 +1,4 @@
--- An event that names a job has no shard of its own.
+-- An event that names a job names no shard.
 use Rattle.std.proofs.Common.{◌≡◌, ℕ, Some, refl}
 use Rattle.fc_core.specs.declared.event.Event.{Event}
 use Rattle.fc_core.specs.declared.event.Event.TheVariants.{Signal, ShardTick, Due}

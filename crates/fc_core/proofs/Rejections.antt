@@ -1,4 +1,4 @@
--- A refused image results in its answer, and in no change.
+-- A refused image makes the answer of its job, and no change.
 use Rattle.std.proofs.Common.{◌≡◌, ℕ, ◌<◌, ◌/◌, List, Bool, sym, ap, ◌∙◌, subst}
 use Rattle.std.specs.Prelude.{nat_lt}
 use Rattle.std.proofs.lemmas.Bool.{lt-ltb, le-ltb}
@@ -15,7 +15,7 @@ use Rattle.fc_core.specs.Ends.{refused_by}
 use Rattle.fc_core.specs.Transitions.{install_call}
 use Rattle.fc_core.specs.Steps.{Rejects}
 
--- the call of a refusal is that of the judgement.
+-- the call for a refused image is that of the image's judgement.
 pub rejected_call : (image : List ℕ) (v : InitialVars) (j : Judgement) (f : Fault) (slot : Slot) → IsFaultOf image j f → Rejects (refused_by (nat_lt (number_of f.rule) 20) f) ≡ install_call v j slot
 rejected_call image v (Accepts p) f slot is = absurd is
 rejected_call image v (Breaks rule k) f slot is =
@@ -23,6 +23,6 @@ rejected_call image v (Breaks rule k) f slot is =
     ap (λ (b : Bool). Rejects (refused_by b f)) (lt-ltb (number_of f.rule) 20 low) ∙ λ i. Rejects (Rejected (is.0 i) (is.1 i))
 rejected_call image v Untypable f slot is = ap (λ (b : Bool). Rejects (refused_by b f)) (le-ltb (number_of f.rule) 20 is.0)
 
--- a slot written unchanged.
+-- a slot that is written as it was leaves the shard unchanged.
 pub same_slot : (shard : Shard) (n : ℕ) → with_slot shard n (slot_in shard n) ≡ shard
 same_slot shard n = λ i. record shard { slots = set-get_or shard.slots (n / 8) (new_slot 0) i }

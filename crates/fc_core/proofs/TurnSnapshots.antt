@@ -1,4 +1,4 @@
--- The snapshot of a lease's job at its shard is the transition of its lease.
+-- The snapshot of a lease's job at its shard is the transition of the job.
 use Rattle.std.proofs.Common.{◌≡◌, ℕ, ◌/◌, List, Bool, true, false, Option, Some, None, refl, sym, ap, ◌∙◌}
 use Rattle.fc_observe.specs.declared.entry.Turn.{Turn}
 use Rattle.fc_observe.specs.Calls.{ObserverCall}
@@ -19,7 +19,7 @@ use Rattle.fc_core.specs.Transitions.{Common, Inputs, around_of, transition, inp
 use Rattle.fc_core.proofs.Rejections.{same_slot}
 use Rattle.std.proofs.Common.{subst}
 
--- the result says whether memory could be allocated.
+-- the result of a lease's snapshot determines whether memory could be allocated.
 had : (out memory : Bool) (readings : List ℕ) (job : Job) (serial : ℕ) (p : Option Present)
     → let x = turn_snapshot out (readings_if memory readings) job serial p in x ≡ turn_snapshot out (readings_if (had_memory x) readings) job serial p
 had false memory readings job serial p = refl

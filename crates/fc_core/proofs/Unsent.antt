@@ -10,7 +10,7 @@ use Rattle.fc_core.specs.Exchanges.{FrontState, has_exchange, opening_is_live}
 use Rattle.fc_core.specs.Legal.{AnswerEmits, IsAnswered}
 use Rattle.fc_core.specs.Receiving.{id_in}
 
--- the opening of no exchange is never live.
+-- the opening of a job without an exchange is never live.
 pub never_live : (o : Opening) (now : ℕ) → has_exchange o ≡ false → opening_is_live now o ≡ false
 never_live o now none = and_left (has_exchange o) (nat_lt now (o.at + 247000)) none
 

@@ -1,4 +1,4 @@
--- Calls of signals and ticks on the observers of a slot.
+-- The calls of signals and ticks on the observers of a slot.
 use Rattle.std.proofs.Common.{◌≡◌, ℕ, ◌+◌, ◌*◌, ◌%◌, List, [], ◌∷◌, ◌++◌, Bool, true, false, Option, Some, None, max, refl, ap, ◌∙◌, sym, if◌then◌else◌}
 use Rattle.std.specs.Prelude.{◌==◌}
 use Rattle.std.proofs.lemmas.Bool.{eq-eqb, ne_eqb}
@@ -10,12 +10,12 @@ use Rattle.fc_registry.specs.Watches.{signal_call}
 use Rattle.fc_core.specs.declared.event.Event.TheVariants.{Signal, ShardTick}
 use Rattle.fc_core.specs.History.{Seen, and_then, did, is_place_of, overdue_in, watch}
 
--- the observers after more calls
+-- the observers after two lists of calls are those after the older and then the newer one.
 pub after_append : (n confirm_after : ℕ) (cs ds : List ObserverCall) → observers n confirm_after (cs ++ ds) ≡ after_calls cs (observers n confirm_after ds)
 after_append n confirm_after [] ds = refl
 after_append n confirm_after (c ∷ cs) ds = ap (observers_after c) (after_append n confirm_after cs ds)
 
--- a call on the observers, or none
+-- the observers after a call or none are determined by the condition of the call.
 pub called : (s : Seen) (n : ℕ) (c : ObserverCall) (b d : Bool) → b ≡ d → observers n s.policy.confirm_after ((if b then c ∷ [] else []) ++ s.calls n) ≡ observers n s.policy.confirm_after ((if d then c ∷ [] else []) ++ s.calls n)
 called s n c b d is = ap (λ (x : Bool). observers n s.policy.confirm_after ((if x then c ∷ [] else []) ++ s.calls n)) is
 
@@ -28,7 +28,7 @@ acknowledged_here s i n id to o is = called s n (signal_call false to id) ((n % 
 pub signalled_elsewhere : (s : Seen) (i n id : ℕ) (to : Endpoint) (o : Option Emission) (reset : Bool) → (n % 8 ≡ i → ⊥) → watch (and_then (did (Signal i to id reset) o) s) n ≡ watch s n
 signalled_elsewhere s i n id to o reset ne = called s n (signal_call reset to id) ((n % 8) == i) false (ne_eqb (n % 8) i ne)
 
--- by the place with a notification that has timed out.
+-- the observers after a tick are determined by the place with a notification that has timed out.
 ticked_by : (s : Seen) (i n now : ℕ) (o p : Option ℕ) → o ≡ p → observers n s.policy.confirm_after ((if is_place_of o i n then TickObservers now ∷ [] else []) ++ s.calls n) ≡ observers n s.policy.confirm_after ((if is_place_of p i n then TickObservers now ∷ [] else []) ++ s.calls n)
 ticked_by s i n now o p is = ap (λ (x : Option ℕ). observers n s.policy.confirm_after ((if is_place_of x i n then TickObservers now ∷ [] else []) ++ s.calls n)) is
 

@@ -23,10 +23,10 @@ use Rattle.fc_core.specs.Transitions.{names}
 
 -- ---- the origin of an answer
 
--- the event names job k, and makes its answer 5.03. The job is at this stage, this is its slot, and
--- it has had this many tickets. One of three things happens. Memory for a ticket or an install
--- can't be allocated, the slot changed under the eighth ticket, or the slot is at its last serial
--- and has to change.
+-- the event makes the answer of job k 5.03. The job is at this stage, in this slot, and has had
+-- this many tickets. Memory for a ticket or an install was refused (`NoTicket`, `NoMemory`), or the
+-- slot changed under the eighth ticket (`Overtaken`). Or the slot is at its last serial and has to
+-- change.
 pub data IsUnavailable (e : Event) (k : ℕ) (j : Job) (slot : Slot) (at : Stage) (taken : ℕ) : Type 0 where
   NoTicket : (count : ℕ) (readings : List ℕ) (p : Present) (event : e ≡ Take k false readings) (is : at ≡ ToTake count) (found : slot.present ≡ Some p) → IsUnavailable e k j slot at taken
   NoMemory : (event : e ≡ Install k false) (is : at ≡ ToInstall) → IsUnavailable e k j slot at taken
@@ -35,14 +35,14 @@ pub data IsUnavailable (e : Event) (k : ℕ) (j : Job) (slot : Slot) (at : Stage
   LastInstall : (p : Program) (event : e ≡ Install k true) (is : at ≡ ToInstall) (accepted : judged (image_of j.ask) ≡ Accepts p) (last : 9223372036854775807 ≤ slot.serial) → IsUnavailable e k j slot at taken
   LastRemoval : (p : Present) (event : e ≡ Remove k) (is : at ≡ ToRemove) (found : slot.present ≡ Some p) (last : 9223372036854775807 ≤ slot.serial) → IsUnavailable e k j slot at taken
 
--- the event makes the answer 4.04: the job's snapshot finds the slot empty, or there is nothing to
--- describe.
+-- the event makes the answer of job k 4.04: the job's snapshot finds the slot empty, or there is no
+-- program to describe.
 pub data IsMissing (e : Event) (k : ℕ) (slot : Slot) (at : Stage) : Type 0 where
   NothingTaken : (memory : Bool) (readings : List ℕ) (count : ℕ) (event : e ≡ Take k memory readings) (is : at ≡ ToTake count) (empty : slot.present ≡ None) → IsMissing e k slot at
   NothingDescribed : (event : e ≡ Receipt k) (is : at ≡ ToDescribe) (empty : slot.present ≡ None) → IsMissing e k slot at
 
--- the event installs a program: the receipt is the program's, with the slot's new serial as its
--- version. The program is created exactly if the slot was empty.
+-- the event installs a program. The receipt is that of the program, with the slot's new serial as
+-- its version. The program is created exactly if the slot was empty.
 pub record IsMade (e : Event) (k : ℕ) (j : Job) (slot : Slot) (at : Stage) (receipt : Facts) (created : Bool) : Type 0 where
   pub program : Program
   pub event : e ≡ Install k true
@@ -55,15 +55,15 @@ pub record IsMade (e : Event) (k : ℕ) (j : Job) (slot : Slot) (at : Stage) (re
   pub vars : receipt.vars ≡ program.vars_size
   pub empty : created ≡ is_none slot.present
 
--- the event refuses the job's image, with this judgement.
+-- the event refuses the image of the job, which is judged in this way.
 pub record IsRefused (e : Event) (k : ℕ) (j : Job) (at : Stage) (judgement : Judgement) : Type 0 where
   pub event : e ≡ Install k true
   pub is : at ≡ ToInstall
   pub judged_as : judged (image_of j.ask) ≡ judgement
 
--- the event commits a run: the answer has the run's code, its block of the reply and its ticket's
--- serial. A run that wants to write is answered only if the slot is still at its ticket's serial,
--- below the last one.
+-- the event commits a run. The answer has the run's code, the requested block of the run's reply,
+-- and the ticket's serial. A run that wants to write is answered only if the slot is still at the
+-- ticket's serial, and below the last one.
 pub record IsRan (e : Event) (k : ℕ) (slot : Slot) (at : Stage) (run : RunAnswer) : Type 0 where
   pub now : ℕ
   pub count : ℕ
@@ -75,14 +75,15 @@ pub record IsRan (e : Event) (k : ℕ) (slot : Slot) (at : Stage) (run : RunAnsw
   pub serial : run.serial ≡ ticket.serial
   pub writes : wants ticket ≡ true → (slot.serial ≡ ticket.serial) × (slot.serial < 9223372036854775807)
 
--- the event removes the slot's program, or finds none: the slot is below the last serial, or empty.
+-- the event removes the slot's program, or finds the slot empty. A slot with a program is below the
+-- last serial.
 pub record IsDeleted (e : Event) (k : ℕ) (slot : Slot) (at : Stage) : Type 0 where
   pub event : e ≡ Remove k
   pub is : at ≡ ToRemove
   pub may : (slot.present ≡ None) ⊎ (slot.serial < 9223372036854775807)
 
--- the event returns the receipt of the slot's program: its version is that of the install, whatever
--- the slot's serial.
+-- the event returns the receipt of the slot's program. The receipt's version is that of the
+-- install, whatever the slot's serial.
 pub record IsDescribed (e : Event) (k : ℕ) (slot : Slot) (at : Stage) (receipt : Facts) : Type 0 where
   pub found : Present
   pub event : e ≡ Receipt k
@@ -93,20 +94,21 @@ pub record IsDescribed (e : Event) (k : ℕ) (slot : Slot) (at : Stage) (receipt
   pub budget : receipt.budget ≡ found.program.budget
   pub vars : receipt.vars ≡ found.program.vars_size
 
--- this serial is one of these.
+-- the serial is one of these serials.
 pub record HasSerial (serials : List ℕ) (serial : ℕ) : Type 0 where
   pub before : List ℕ
   pub after : List ℕ
   pub is : serials ≡ before ++ serial ∷ after
 
--- the slot's head word is that of a program at this serial, which is one of the request's ETags.
+-- the slot's head word says that the slot has a program at this serial, which is one of the
+-- request's ETags.
 pub record IsValid (e : Event) (k : ℕ) (j : Job) (words : List ℕ) (at : Stage) (serial : ℕ) : Type 0 where
   pub event : e ≡ Peek k j.origin.slot
   pub is : at ≡ ToMatch
   pub word : word_at words j.origin.slot ≡ head_word serial true
   pub asked : HasSerial j.etags.items serial
 
--- the event reads the last of the 64 head words, which the job has read in the order of the slots.
+-- the event reads the last of the 64 head words. The job has read them in the order of the slots.
 pub record IsListed (e : Event) (k : ℕ) (words : List ℕ) (at : Stage) (list : List ℕ) : Type 0 where
   pub seen : ArrayVec ℕ
   pub event : e ≡ Peek k 63
@@ -114,7 +116,7 @@ pub record IsListed (e : Event) (k : ℕ) (words : List ℕ) (at : Stage) (list 
   pub list_is : list ≡ seen.items ++ word_at words 63 ∷ []
   pub count : length list ≡ 64
 
--- the reason why an event gives a job this answer.
+-- the reason why an event gives a job this answer, by the kind of the answer.
 abbrev pub IsCause : Event → ℕ → Job → Slot → List ℕ → Stage → ℕ → Content → Type 0
 IsCause e k j slot words at taken (Ran run) = IsRan e k slot at run
 IsCause e k j slot words at taken Missing = IsMissing e k slot at
@@ -127,28 +129,30 @@ IsCause e k j slot words at taken Deleted = IsDeleted e k slot at
 IsCause e k j slot words at taken (Described receipt) = IsDescribed e k slot at receipt
 IsCause e k j slot words at taken (Listed list) = IsListed e k words at list
 
--- the reason why an event after a history gives the job that it names this answer.
+-- the reason why an event after a history gives job k this answer.
 abbrev pub Causes : History → Entry → ℕ → Content → Type 0
 Causes h r k c = IsCause r.event k (job (seen h) k) (slot_at (seen h) (slot_of (seen h) k)) (seen h).words (stage (seen h) k) (length (snapshots_of h k)) c
 
 -- ---- times
 
+-- the greatest of these numbers, or 0.
 abbrev pub greatest : List ℕ → ℕ
 greatest [] = 0
 greatest (n ∷ ns) = max (greatest ns) n
 
--- time of an answer at its stage.
+-- the time of an answer, if the job is at the stage of its answer.
 abbrev pub answer_time : Stage → ℕ → List ℕ
 answer_time (ToAnswer content) now = now ∷ []
 answer_time other now = []
 
--- time of a lease that draws a message ID.
+-- the time of a draw, if the job is that of a lease that draws a message ID.
 abbrev pub draw_time : Stage → ℕ → List ℕ
 draw_time (ToTell turn (turns.ToDraw found)) now = now ∷ []
 draw_time other now = []
 
--- time that an event passes to the front: that of a delivery, of a timer, of a tick, of an answer at
--- its stage, or of a lease that draws a message ID, whether or not one is available.
+-- the time that an event passes to the front: the time of a delivery, a timer or a tick. An answer,
+-- and the draw of a lease, pass a time at the right stage, whether or not a message ID is
+-- available.
 abbrev pub times_in : Event → Seen → List ℕ
 times_in (Deliver now to bytes) s = now ∷ []
 times_in (Fire slot now) s = now ∷ []
@@ -162,26 +166,26 @@ abbrev pub times_of : History → List ℕ
 times_of (Begins serial id policy) = []
 times_of (Then h r) = times_in r.event (seen h) ++ times_of h
 
--- time of a commit at its stage, of a lease that notifies, or of the release of a lease.
+-- the time of a commit, of a lease's notification, or of its release, at the right stage.
 abbrev pub transition_time : Event → Stage → List ℕ
 transition_time (Commit k now) (ToCommit count t) = now ∷ []
 transition_time (Note k now random) (ToTell turn (turns.ToNote found id)) = now ∷ []
 transition_time (GiveUp k now) (ToTell turn needs) = now ∷ []
 transition_time other at = []
 
--- whether the job that is named, if one is, belongs to a slot of this shard.
+-- whether an event names a job of a slot of this shard.
 abbrev pub is_of_shard : ℕ → Seen → Option ℕ → Bool
 is_of_shard i s None = false
 is_of_shard i s (Some k) = slot_of s k % 8 == i
 
--- time of an event of this shard itself, one of eight.
+-- the time of an event of this shard itself, if the shard is one of the eight.
 abbrev pub own_time : Event → ℕ → List ℕ
 own_time (Due shard now) i = if (shard == i) && nat_lt i 8 then now ∷ [] else []
 own_time (ShardTick shard now) i = if (shard == i) && nat_lt i 8 then now ∷ [] else []
 own_time other i = []
 
--- times that were passed to a shard, the newest first: by its own events, and by the commits,
--- notifications and releases of its slots' jobs.
+-- the times that were passed to a shard, the newest first. The shard's own events pass them, and
+-- the commits, notifications and releases of the jobs of its slots.
 abbrev pub shard_times_of : ℕ → History → List ℕ
 shard_times_of i (Begins serial id policy) = []
 shard_times_of i (Then h r) =

@@ -1,4 +1,4 @@
--- Conditions on an answer: it is sent if the exchange is live and a message ID is available, and is
+-- Conditions on an answer: it is sent if the exchange is live and a message ID is available. It is
 -- late if the exchange isn't live.
 use Rattle.std.specs.Prelude.{ℕ, Bool, true, false, Option, Some, None}
 use Rattle.coap_msg.specs.declared.types.Emission.{Emission}
@@ -19,11 +19,11 @@ Answers true None job content NoId = Unit {0}
 Answers false id job content Late = Unit {0}
 Answers live id job content other = ⊥
 
--- the conditions on an answer, for a front that has advanced to the time.
+-- the conditions on the result of answering a job, by a front that has advanced to the time.
 abbrev pub AnswersIn : FrontState → Job → Content → Answered → Type 0
 AnswersIn f job content answered = Answers (opening_is_live f.now job.origin.opening) (id_in f job.confirmable job.origin.id) job content answered
 
--- an answer whose emission was written.
+-- the result of answering a job, with this emission if a response was written.
 abbrev pub responded : Responded → Emission → Answered
 responded responds.Sent emission = Sent emission
 responded responds.Late emission = Late
@@ -33,7 +33,8 @@ abbrev pub emission_of : Answered → Option Emission
 emission_of (Sent emission) = Some emission
 emission_of other = None
 
--- the front after an answer that emitted this, within the exchange's lifetime or not.
+-- the front after it answered a job with this emission; the flag says whether the job's exchange is
+-- live.
 abbrev pub after_answered_by : Bool → Job → Option Emission → FrontState → FrontState
 after_answered_by true job emitted f = keeping job.origin.opening.number emitted (record f { ids = drawn_for job.confirmable f.ids f.now })
 after_answered_by false job emitted f = f

@@ -1,4 +1,4 @@
--- The handling of a new request.
+-- The handling of a new request, by its verdict.
 use Rattle.std.specs.Prelude.{◌≤◌, length, Bool, true, false}
 use Rattle.coap_msg.specs.Wire.{Message}
 use Rattle.coap_msg.specs.declared.code.TheConstants.Code as registered
@@ -28,14 +28,14 @@ abbrev pub authorized : Bool → Asking (Unit {0}) → Asking (Unit {0})
 authorized false (Serve done) = Refuse registered.FORBIDDEN
 authorized allowed asking = asking
 
--- a request that is served names an existing resource, and is within the limits of its query and
--- its payload.
+-- a request that is served is for an existing resource, and is within the limits of query and
+-- payload.
 pub record IsServable (asked : Asked) : Type 0 where
   pub resource : IsResource (resource_in asked.action)
   pub query : length asked.query ≤ 64
   pub payload : length asked.payload ≤ 1024
 
--- a refusal has the code of a response.
+-- a request that is served is servable, and a refusal has the code of a response.
 abbrev pub IsAsking : Asking (Unit {0}) → Request → Type 0
 IsAsking (Serve done) request = IsServable (asked_by request)
 IsAsking (Refuse answer) request = 64 ≤ answer.byte

@@ -1,4 +1,4 @@
--- Content of an answer. The rule and the slot of a refusal by typing aren't specified.
+-- The content of an answer. The rule and the slot of a refusal by typing aren't specified.
 use Rattle.std.specs.Prelude.{◌≡◌, ◌≤◌, ℕ, Bool, true, List, Option}
 use Rattle.fc_isa.specs.declared.rule.Rule.{Rule}
 use Rattle.fc_registry.specs.declared.receipt.Receipt.{Receipt}
@@ -17,8 +17,9 @@ use Rattle.fc_kinds.specs.Meaning.{Meaning}
 use Rattle.coap_block.specs.Cuts.{Part}
 use Rattle.coap_reply.specs.Blocks.{cut_for}
 
--- answer of a run: its job, its code, the requested block of the reply, if there is one, the serial
--- of its snapshot, and whether the client observes the slot from now on.
+-- the answer of a run: the origin of its job, its code, the requested block of the reply, if there
+-- is one, and the serial of the snapshot. `observed` says whether the client observes the slot from
+-- now on.
 pub record RunAnswer : Type 0 where
   pub by : Origin
   pub code : ℕ
@@ -26,7 +27,7 @@ pub record RunAnswer : Type 0 where
   pub serial : ℕ
   pub observed : Bool
 
--- answer of a run with this meaning.
+-- the answer of a ticket's run with this meaning.
 abbrev pub run_answer : Ticket → Meaning → Bool → RunAnswer
 run_answer t m observed = record { by = t.origin; code = m.code; cut = cut_for t.block m.reply; serial = t.serial; observed = observed }
 
@@ -38,9 +39,9 @@ pub data Content : Type 0 where
   -- the slot is at its last serial, memory can't be allocated, or the slot changed under the eighth
   -- ticket.
   Unavailable : Content
-  -- an install, and whether its slot was empty.
+  -- a program was installed; `created` says whether the slot was empty.
   Made : (receipt : Receipt) (created : Bool) → Content
-  -- the first rule that an image breaks, and its slot.
+  -- the first rule that an image breaks, and the slot of the image that breaks it.
   Rejected : (rule : Rule) (slot : ℕ) → Content
   -- only the typing refuses the image.
   Untyped : Content
@@ -48,12 +49,12 @@ pub data Content : Type 0 where
   Valid : (serial : ℕ) → Content
   -- the slot is empty, whether or not it was before.
   Deleted : Content
-  -- receipt of the slot's program.
+  -- the receipt of the slot's program.
   Described : (receipt : Receipt) → Content
   -- the head words of all slots.
   Listed : (words : List ℕ) → Content
 
--- the outcome, the ticket and the mark belong to one run, the ticket's.
+-- the outcome, the ticket and the mark belong to one run, that of the ticket.
 pub record AreOne (ran : Run) (t : Ticket) (m : Mark) : Type 0 where
   pub run : ran ≡ run_of t
   pub origin : m.origin ≡ t.origin
@@ -70,7 +71,7 @@ abbrev pub IsMadeBelow : Install → Type 0
 IsMadeBelow (Raised serial created) = serial ≤ last_serial
 IsMadeBelow AtEnd = Unit {0}
 
--- the same for a removal.
+-- the new serial of a removal isn't above the last serial.
 abbrev pub IsRemovedBelow : Removal → Type 0
 IsRemovedBelow (removals.Removed serial) = serial ≤ last_serial
 IsRemovedBelow other = Unit {0}

@@ -1,4 +1,4 @@
--- Content of the ends of calls.
+-- The content of an answer whose job ends without a run.
 use Rattle.std.specs.Prelude.{◌≤◌, ℕ, Bool, true, false, nat_lt, List, Option, Some, None}
 use Rattle.fc_isa.specs.Rules.{number_of}
 use Rattle.fc_isa.specs.declared.rule.Fault.{Fault}
@@ -12,7 +12,7 @@ use Rattle.fc_core.specs.declared.answer.AnswerBody.{AnswerBody}
 use Rattle.fc_core.specs.declared.answer.AnswerBody.TheVariants.{Ran, Other}
 use Rattle.fc_core.specs.Contents.{Content, Ran as Runs, Missing as Misses, Unavailable as NotNow, Made as Makes, Rejected as Rejects, Untyped, Valid, Deleted, Described, Listed}
 
--- a refusal by a rule below 20 has its rule and slot, a refusal by typing has neither.
+-- a refusal by a rule below 20 has the rule and the slot; a refusal by typing has neither.
 abbrev pub refused_by : Bool → Fault → Content
 refused_by true f = Rejects f.rule f.slot
 refused_by false f = Untyped
@@ -32,7 +32,7 @@ content_of (Told None) = Misses
 content_of (Told (Some receipt)) = Described receipt
 content_of (Core words) = Listed words.items
 
--- the requested block of the reply, with these bytes; none if the reply has no such block.
+-- the requested block of the reply, with these bytes; `None` if the reply has no such block.
 abbrev pub part_in : Option (Option Place) → List ℕ → Option Part
 part_in None bytes = None
 part_in (Some place) bytes = Some (record { bytes = bytes; place = place })
@@ -42,7 +42,7 @@ said_of (Ran by code block serial observed) bytes =
     Runs (record { by = by; code = code.byte; cut = part_in block bytes; serial = serial; observed = observed })
 said_of (Other end) bytes = content_of end
 
--- the code of a run is that of a response, with class 2 or above.
+-- the code of a run's answer is that of a response, of class 2 or above.
 abbrev pub IsTold : AnswerBody → Type 0
 IsTold (Ran by code block serial observed) = 64 ≤ code.byte
 IsTold (Other end) = Unit {0}

@@ -1,4 +1,4 @@
--- State of a front.
+-- The state of a front.
 use Rattle.std.specs.Prelude.{ℕ, ◌+◌, ◌&&◌, Bool, nat_lt, List, [], filter, max}
 use Rattle.coap_dedup.specs.Exchanges.{Exchange}
 use Rattle.coap_dedup.specs.declared.exchange.Limits.{Limits}
@@ -10,16 +10,17 @@ use Rattle.fc_core.specs.Ids.{Ids, first_ids}
 use Rattle.fc_core.specs.declared.policy.Network.{Network}
 use Rattle.fc_core.specs.declared.policy.Policy.{Policy}
 
--- whether this is the opening of an exchange: fewer than 2^64 - 1 are ever opened.
+-- whether this is the opening of an exchange: its number is less than 2^64 - 1.
 abbrev pub has_exchange : Opening → Bool
 has_exchange opening = nat_lt opening.number 18446744073709551615
 
--- whether an exchange was opened less than EXCHANGE_LIFETIME before.
+-- whether this is the opening of an exchange, less than EXCHANGE_LIFETIME before this time.
 abbrev pub opening_is_live : ℕ → Opening → Bool
 opening_is_live now opening = has_exchange opening && nat_lt now (opening.at + window)
 
--- state of a front: the managers of its server, its limits, its time, the number of exchanges that
--- it opened, the live exchanges, the transfers, and the message IDs that it draws.
+-- the state of a front: the managers' networks, the limits of the exchanges, and the front's time.
+-- Then the number of opened exchanges, the live exchanges, the transfers, and the message IDs that
+-- the server draws.
 pub record FrontState : Type 0 where
   pub managers : List Network
   pub limits : Limits

@@ -1,5 +1,5 @@
--- History of a server, and its summary. A history is a beginning and the events since, each with
--- its emissions. All facts about a history come from one fold over its entries.
+-- The history of a server, and its summary. A history is a beginning and the events since then,
+-- each with its emission. All facts about a history come from one fold over its entries.
 use Rattle.std.specs.Prelude.{ℕ, ◌+◌, ◌*◌, ◌%◌, ◌==◌, ◌&&◌, nat_lt, Bool, true, false, if◌then◌else◌, Option, Some, None, is_some, List, [], ◌∷◌, ◌++◌, length, map, filter, max, slice_index_or, slice_set}
 use Rattle.std.specs.Option.{option_to_list}
 use Rattle.coap_msg.specs.declared.types.Endpoint.{Endpoint}
@@ -32,7 +32,7 @@ use Rattle.fc_core.specs.Timers.{timer_job}
 use Rattle.fc_core.specs.Stages.{needs_id, new_task, content_at}
 use Rattle.fc_core.specs.Transitions.{Around, Common, Inputs, names, inputs_at, transition, task_moved, handed, words_after}
 
--- an event and its emission.
+-- an event with its emission, if any.
 pub record Entry : Type 0 where
   pub event : Event
   pub emitted : Option Emission
@@ -43,10 +43,13 @@ pub data History : Type 0 where
   Begins : (serial : ℕ) (id : ℕ) (policy : Policy) → History
   Then : (before : History) (entry : Entry) → History
 
--- summary of a history. It has the policy, the first serial of the slots, the latest time passed to
--- the front, and the opened exchanges. It has the payloads of new requests, and the message IDs
--- that the server draws. It has the jobs, each at its stage, and for each slot its changes and the
--- calls on its observers. It also has the latest time passed to each shard, and the head words.
+-- the summary of a history. It has:
+-- - the policy, and the first serial of the slots;
+-- - the latest time passed to the front, the opened exchanges, the payloads of new requests, and
+--   the message IDs that the server draws;
+-- - the jobs with their stages;
+-- - the changes of each slot, and the calls on its observers;
+-- - the latest time passed to each shard, and the head words.
 -- Exchanges and jobs are listed oldest first, since their positions are their numbers. Payloads,
 -- changes and calls are listed newest first.
 pub record Seen : Type 0 where
@@ -70,7 +73,7 @@ begun serial id policy = record { policy = policy; first_serial = serial; time =
 abbrev pub slot_at : Seen → ℕ → Slot
 slot_at s n = after_changes (new_slot s.first_serial) (s.changes n)
 
--- task with a number that no job has.
+-- the task of a number that no job has.
 abbrev pub no_task : Task
 no_task = record {
   job = record {
@@ -95,42 +98,42 @@ job s k = (task_at s.tasks k).job
 abbrev pub stage : Seen → ℕ → Stage
 stage s k = (task_at s.tasks k).stage
 
--- observers of slot n.
+-- the observers of slot n.
 abbrev pub watch : Seen → ℕ → ObserverList
 watch s n = observers n s.policy.confirm_after (s.calls n)
 
--- inputs shared by the jobs of all slots.
+-- the inputs that the jobs of all slots share.
 abbrev pub common : Seen → Common
 common s = record { words = s.words; free = λ now. free_id s.ids (max s.time now) }
 
--- surroundings of slot n.
+-- the surroundings of slot n.
 abbrev pub around : Seen → ℕ → Around
 around s n = record { common = common s; time = s.shard_time (n % 8); watch = watch s n }
 
--- inputs of an event for the job that it names.
+-- the inputs of an event for job k.
 abbrev pub inputs : Seen → ℕ → Inputs
 inputs s k = inputs_at (task_at s.tasks k) (slot_at s (job s k).origin.slot) (around s (job s k).origin.slot)
 
 -- ---- the front
 
--- the front at a time: it has the exchanges that were opened less than EXCHANGE_LIFETIME before.
+-- the front at this time, with the exchanges that were opened less than EXCHANGE_LIFETIME before.
 abbrev pub front_in : Seen → ℕ → FrontState
 front_in s at = record { managers = s.policy.managers; limits = s.policy.limits; now = at; opened = length s.exchanges; held = filter (is_held at) s.exchanges; transfers = transfers s.additions; ids = s.ids }
 
--- the front after a time was passed to it; its clock never goes back.
+-- the front after this time was passed to it; its clock never goes back.
 abbrev pub front_at : Seen → ℕ → FrontState
 front_at s now = front_in s (max s.time now)
 
 abbrev pub received_at : Seen → ℕ → Endpoint → List ℕ → Received
 received_at s now to bytes = received (front_at s now) to bytes
 
--- the exchange with this number was answered by these bytes.
+-- the exchanges after this emission answered the exchange with this number.
 abbrev pub answered_in : ℕ → Option Emission → List Exchange → List Exchange
 answered_in number None exchanges = exchanges
 answered_in number (Some emission) exchanges = map (λ e. answered_if (e.number == number) emission.bytes e) exchanges
 
--- effect of an event on the front: it receives a datagram, answers a job, draws a message ID for a
--- lease, fires the timer of a slot, lets time pass, or has no effect there.
+-- the effect of an event on the front: a datagram is received, a job is answered, a message ID is
+-- drawn for a lease, a timer fires, or time passes. An event can also have no effect there.
 pub data AtFront : Type 0 where
   Receives : (now : ℕ) (to : Endpoint) (bytes : List ℕ) → AtFront
   Answers : (job now : ℕ) → AtFront
@@ -155,8 +158,8 @@ time_by (Fires slot now) s = max s.time now
 time_by (Passes now) s = max s.time now
 time_by Rests s = s.time
 
--- a delivery opens an exchange, and answers a refusal immediately. The exchanges of other requests
--- are answered at their job's stage.
+-- the exchanges after a delivery. A delivery opens an exchange for a new request, and stores the
+-- response that is sent immediately, if any. Other requests are answered later by their jobs.
 abbrev pub exchanges_received : Received → Endpoint → Option Emission → Seen → ℕ → List Exchange
 exchanges_received x to emitted s now = answered_in (length s.exchanges) (kept_of x emitted) (s.exchanges ++ opened_by x (next_opening (front_at s now)) to)
 
@@ -168,13 +171,13 @@ exchanges_by (Fires slot now) emitted s = s.exchanges
 exchanges_by (Passes now) emitted s = s.exchanges
 exchanges_by Rests emitted s = s.exchanges
 
--- payload of a new request, which begins or continues a transfer if it has a block.
+-- the payload of a new request. It begins or continues a transfer if the request has a block.
 abbrev pub additions_by : AtFront → Seen → List Addition
 additions_by (Receives now to bytes) s = added_by (received_at s now to bytes) (max s.time now) to
 additions_by other s = []
 
--- an answer to a request that isn't confirmable draws a message ID, if it is within the exchange's
--- lifetime.
+-- the message IDs after the answer of a job. The answer draws one if the exchange is live and the
+-- request isn't confirmable.
 abbrev pub ids_answered : Option Content → Bool → Bool → Ids → ℕ → Ids
 ids_answered (Some content) true confirmable ids at = drawn_for confirmable ids at
 ids_answered content live confirmable ids at = ids
@@ -187,7 +190,7 @@ ids_by (Fires slot now) s = s.ids
 ids_by (Passes now) s = s.ids
 ids_by Rests s = s.ids
 
--- jobs that the front produces.
+-- the jobs that an event makes at the front.
 abbrev pub tasks_by : AtFront → Seen → List Task
 tasks_by (Receives now to bytes) s = map new_task (brought (received_at s now to bytes) (next_opening (front_at s now)) to)
 tasks_by (Fires slot now) s = new_task (timer_job slot) ∷ []
@@ -207,9 +210,9 @@ abbrev pub shard_time_after : Option ℕ → Event → Seen → ℕ → ℕ
 shard_time_after None e s i = s.shard_time i
 shard_time_after (Some k) e s i = if (job s k).origin.slot % 8 == i then handed (transition e (inputs s k)).hands (s.shard_time i) else s.shard_time i
 
--- effect of an event on the shard that it names itself, rather than on the shard of a job's slot.
--- The event requests the lease of an observer of the shard's slots, sends a signal to all of them,
--- lets time pass there, or has no effect there.
+-- the effect of an event on the shard that the event itself names, rather than on the shard of a
+-- job's slot. The event requests the lease of an observer of the shard, sends a signal to all of
+-- its observers, or lets time pass there. An event can also have no effect there.
 pub data AtShard : Type 0 where
   AsksTurn : (shard now : ℕ) → AtShard
   Signals : (shard : ℕ) (to : Endpoint) (id : ℕ) (reset : Bool) → AtShard
@@ -222,7 +225,7 @@ at_shard (Signal shard to id reset) = Signals shard to id reset
 at_shard (ShardTick shard now) = Ticks shard now
 at_shard other = Calm
 
--- time that the event passes to a shard, one of eight.
+-- the time that the event passes to shard i, one of eight.
 abbrev pub hands_by : AtShard → ℕ → Option ℕ
 hands_by (AsksTurn shard now) i = if (shard == i) && nat_lt i 8 then Some now else None
 hands_by (Ticks shard now) i = if (shard == i) && nat_lt i 8 then Some now else None
@@ -240,7 +243,7 @@ words_seen (Some k) e s = words_after (transition e (inputs s k)) (task_at s.tas
 abbrev pub is_overdue_at : Seen → ℕ → ℕ → ℕ → Bool
 is_overdue_at s i at k = is_some (overdue_entry (list_at_time at (watch s (8 * k + i))))
 
--- the first place with such a notification; a shard above 7 has none.
+-- the first place of shard i with a notification that has timed out; a shard above 7 has none.
 unfoldable pub overdue_in : Seen → ℕ → ℕ → Option ℕ
 overdue_in s i at = if nat_lt i 8 then place_from (is_overdue_at s i at) 8 0 else None
 
@@ -248,18 +251,19 @@ overdue_in s i at = if nat_lt i 8 then place_from (is_overdue_at s i at) 8 0 els
 abbrev pub is_due_at : Seen → ℕ → ℕ → ℕ → Bool
 is_due_at s i at k = is_some (next_turn (slot_at s (8 * k + i)).notify_serial (list_at_time at (watch s (8 * k + i))))
 
--- the first place with such an observer.
+-- the first place of shard i with an observer that has a pending notification; a shard above 7 has
+-- none.
 unfoldable pub due_in : Seen → ℕ → ℕ → Option ℕ
 due_in s i at = if nat_lt i 8 then place_from (is_due_at s i at) 8 0 else None
 
--- whether the place, if there is one, is that of slot n.
+-- whether there is a place, and slot n is at it.
 abbrev pub is_place_of : Option ℕ → ℕ → ℕ → Bool
 is_place_of None i n = false
 is_place_of (Some k) i n = (8 * k + i) == n
 
--- calls of an event at its own shard on the observers of slot n. A request for a lease is for the
--- first slot with a pending notification, and a signal is for all slots of the shard. A tick is for
--- the first slot with a notification that has timed out.
+-- the calls of an event at its own shard on the observers of slot n. A request for a lease calls
+-- those of the first slot with a pending notification. A signal calls those of all slots of the
+-- shard. A tick calls those of the first slot with a notification that has timed out.
 abbrev pub calls_by : AtShard → Seen → ℕ → List ObserverCall
 calls_by (AsksTurn shard now) s n =
     if is_place_of (due_in s shard (max (s.shard_time shard) now)) shard n
@@ -272,21 +276,21 @@ calls_by (Ticks shard now) s n =
     else []
 calls_by Calm s n = []
 
--- job of the lease that is granted at a place of shard i, if there is one.
+-- the job of the lease that is granted at a place of shard i, if there is one.
 abbrev pub turn_at : Option ℕ → Seen → ℕ → ℕ → Option Job
 turn_at None s i at = None
 turn_at (Some k) s i at = turn_given_to (8 * k + i) at (slot_at s (8 * k + i)).notify_serial (watch s (8 * k + i))
 
--- jobs that an event at its own shard produces.
+-- the jobs of leases that an event makes at its own shard.
 abbrev pub turns_by : AtShard → Seen → List Task
 turns_by (AsksTurn shard now) s = map new_task (option_to_list (turn_at (due_in s shard (max (s.shard_time shard) now)) s shard (max (s.shard_time shard) now)))
 turns_by other s = []
 
--- jobs that an event produces: that of a lease, of a request, or of a timer.
+-- the jobs that an event makes: that of a lease, of a request, or of a timer.
 abbrev pub tasks_brought : Event → Seen → List Task
 tasks_brought e s = turns_by (at_shard e) s ++ tasks_by (at_front e) s
 
--- calls of an event on the observers of the slot of the job that it names.
+-- the calls of an event on the observers of slot n, if the event names a job of slot n.
 abbrev pub calls_named : Option ℕ → Event → Seen → ℕ → List ObserverCall
 calls_named None e s n = []
 calls_named (Some k) e s n = if (job s k).origin.slot == n then (transition e (inputs s k)).calls else []
@@ -315,7 +319,7 @@ seen (Then h r) = and_then r (seen h)
 abbrev pub did : Event → Option Emission → Entry
 did event emitted = record { event = event; emitted = emitted }
 
--- history h continued by these events with these emissions.
+-- history h continued by these events with their emissions.
 abbrev pub history_after : History → List Event → List (Option Emission) → History
 history_after h [] os = h
 history_after h (e ∷ es) [] = h

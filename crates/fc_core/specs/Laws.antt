@@ -14,16 +14,17 @@ use Rattle.fc_core.specs.Contents.{Content, RunAnswer}
 use Rattle.fc_core.specs.Transitions.{Inputs, names}
 use Rattle.fc_core.specs.History.{Entry, History, Begins, Then, Seen, seen, job, inputs, slot_at, stage}
 
--- ---- events that do nothing
+-- ---- events without an effect
 
--- whether a job of slot `own` needs the head word of slot n. It needs the word of its own slot, or
--- of the slot after those that it has read.
+-- whether a job of slot `own` needs the head word of slot n: n is the job's own slot, or the slot
+-- after those whose words the job has read.
 abbrev pub needs_word : ℕ → ℕ → Stage → Bool
 needs_word own n ToMatch = n == own
 needs_word own n (ToList seen) = n == length seen.items
 needs_word own n other = false
 
--- whether the job that the event names, of slot `own`, isn't at the stage that the event needs.
+-- whether the event is a no-op: the job that it names, of slot `own`, isn't at the stage that the
+-- event needs.
 abbrev pub is_noop_at : Event → ℕ → Stage → Bool
 is_noop_at (Peek k n) own at = not (needs_word own n at)
 is_noop_at (Take k memory readings) own (ToTake count) = false
@@ -47,7 +48,7 @@ is_noop_at (Signal shard to id reset) own at = false
 is_noop_at (ShardTick shard now) own at = false
 is_noop_at other own at = true
 
--- stage of the job that is named, if one is named, and the job's slot.
+-- the stage of the job that an event names, or `Gone` if it names none.
 abbrev pub stage_named : Seen → Option ℕ → Stage
 stage_named s None = Gone
 stage_named s (Some k) = stage s k
@@ -61,11 +62,11 @@ is_noop s e = is_noop_at e (own_of_named s (names e)) (stage_named s (names e))
 
 -- ---- jobs
 
--- the job with this number has arrived.
+-- job k has arrived.
 abbrev pub HasCome : Seen → ℕ → Type 0
 HasCome s k = k < length s.tasks
 
--- whether the event names the job with this number.
+-- whether an event that names this job, if any, names job k.
 abbrev pub is_job : ℕ → Option ℕ → Bool
 is_job k None = false
 is_job k (Some j) = j == k
@@ -73,23 +74,23 @@ is_job k (Some j) = j == k
 abbrev pub is_named : ℕ → Event → Bool
 is_named k e = is_job k (names e)
 
--- slot of the job with this number.
+-- the slot of job k.
 abbrev pub slot_of : Seen → ℕ → ℕ
 slot_of s k = (job s k).origin.slot
 
 -- ---- snapshots
 
--- a snapshot that gave a ticket, and the earlier changes of the slot, the newest first.
+-- a snapshot that gave a ticket, and the changes of the slot before the snapshot, the newest first.
 pub record Snapshot : Type 0 where
   pub ticket : Ticket
   pub changes : List Change
 
--- a ticket of the slot's state, if it has a program, with these readings.
+-- the ticket of a snapshot with these readings, if the slot has a program.
 abbrev pub finds : Job → List ℕ → ℕ → Option Present → List Change → List Snapshot
 finds j readings serial None changes = []
 finds j readings serial (Some found) changes = record { ticket = ticket_of j readings serial found; changes = changes } ∷ []
 
--- a lease that isn't out any more takes no snapshot.
+-- the ticket of a lease's snapshot; a lease that isn't active takes none.
 abbrev pub finds_if : Bool → Job → List ℕ → ℕ → Option Present → List Change → List Snapshot
 finds_if true j readings serial present changes = finds j readings serial present changes
 finds_if false j readings serial present changes = []
@@ -99,13 +100,13 @@ gives_at readings s (ToTake count) changes = finds s.job readings s.slot.serial 
 gives_at readings s (ToTell turn turns.ToTake) changes = finds_if (is_out_at turn s.around.time s.around.watch) s.job readings s.slot.serial s.slot.present changes
 gives_at readings s other changes = []
 
--- snapshots that an event gives to the job that it names: a take at its stage gives a ticket if
--- memory for it can be allocated.
+-- the ticket that an event gives to the job that it names. A `Take` at its stage gives one if the
+-- slot has a program and memory can be allocated.
 abbrev pub gives : Event → Inputs → List Change → List Snapshot
 gives (Take k true readings) s changes = gives_at readings s s.stage changes
 gives other s changes = []
 
--- snapshots that gave a ticket to the job with this number, the newest first.
+-- the snapshots that gave a ticket to job k, the newest first.
 abbrev pub snapshots_of : History → ℕ → List Snapshot
 snapshots_of (Begins serial id policy) k = []
 snapshots_of (Then h r) k =
@@ -118,19 +119,19 @@ abbrev pub IsNewest : List Snapshot → Ticket → Type 0
 IsNewest [] t = ⊥
 IsNewest (x ∷ xs) t = x.ticket ≡ t
 
--- a run's answer comes from the newest of these snapshots. It has the code that the snapshot's
--- program means, the block of the reply that the request names, and the serial of the snapshot.
+-- the answer of a run comes from the newest of these snapshots. It has the code that the snapshot's
+-- program means, the requested block of the reply, and the serial of the snapshot.
 abbrev pub IsOfNewest : List Snapshot → RunAnswer → Type 0
 IsOfNewest [] run = ⊥
 IsOfNewest (t ∷ ts) run = (run.code ≡ (meaning_at t.ticket).code) × (run.cut ≡ cut_for t.ticket.block (meaning_at t.ticket).reply) × (run.serial ≡ t.ticket.serial)
 
--- the answer that a job gives next, or after it publishes its slot's new head word.
+-- the answer that a job gives next, or after it has published its slot's new head word.
 abbrev pub answer_at : Stage → Option Content
 answer_at (ToRaise word content) = Some content
 answer_at (ToAnswer content) = Some content
 answer_at other = None
 
--- at the commit of a run that wants to write, the slot's serial isn't that of the job's ticket.
+-- job k is to commit a run that wants to write, but its slot isn't at the ticket's serial any more.
 pub record IsOvertaken (s : Seen) (k : ℕ) : Type 0 where
   pub count : ℕ
   pub ticket : Ticket
@@ -138,19 +139,19 @@ pub record IsOvertaken (s : Seen) (k : ℕ) : Type 0 where
   pub wants : wants ticket ≡ true
   pub other : (slot_at s (slot_of s k)).serial ≡ ticket.serial → ⊥
 
--- a job that needs a snapshot.
+-- the job at this stage needs a snapshot.
 abbrev pub TakesAgain : Stage → Type 0
 TakesAgain (ToTake count) = Unit {0}
 TakesAgain other = ⊥
 
 -- ---- answers
 
--- whether the event answers the job that it names.
+-- whether the event answers the job that it names, which is at this stage.
 abbrev pub is_answered : Event → Stage → Bool
 is_answered (Answer k now) (ToAnswer content) = true
 is_answered other at = false
 
--- number of answers to a job.
+-- the number of answers that job k was given.
 abbrev pub answers_of : History → ℕ → ℕ
 answers_of (Begins serial id policy) k = 0
 answers_of (Then h r) k =
@@ -160,7 +161,7 @@ answers_of (Then h r) k =
 
 -- ---- changes
 
--- number of changes of the job's slot by events that named the job.
+-- the number of changes that events of job k made to the job's slot.
 abbrev pub changes_by : History → ℕ → ℕ
 changes_by (Begins serial id policy) k = 0
 changes_by (Then h r) k =
@@ -170,7 +171,7 @@ changes_by (Then h r) k =
 
 -- ---- continuations
 
--- a history and the later entries.
+-- a history continued by these entries.
 abbrev pub followed_by : History → List Entry → History
 followed_by h [] = h
 followed_by h (r ∷ rs) = followed_by (Then h r) rs

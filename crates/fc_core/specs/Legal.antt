@@ -1,5 +1,5 @@
--- The permitted emissions of each event; no other is permitted. The meaning of each snapshot is
--- defined here too.
+-- The permitted emissions of each event, and the meaning of each snapshot. No other emission is
+-- permitted.
 use Rattle.std.specs.Prelude.{◌≡◌, ℕ, ◌+◌, ◌*◌, ◌≤◌, Bool, true, false, List, Option, Some, None, max}
 use Rattle.coap_msg.specs.declared.types.Emission.{Emission}
 use Rattle.fc_image.specs.Paths.{IsLongest}
@@ -23,8 +23,8 @@ use Rattle.fc_core.specs.Stages.{content_at}
 use Rattle.fc_core.specs.Transitions.{Inputs, names, sends}
 use Rattle.fc_core.specs.History.{AtFront, Receives, Answers, Draws, Fires, Passes, Rests, AtShard, Ticks, History, Begins, Then, Seen, seen, at_front, at_shard, front_at, received_at, job, overdue_in, stage, inputs, watch}
 
--- a job's answer is sent while its exchange is live and a message ID is available, and not
--- otherwise.
+-- the permitted emission of a job's answer. The answer is sent if the exchange is live and a
+-- message ID is available, and otherwise not.
 abbrev pub IsAnswered : Bool → Option ℕ → Job → Content → Option Emission → Type 0
 IsAnswered true (Some id) j content None = ⊥
 IsAnswered true (Some id) j content (Some emission) = IsReplyTo j id content emission
@@ -35,28 +35,28 @@ abbrev pub AnswerEmits : Option Content → Job → FrontState → Option Emissi
 AnswerEmits None j f emitted = emitted ≡ None
 AnswerEmits (Some content) j f emitted = IsAnswered (opening_is_live f.now j.origin.opening) (id_in f j.confirmable j.origin.id) j content emitted
 
--- retransmission by a tick.
+-- the retransmission of a tick, if there is one.
 abbrev pub resent : Ticked → Option Emission
 resent (Resend emission) = Some emission
 resent other = None
 
--- retransmission by a tick at a place of shard i, at this time; none without a place.
+-- the retransmission of a tick at a place of shard i, at this time; `None` without a place.
 abbrev pub resent_at : Option ℕ → Seen → ℕ → ℕ → Option Emission
 resent_at None s i at = None
 resent_at (Some k) s i at = resent (ticked (list_at_time at (watch s (8 * k + i))))
 
--- retransmission by an event at its own shard.
+-- the retransmission of an event at its own shard, if there is one.
 abbrev pub resent_in : AtShard → Seen → Option Emission
 resent_in (Ticks i now) s = resent_at (overdue_in s i (max (s.shard_time i) now)) s i (max (s.shard_time i) now)
 resent_in other s = None
 
--- emission of an event without an effect on the front: the notification of the job that it names,
--- or a retransmission by the event's own shard.
+-- the emission of an event without an effect on the front. It is the notification of the job that
+-- the event names, or a retransmission of the event's own shard.
 abbrev pub sends_in : Option ℕ → Event → Seen → Option Emission
 sends_in None e s = resent_in (at_shard e) s
 sends_in (Some k) e s = sends e (inputs s k)
 
--- permitted emissions of an event, by its effect on the front.
+-- the permitted emission of an event, by the event's effect on the front.
 abbrev pub EmitsBy : AtFront → Event → Seen → Option Emission → Type 0
 EmitsBy (Receives now to bytes) e s emitted = emitted ≡ sent (received_at s now to bytes) (front_at s now) to
 EmitsBy (Answers k now) e s emitted = AnswerEmits (content_at (stage s k)) (job s k) (front_at s now) emitted
@@ -68,21 +68,21 @@ EmitsBy Rests e s emitted = emitted ≡ sends_in (names e) e s
 abbrev pub Emits : Seen → Event → Option Emission → Type 0
 Emits s e emitted = EmitsBy (at_front e) e s emitted
 
--- each event emitted only permitted datagrams.
+-- each event of the history has only a permitted emission.
 abbrev pub IsLegal : History → Type 0
 IsLegal (Begins serial id policy) = Unit {0}
 IsLegal (Then h r) = Emits (seen h) r.event r.emitted × IsLegal h
 
--- a ticket's program has a meaning for the request, and for the variables and readings of the
--- snapshot. The run reaches its exit in at most the steps of the longest path, and these are at
--- most the budget.
+-- the ticket's program has a meaning for the request, and for the variables and readings of the
+-- snapshot. The run reaches the exit in at most the steps of the program's longest path, and these
+-- are at most its budget.
 pub record IsMeant (t : Ticket) : Type 0 where
   pub run : IsRun t.found.program (input_of t)
   pub longest : IsLongest t.found.program.version t.found.program.code t.found.program.cost
   pub cost : t.found.program.cost ≤ t.found.program.budget
 
--- the program that a job finds in its slot at this serial, if there is one, has a meaning for the
--- job's request and these readings.
+-- if the slot has a program at this serial, the program has a meaning for the job's request and
+-- these readings.
 abbrev pub FoundMeans : Job → List ℕ → ℕ → Option Present → Type 0
 FoundMeans j readings serial None = Unit {0}
 FoundMeans j readings serial (Some found) = IsMeant (ticket_of j readings serial found)
@@ -92,7 +92,7 @@ FindsMeaning readings s (ToTake count) = FoundMeans s.job readings s.slot.serial
 FindsMeaning readings s (ToTell turn turns.ToTake) = FoundMeans s.job readings s.slot.serial s.slot.present
 FindsMeaning readings s other = Unit {0}
 
--- if a snapshot at its stage finds a program, the program has a meaning, whether or not memory for
+-- if a snapshot at its stage finds a program, that program has a meaning, whether or not memory for
 -- a ticket can be allocated.
 abbrev pub TakesMeaning : Seen → Event → Type 0
 TakesMeaning s (Take k memory readings) = FindsMeaning readings (inputs s k) (stage s k)

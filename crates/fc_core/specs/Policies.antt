@@ -1,4 +1,4 @@
--- Allow list and table limits of a server.
+-- The policy of a server: allow list, table limits, and confirmable notifications.
 use Rattle.std.specs.Prelude.{ℕ, ◌-◌, ◌/◌, ◌^◌, ◌==◌, ◌||◌, not, Bool, true, false, List, [], ◌∷◌}
 use Rattle.std.specs.List.{list_any}
 use Rattle.coap_msg.specs.declared.types.Endpoint.{Endpoint}
@@ -31,8 +31,8 @@ is_allowed managers to action = not (changes_program action) || is_manager manag
 abbrev pub any_address : Network
 any_address = record { ip = 0 ∷ 0 ∷ 0 ∷ 0 ∷ []; bits = 0 }
 
--- each address is a manager's; up to 1,024 exchanges are stored, and all of them may belong to one
--- address; a notification is confirmable after 24 hours, in ms.
+-- the default policy. Each address is a manager's. Up to 1,024 exchanges are stored, and all of
+-- them may belong to one address. A notification is confirmable after 24 hours, in ms.
 abbrev pub default_policy : Policy
 default_policy = record {
   managers = any_address ∷ any_address ∷ any_address ∷ any_address ∷ [];

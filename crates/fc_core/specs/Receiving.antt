@@ -1,5 +1,5 @@
--- Handling of a datagram by a front: it is classified once, and this determines the exchange that
--- it opens, its job, the message ID that is drawn, and the response.
+-- The handling of a datagram by a front. The classification of the datagram determines the exchange
+-- that is opened, the job that is made, the message ID that is drawn, and the response.
 use Rattle.std.specs.Prelude.{ℕ, ◌+◌, ◌<◌, ◌≤◌, ◌||◌, Bool, true, false, if◌then◌else◌, List, [], ◌∷◌, ◌++◌, length, map, codes, Option, Some, None, Result, Ok, Err}
 use Rattle.std.specs.Str.{bytes_eq}
 use Rattle.coap_msg.specs.declared.types.Bad.{Bad}
@@ -52,8 +52,8 @@ pub data Received : Type 0 where
   Rejected : (id : ℕ) → Received
   -- an acknowledgement or a reset of the message that was sent with this message ID.
   Signals : (id : ℕ) (reset : Bool) → Received
-  -- a request that gets no response. It duplicates a request in progress, or an answered
-  -- non-confirmable request; or it is non-confirmable and above its address's share.
+  -- a request that gets no response. It duplicates a request in progress or an answered
+  -- non-confirmable request, or it is non-confirmable and above its address's share.
   Unanswered : Received
   -- a duplicate of a confirmable request that was answered by these bytes.
   Again : (bytes : List ℕ) → Received
@@ -68,8 +68,7 @@ pub data Received : Type 0 where
   -- a new request that is served, with its complete body (RFC 7959, section 2.5).
   Opened : (m : Message) (asked : Asked) (body : List ℕ) → Received
 
--- slot of a resource. The list of slots belongs to no slot; its job has slot 0, and reads that slot
--- like the others.
+-- the slot of a resource. The list of slots belongs to no slot, so it has slot 0 here.
 abbrev pub slot_of_resource : Resource → ℕ
 slot_of_resource (resources.Run n) = n
 slot_of_resource (resources.Program n) = n
@@ -78,9 +77,9 @@ slot_of_resource resources.Core = 0
 abbrev pub slot_asked : Action → ℕ
 slot_asked action = slot_of_resource (resource_in action)
 
--- classification of a request by the result for its payload: 2.31 (Continue) with its Block1, 4.08
--- (Request Entity Incomplete), 4.00 (Bad Request), 4.13 (Request Entity Too Large), 5.03 (Service
--- Unavailable).
+-- the classification of a request by the result of adding its payload. The request is served if its
+-- body is complete. Otherwise it is answered 2.31 (Continue) with its Block1, 4.08 (Request Entity
+-- Incomplete), 4.00 (Bad Request), 4.13 (Request Entity Too Large) or 5.03 (Service Unavailable).
 abbrev pub received_added : Add → Message → Asked → Received
 received_added (IsWhole body) m r = Opened m r body
 received_added Continues m r = Immediate m r (settled_by (code 2 31) r.block1)
@@ -89,12 +88,12 @@ received_added IsBadLength m r = Immediate m r (bare (code 4 0))
 received_added IsTooLarge m r = Immediate m r (bare (code 4 13))
 received_added IsFull m r = Immediate m r (bare (code 5 3))
 
--- result for the payload of a request; without Block1 it is the complete body.
+-- the result of adding the payload of a request, which is the complete body if there is no Block1.
 abbrev pub add_in : FrontState → Endpoint → Asked → Add
 add_in f to r = add_of f.transfers f.now to (slot_asked r.action) r.block1 r.payload
 
--- a request that its endpoint isn't allowed to send is refused by 4.03 (Forbidden), and its payload
--- is added to no transfer.
+-- the classification of a new request. A request that its endpoint isn't allowed to send is refused
+-- by 4.03 (Forbidden), and the payload is added to no transfer.
 abbrev pub received_if : Bool → FrontState → Endpoint → Message → Asked → Received
 received_if true f to m r = received_added (add_in f to r) m r
 received_if false f to m r = Refused m (code 4 3)
@@ -106,14 +105,14 @@ abbrev pub is_confirmable : MessageType → Bool
 is_confirmable Confirmable = true
 is_confirmable other = false
 
--- a new request from an address that has used its share. A non-confirmable request is ignored,
+-- the classification of a new request above its address's share. A non-confirmable one is ignored,
 -- since its response would need a message ID of the server (RFC 7252, section 4.3).
 abbrev pub over_share : Bool → Message → Received
 over_share true m = Full m
 over_share false m = Unanswered
 
--- classification of a request by the stored exchanges; the last argument is the classification of a
--- new request.
+-- the classification of a request by the look-up of its exchange. The last argument is the
+-- classification of a new request.
 abbrev pub looked : Look → Message → Received → Received
 looked IsNew m new = new
 looked IsBusy m new = Unanswered
@@ -138,23 +137,23 @@ received_read f to (Ok m) = received_as f to m (verdict m)
 received_read f to (Err bad.Ignore) = Ignored
 received_read f to (Err (bad.Reset id)) = Rejected id
 
--- classification of a datagram from an endpoint by a front that has advanced to the time.
+-- the classification of a datagram from an endpoint, by a front that has advanced to the time.
 unfoldable pub received : FrontState → Endpoint → List ℕ → Received
 received f to bytes = received_read f to (reading_of bytes)
 
 -- ---- the job of a request
 
--- request to slot N's program.
+-- the request that slot n's program is to answer.
 abbrev pub request_asked : Verb → ℕ → Asked → Request
 request_asked method n r = record { method = method; slot = n; content_format = r.content_format; query = r.query; payload = r.payload }
 
--- an install keeps the variables if `keep` is its whole query; any other query has no effect.
+-- an install keeps the variables if the whole query is `keep`; any other query has no effect.
 abbrev pub initial_vars_by : List ℕ → InitialVars
 initial_vars_by query = if bytes_eq query (codes "keep") then Kept else Zeros
 
--- a GET or POST on /r/N runs slot N's program; on /p/N a PUT installs its body, a DELETE removes
--- slot N's program, and a GET reads its receipt; a GET on /.well-known/core lists the slots that
--- have a program.
+-- the action of a request. A GET or POST of /r/N runs slot N's program. A PUT of /p/N installs its
+-- body, a DELETE removes slot N's program, and a GET reads the program's receipt. A GET of
+-- /.well-known/core lists the slots that have a program.
 abbrev pub ask_by : Action → Asked → List ℕ → Ask
 ask_by (actions.Get n) r body = Run (request_asked Get n r)
 ask_by (actions.Post n) r body = Run (request_asked Post n r)
@@ -163,7 +162,7 @@ ask_by (actions.Remove n) r body = Remove
 ask_by (actions.Describe n) r body = Describe
 ask_by actions.Discover r body = Discover
 
--- block that a request names: the Block1 of a PUT, or the Block2 of a GET.
+-- the block that a request names: the Block1 of a PUT, or the Block2 of a GET.
 abbrev pub named_block : Option Place → Option Place → Option Place
 named_block (Some sent) asked = Some sent
 named_block None asked = asked
@@ -172,7 +171,8 @@ named_block None asked = asked
 abbrev pub observes : Option ℕ → Bool
 observes option = has_observe observe.REGISTER option || has_observe observe.CANCEL option
 
--- a request that registers or cancels is answered by a run, even if its client has the response.
+-- the ETags of a job. A request that registers or cancels an observation has none, since it is
+-- answered by a run, even if the client has the response.
 abbrev pub etags_by : Bool → List ℕ → List ℕ
 etags_by true etags = []
 etags_by false etags = etags
@@ -189,11 +189,11 @@ job_of opening to m r body = record {
   ask = ask_by r.action r body;
 }
 
--- a request has at most 64 bytes of query and 1,024 of payload.
+-- the request has at most 64 bytes of query and 1,024 of payload.
 abbrev pub RequestWithin : Request → Type 0
 RequestWithin request = (length request.query ≤ 64) × (length request.payload ≤ 1024)
 
--- a job's slot is one of 64, and its request is within these limits.
+-- the request of a job's run is within these limits.
 abbrev pub AskWithin : Ask → Type 0
 AskWithin (Run request) = RequestWithin request
 AskWithin other = Unit {0}
@@ -203,7 +203,7 @@ JobWithin job = (job.origin.slot < 64) × AskWithin job.ask
 
 -- ---- the response
 
--- response; none if there is no message ID for it.
+-- the response to a message, with this message ID; `None` without one.
 abbrev pub reply_sent_by : Option ℕ → Endpoint → Message → Response → Option Emission
 reply_sent_by None to m response = None
 reply_sent_by (Some id) to m response = Some (sent_in (record { to = to; kind = reply_kind (is_confirmable m.kind); id = id; token = m.token }) response)
@@ -230,11 +230,11 @@ next_opening f = record { number = f.opened; at = f.now }
 abbrev pub exchange_of : Opening → Endpoint → Message → Exchange
 exchange_of o to m = record { endpoint = to; id = m.id; confirmable = is_confirmable m.kind; number = o.number; at = o.at; answer = None }
 
--- a front that opened an exchange for a request.
+-- the front after it opened an exchange for a request.
 abbrev pub opening_for : FrontState → Endpoint → Message → FrontState
 opening_for f to m = record f { opened = f.opened + 1; held = f.held ++ (exchange_of (next_opening f) to m ∷ []) }
 
--- exchange that is opened.
+-- the exchange that is opened for a classified datagram, if any.
 abbrev pub opened_by : Received → Opening → Endpoint → List Exchange
 opened_by (Opened m asked body) o to = exchange_of o to m ∷ []
 opened_by (Immediate m asked response) o to = exchange_of o to m ∷ []
@@ -242,13 +242,14 @@ opened_by (Silenced m) o to = exchange_of o to m ∷ []
 opened_by (Refused m answer) o to = exchange_of o to m ∷ []
 opened_by other o to = []
 
--- emission that is stored as the exchange's answer, if any.
+-- the emission that is stored as the exchange's answer, if any.
 abbrev pub kept_of : Received → Option Emission → Option Emission
 kept_of (Refused m answer) emitted = emitted
 kept_of (Immediate m asked response) emitted = emitted
 kept_of other emitted = None
 
--- an immediate response to a request that isn't confirmable draws a message ID.
+-- the message IDs after a classified datagram. An immediate response draws one if the request isn't
+-- confirmable.
 abbrev pub drawn_by : Received → Ids → ℕ → Ids
 drawn_by (Full m) ids at = drawn_for (is_confirmable m.kind) ids at
 drawn_by (Refused m answer) ids at = drawn_for (is_confirmable m.kind) ids at
@@ -259,7 +260,7 @@ abbrev pub brought : Received → Opening → Endpoint → List Job
 brought (Opened m asked body) o to = job_of o to m asked body ∷ []
 brought other o to = []
 
--- payload of a request, with its block if it has one.
+-- the payload of a request, with the request's block if there is one.
 abbrev pub addition_of : ℕ → Endpoint → Asked → Addition
 addition_of at to r = record { at = at; endpoint = to; slot = slot_asked r.action; block = r.block1; payload = r.payload }
 
@@ -268,7 +269,7 @@ added_by (Opened m asked body) at to = addition_of at to asked ∷ []
 added_by (Immediate m asked response) at to = addition_of at to asked ∷ []
 added_by other at to = []
 
--- transfers after these payloads were added.
+-- the transfers after these payloads were added, the last in the list first.
 abbrev pub after_added : List Addition → List Transfer → List Transfer
 after_added [] held = held
 after_added (a ∷ more) held = after_addition a (after_added more held)
@@ -279,7 +280,7 @@ abbrev pub reply_or_nothing : Option Emission → Delivered
 reply_or_nothing None = Nothing
 reply_or_nothing (Some emission) = Reply emission
 
--- a delivery whose job and response were written.
+-- the result of a delivery whose job or response was written.
 abbrev pub handled : Handled → Job → Emission → Delivered
 handled hearing.Nothing job emission = Nothing
 handled hearing.Reply job emission = Reply emission
@@ -290,31 +291,31 @@ abbrev pub handled_if : Bool → Handled
 handled_if true = hearing.Reply
 handled_if false = hearing.Nothing
 
--- the datagram, if there is one to send.
+-- the emission that was written, if there is one to send.
 abbrev pub emission_if : Bool → Emission → Option Emission
 emission_if true emission = Some emission
 emission_if false emission = None
 
--- result of a delivery: a job, a signal for the observers, or the response to send immediately.
+-- the result of a delivery: a job, a signal for the observers, or the response to send immediately.
 abbrev pub handed_on : Received → FrontState → Endpoint → Delivered
 handed_on (Opened m asked body) f to = Brings (job_of (next_opening f) to m asked body)
 handed_on (Signals id reset) f to = Signal id reset
 handed_on other f to = reply_or_nothing (sent other f to)
 
--- result of a delivery to a front that has advanced to the time.
+-- the result of a delivery to a front that has advanced to the time.
 abbrev pub delivered : FrontState → Endpoint → List ℕ → Delivered
 delivered f to bytes = handed_on (received f to bytes) f to
 
--- a front that stores this emission as the answer of the exchange with this number.
+-- the front after it stored this emission as the answer of the exchange with this number.
 abbrev pub keeping : ℕ → Option Emission → FrontState → FrontState
 keeping number None f = f
 keeping number (Some emission) f = record f { held = map (answered f.now number emission.bytes) f.held }
 
--- a front that opened an exchange for a request and answered it immediately.
+-- the front after it opened an exchange for a request and answered the request immediately.
 abbrev pub immediate_front : FrontState → Endpoint → Message → Response → FrontState
 immediate_front f to m response = keeping f.opened (reply_sent f to m response) (record (opening_for f to m) { ids = drawn_for (is_confirmable m.kind) f.ids f.now })
 
--- state of a front after a datagram.
+-- the state of a front after a classified datagram.
 abbrev pub after_received : Received → FrontState → Endpoint → FrontState
 after_received x f to =
     let new = opened_by x (next_opening f) to in

@@ -1,4 +1,4 @@
--- The response for a job's answer (RFC 7252, section 5.2).
+-- The response that a job's answer makes (RFC 7252, section 5.2).
 use Rattle.std.specs.Prelude.{◌≡◌, ℕ, ◌≤◌, true, false, List, [], ◌∷◌}
 use Rattle.arrayvec.specs.ArrayVec.{ArrayVec}
 use Rattle.coap_msg.specs.declared.types.Emission.{Emission}
@@ -13,8 +13,8 @@ use Rattle.fc_registry.specs.declared.receipt.Receipt.{Receipt}
 use Rattle.fc_core.specs.Contents.{Content, Ran, Missing, Unavailable, Made, Rejected, Untyped, Valid, Deleted, Described, Listed}
 use Rattle.fc_core.specs.Links.{links_text}
 
--- an install's response: the receipt of the program, and the last block of the image if the image
--- came in blocks.
+-- the response to an install: the receipt of the program. If the image came in blocks, the response
+-- has the last one as Block1.
 abbrev pub made_response : ℕ → Job → Receipt → Response
 made_response answer j receipt = record { code = answer; options = block1 j.block; payload = receipt_text receipt }
 
@@ -22,9 +22,9 @@ made_response answer j receipt = record { code = answer; options = block1 j.bloc
 abbrev pub link_format : List (ℕ × List ℕ)
 link_format = (option.CONTENT_FORMAT, 40 ∷ []) ∷ []
 
--- a job's response, by its answer: 2.01 (Created), 2.02 (Deleted), 2.03 (Valid), 2.04 (Changed),
--- 2.05 (Content), 4.00 (Bad Request), 4.04 (Not Found), 5.03 (Service Unavailable). A refusal by
--- typing names any rule from 20 to 28, and any slot.
+-- the response to a job is one that the job's answer makes: 2.01 (Created), 2.02 (Deleted), 2.03
+-- (Valid), 2.04 (Changed), 2.05 (Content), 4.00 (Bad Request), 4.04 (Not Found), 5.03 (Service
+-- Unavailable) or a run's code. A refusal by typing names any rule from 20 to 28, and any slot.
 abbrev pub Says : Job → Content → Response → Type 0
 Says j (Ran run) r = r ≡ ran_response run.code run.cut run.serial run.observed
 Says j Missing r = r ≡ bare (code 4 4)
@@ -38,7 +38,7 @@ Says j Deleted r = r ≡ bare (code 2 2)
 Says j (Described receipt) r = r ≡ content [] (cut_for j.block (receipt_text receipt))
 Says j (Listed words) r = r ≡ content link_format (cut_for j.block (links_text words))
 
--- header data of a job's response with this message ID.
+-- the header data of a job's response with this message ID.
 abbrev pub envelope_of : Job → ℕ → Envelope
 envelope_of job id = record { to = job.origin.endpoint; kind = reply_kind job.confirmable; id = id; token = job.token.items }
 
@@ -46,7 +46,7 @@ envelope_of job id = record { to = job.origin.endpoint; kind = reply_kind job.co
 abbrev pub to_job : Job → ArrayVec ℕ → Emission
 to_job job bytes = record { to = job.origin.endpoint; bytes = bytes }
 
--- the emission, with this message ID, answers the job with this content.
+-- the emission answers the job with this content and this message ID.
 pub record IsReplyTo (job : Job) (id : ℕ) (content : Content) (emission : Emission) : Type 0 where
   pub response : Response
   pub says : Says job content response

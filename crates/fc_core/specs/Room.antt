@@ -1,5 +1,5 @@
--- A job's next action as its stage, with the data stored next to it: the snapshot, the head words
--- that the job has listed, and its answer.
+-- A job's next action and the data stored next to it, as a stage. The data are the snapshot, the
+-- head words that the job has listed, and the job's answer.
 use Rattle.std.specs.Prelude.{◌≡◌, ℕ, Some, None}
 use Rattle.arrayvec.specs.ArrayVec.{ArrayVec}
 use Rattle.fc_registry.specs.Taken.{SlotSnapshot, IsSized, ticket_with}
@@ -35,7 +35,7 @@ stage_of steps.ToAnswer f seen content = ToAnswer content
 stage_of (steps.ToTell turn needs) f seen content = ToTell turn (turn_stage_of needs f)
 stage_of steps.Gone f seen content = Gone
 
--- the snapshot has as many variables as the action's program.
+-- the snapshot has as many variables as the program of the lease's next action.
 abbrev pub FitsTurnStep : TurnStep → SlotSnapshot → Type 0
 FitsTurnStep (turn_steps.ToDraw (Some program)) f = IsSized program.value f
 FitsTurnStep (turn_steps.ToNote (Some program) id) f = IsSized program.value f
@@ -46,11 +46,11 @@ FitsStep (steps.ToCommit count program) f = IsSized program.value f
 FitsStep (steps.ToTell turn needs) f = FitsTurnStep needs f
 FitsStep other f = Unit {0}
 
--- the action, with this answer and any other data, is this stage.
+-- the action with this answer is this stage, whatever the other data.
 abbrev pub StandsAt : Step → Content → Stage → Type 0
 StandsAt step content stage = (f : SlotSnapshot) (seen : ArrayVec ℕ) → (stage_of step f seen content ≡ stage) × FitsStep step f
 
--- this transition leads to the action after a snapshot, with this answer and this snapshot.
+-- the action with this answer is the stage to which this transition leads after a snapshot.
 abbrev pub LeadsTo : Taken → (spec.Taken → Stage) → Step → Content → Type 0
 LeadsTo taken transition step content =
     (f : SlotSnapshot) (seen : ArrayVec ℕ) → HasSize taken f → (stage_of step f seen content ≡ transition (taken_with taken f)) × FitsStep step f

@@ -13,11 +13,11 @@ pub data Stage : Type 0 where
   ToTake : (count : ℕ) → Stage
   -- commit this ticket's run; `count` is the number of snapshots so far.
   ToCommit : (count : ℕ) (ticket : Ticket) → Stage
-  -- install the program of its image.
+  -- install the program of the job's image.
   ToInstall : Stage
-  -- remove its slot's program.
+  -- remove the program of the job's slot.
   ToRemove : Stage
-  -- read the receipt of its slot's program.
+  -- read the receipt of the program of the job's slot.
   ToDescribe : Stage
   -- read the next slot's head word; `seen` has the words of the slots before it.
   ToList : (seen : ArrayVec ℕ) → Stage

@@ -1,4 +1,4 @@
--- The stages of a job: its first one, and the stage after the result of each call.
+-- The stages of a job: the first one, and the stage after the result of each call.
 use Rattle.std.specs.Prelude.{ℕ, ◌+◌, Bool, true, false, nat_lt, if◌then◌else◌, Option, Some, None, List, [], ◌∷◌, length}
 use Rattle.fc_observe.specs.declared.entry.Turn.{Turn}
 use Rattle.fc_registry.specs.declared.job.Ask.{Ask}
@@ -23,11 +23,12 @@ use Rattle.fc_core.specs.TurnStage.{TurnStage}
 use Rattle.fc_core.specs.TurnStage as turns
 use Rattle.fc_core.specs.declared.stage.Task.{Task}
 
--- greatest number of snapshots of a job.
+-- the greatest number of snapshots of a job.
 abbrev pub snapshots : ℕ
 snapshots = 8
 
--- first action of a job; a run whose client has responses reads its slot's head word.
+-- the first stage of a request's job. A run whose request has ETags reads its slot's head word
+-- first.
 abbrev pub first_by : Ask → List ℕ → Stage
 first_by (Run request) [] = ToTake 0
 first_by (Run request) (serial ∷ serials) = ToMatch
@@ -36,11 +37,11 @@ first_by Removes serials = ToRemove
 first_by Describe serials = ToDescribe
 first_by Discover serials = ToList (record { items = [] })
 
--- first stage of a request's job.
+-- the first stage of a request's job, by the data of the job.
 abbrev pub asked_stage : Job → Stage
 asked_stage job = first_by job.ask job.etags.items
 
--- a lease needs a snapshot, whatever its request.
+-- the first stage of a job: a lease needs a snapshot, whatever its request.
 abbrev pub first_or_turn : Option ℕ → Job → Stage
 first_or_turn None job = asked_stage job
 first_or_turn (Some number) job = ToTell (turn_of job number) turns.ToTake
@@ -59,25 +60,26 @@ took count Missing = ToAnswer Misses
 took count Refused = ToAnswer Unavailable
 took count Stale = ToAnswer Unavailable
 
--- a lease that isn't active at its snapshot has ended. A lease without memory for its snapshot
--- still needs a snapshot.
+-- the job of a lease ends if the lease isn't active when the snapshot is taken. If memory for the
+-- snapshot is refused, the job still needs a snapshot.
 abbrev pub turn_took : Turn → Taken → Stage
 turn_took turn (Given t) = ToTell turn (turns.ToDraw (Some t))
 turn_took turn Missing = ToTell turn (turns.ToDraw None)
 turn_took turn Stale = Gone
 turn_took turn Refused = ToTell turn turns.ToTake
 
--- lease that needs a snapshot, if there is one.
+-- the lease that needs a snapshot at this stage, if any.
 abbrev pub turn_to_take : Stage → Option Turn
 turn_to_take (ToTell turn turns.ToTake) = Some turn
 turn_to_take other = None
 
--- whether the stage needs a message ID of the server.
+-- whether the job needs a message ID of the server at this stage.
 abbrev pub needs_id : Stage → Bool
 needs_id (ToTell turn (turns.ToDraw found)) = true
 needs_id other = false
 
--- a lease gets the available message ID; if none is available, it still needs one.
+-- the next action of a lease that draws a message ID. If none is available, the lease still needs
+-- one.
 abbrev pub with_id : Option Ticket → Option ℕ → TurnStage
 with_id found (Some id) = turns.ToNote found id
 with_id found None = turns.ToDraw found
@@ -86,21 +88,22 @@ abbrev pub drew : Option ℕ → Stage → Stage
 drew free (ToTell turn (turns.ToDraw found)) = ToTell turn (with_id found free)
 drew free other = other
 
--- whether memory could be allocated, or none was needed; and the result of a snapshot without
--- memory.
+-- whether a snapshot had memory, or needed none.
 abbrev pub had_memory : Taken → Bool
 had_memory Refused = false
 had_memory other = true
 
+-- the result of the same snapshot without memory.
 abbrev pub without_memory : Taken → Taken
 without_memory (Given t) = Refused
 without_memory other = other
 
--- answer of a ticket's run, and whether the client observes the slot from now on.
+-- the answer of a ticket's run; the flag says whether the client observes the slot from now on.
 abbrev pub run_content : Ticket → Bool → Content
 run_content t observed = Ran (run_answer t (meaning_at t) observed)
 
--- the job of a run whose slot has changed takes another snapshot, at most eight in all.
+-- the stage of a run's job whose slot has changed. It takes another snapshot, at most eight in all,
+-- or is answered 5.03.
 abbrev pub retaken : ℕ → Stage
 retaken count = if nat_lt count snapshots then ToTake count else ToAnswer Unavailable
 
@@ -123,7 +126,8 @@ abbrev pub receipt_content : Option Facts → Content
 receipt_content None = Misses
 receipt_content (Some receipt) = Described receipt
 
--- a client that has the response of the slot's serial needs no run.
+-- the stage after a head word was read. A client that has the response of the word's serial needs
+-- no run.
 abbrev pub matched_by : Bool → ℕ → Stage
 matched_by true word = ToAnswer (Valid (serial_in word))
 matched_by false word = ToTake 0
@@ -131,7 +135,7 @@ matched_by false word = ToTake 0
 abbrev pub matched : ℕ → List ℕ → Stage
 matched word serials = matched_by (is_match word serials) word
 
--- the stage after these head words were read.
+-- the stage of a job that lists head words, after these were read.
 abbrev pub listed : List ℕ → Stage
 listed words = if nat_lt (length words) 64 then ToList (record { items = words }) else ToAnswer (Listed words)
 
@@ -139,22 +143,22 @@ abbrev pub after_list : Stage → Stage
 after_list (ToList seen) = listed seen.items
 after_list other = other
 
--- image to be installed; a job with another request has none.
+-- the image that a job is to install; any other job has none.
 abbrev pub image_of : Ask → List ℕ
 image_of (Installs image initial) = image.items
 image_of other = []
 
--- the stage after the head word of a job's slot was raised.
+-- the stage after the head word of the job's slot was raised.
 abbrev pub word_raised : Stage → Stage
 word_raised (ToRaise word content) = ToAnswer content
 word_raised other = other
 
--- answer of the job at this stage.
+-- the answer of the job at this stage, if the job is to be answered.
 abbrev pub content_at : Stage → Option Content
 content_at (ToAnswer content) = Some content
 content_at other = None
 
--- stage of a job after it is answered.
+-- the stage of a job after it was answered.
 abbrev pub ended : Stage → Stage
 ended (ToAnswer content) = Gone
 ended other = other

@@ -1,5 +1,5 @@
--- A job's transitions by its calls: each call with the data of the stage that needs it, and with
--- its result.
+-- A job's transitions by its calls. Each call has its result, and the data of the stage that needs
+-- it.
 use Rattle.std.specs.Prelude.{ℕ, Option, Some, None, List, [], ◌∷◌, ◌++◌, if◌then◌else◌}
 use Rattle.arrayvec.specs.ArrayVec.{ArrayVec}
 use Rattle.fc_kinds.specs.Meaning.{Program}
@@ -23,35 +23,35 @@ use Rattle.fc_core.specs.TurnStage.{TurnStage}
 use Rattle.fc_core.specs.TurnStage as turns
 use Rattle.fc_core.specs.Stages.{after_commit, listed, made, matched, removed, receipt_content, took, turn_took, with_id}
 
--- a call for a job.
+-- a call for a job, with its result.
 pub data Call : Type 0 where
-  -- read the head word of the job's slot; the job's client has the responses of these serials.
+  -- read the head word of the job's slot; `serials` are the job's ETags.
   Matches : (serials : List ℕ) (word : ℕ) → Call
-  -- read the head word of the slot after those already read.
+  -- read the head word of the slot after those whose words were read.
   Lists : (seen : ArrayVec ℕ) (word : ℕ) → Call
   Takes : (count : ℕ) (taken : Taken) → Call
   Commits : (count : ℕ) (ticket : Ticket) (committed : Committed) → Call
   Installs : (program : Program) (initial : InitialVars) (answer : Made) → Call
-  -- no install: the image breaks a rule, and this is the answer.
+  -- no install, since the image breaks a rule; this is the job's answer.
   Rejects : (content : Content) → Call
-  -- no install: memory was refused.
+  -- no install, since memory was refused.
   Refuses : Call
   Removes : (removal : Removal) → Call
   Describes : (receipt : Option Receipt) → Call
-  -- raise the head word of the job's slot; this answer follows.
+  -- raise the head word of the job's slot; `content` is the answer that the job gives then.
   Raises : (word : ℕ) (content : Content) → Call
   Answers : (content : Content) → Call
-  -- the snapshot of a lease.
+  -- take the snapshot of a lease.
   TakesTurn : (turn : Turn) (taken : Taken) → Call
-  -- a message ID for a lease, or none.
+  -- draw a message ID for a lease; `free` is `None` if none is available.
   Draws : (turn : Turn) (found : Option Ticket) (free : Option ℕ) → Call
   Notes : (turn : Turn) (found : Option Ticket) (id : ℕ) → Call
-  -- a lease is released, whatever it needs.
+  -- release a lease, whatever the lease needs.
   GivesUp : (turn : Turn) (needs : TurnStage) → Call
-  -- the job's worker is lost, whatever the job needs.
+  -- lose the job's worker, whatever the job needs.
   Loses : (needs : Stage) → Call
 
--- stage that needs the call.
+-- the stage that needs the call.
 abbrev pub called_at : Call → Stage
 called_at (Matches serials word) = ToMatch
 called_at (Lists seen word) = ToList seen
@@ -70,7 +70,7 @@ called_at (Notes turn found id) = ToTell turn (turns.ToNote found id)
 called_at (GivesUp turn needs) = ToTell turn needs
 called_at (Loses needs) = needs
 
--- stage of the job after the call: the transition by the call's result.
+-- the stage of the job after the call, by the call's result.
 abbrev pub next_stage : Call → Stage
 next_stage (Matches serials word) = matched word serials
 next_stage (Lists seen word) = listed (seen.items ++ word ∷ [])
@@ -86,14 +86,14 @@ next_stage (TakesTurn turn taken) = turn_took turn taken
 next_stage (Draws turn found free) = ToTell turn (with_id found free)
 next_stage other = Gone
 
--- change of the job's slot by the call's result.
+-- the change of the job's slot, by the call's result.
 abbrev pub changes_of_call : Call → List Change
 changes_of_call (Commits count t (Done m)) = if m.changed then Wrote (commit_of t) ∷ [] else []
 changes_of_call (Installs p initial (Raised serial created)) = Installed p initial ∷ []
 changes_of_call (Removes (removals.Removed serial)) = Removed ∷ []
 changes_of_call other = []
 
--- head word that the call raises for the job's slot.
+-- the head word that the call raises for the job's slot, if any.
 abbrev pub word_of_call : Call → Option ℕ
 word_of_call (Raises word content) = Some word
 word_of_call other = None

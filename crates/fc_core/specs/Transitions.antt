@@ -1,7 +1,7 @@
 -- The transitions of a history: the effect of each event on the job that it names, and on that
--- job's slot and shard. An event is a call for its job; the result of the call depends on the slot
--- and its surroundings. Its transition is the effect of that call. An event that is no call leaves
--- the job as it is.
+-- job's slot and shard. An event is a call for the job. The result of the call depends on the slot
+-- and the slot's surroundings. The transition of an event is the effect of its call. An event that
+-- is no call leaves the job unchanged.
 use Rattle.std.specs.Prelude.{◌≡◌, ℕ, ◌/◌, ◌==◌, Bool, true, false, Option, Some, None, List, [], ◌∷◌, length, max}
 use Rattle.coap_msg.specs.declared.types.Emission.{Emission}
 use Rattle.fc_verify.specs.Accepted.{Judgement, Accepts, Breaks, Untypable}
@@ -27,7 +27,7 @@ use Rattle.fc_core.specs.declared.stage.Task.{Task}
 use Rattle.fc_core.specs.Stages.{image_of}
 use Rattle.fc_core.specs.Steps.{Call, Matches, Lists, Takes, Commits, Installs, Rejects, Refuses, Removes, Describes, Raises, Answers, TakesTurn, Draws, Notes, GivesUp, Loses, changes_of_call, next_stage, word_of_call}
 
--- job that an event names.
+-- the job that an event names, if any.
 abbrev pub names : Event → Option ℕ
 names (Peek job slot) = Some job
 names (Take job memory readings) = Some job
@@ -45,45 +45,46 @@ names other = None
 
 -- ---- inputs of an event
 
--- inputs shared by the jobs of all slots: the head words, and the message ID that is available at a
--- time.
+-- inputs that the jobs of all slots share: the head words, and the message ID that is available at
+-- each time.
 pub record Common : Type 0 where
   pub words : List ℕ
   pub free : ℕ → Option ℕ
 
--- surroundings of a job's slot: the shared inputs, its shard's time, and its observers.
+-- the surroundings of a job's slot: the shared inputs, the time of the slot's shard, and the slot's
+-- observers.
 pub record Around : Type 0 where
   pub common : Common
   pub time : ℕ
   pub watch : ObserverList
 
--- inputs of an event for the job that it names.
+-- the inputs of an event for the job that it names.
 pub record Inputs : Type 0 where
   pub job : Job
   pub slot : Slot
   pub around : Around
   pub stage : Stage
 
--- ---- its call
+-- ---- the call of an event
 
--- the call that reads the head word of the right slot; for another slot there is none.
+-- the call if the head word that is read is the one that the job needs, otherwise none.
 abbrev pub call_if : Bool → Call → Option Call
 call_if true call = Some call
 call_if false call = None
 
--- the install of an image by its judgement, if memory isn't refused.
+-- the call of an install by the judgement of its image, if memory isn't refused.
 abbrev pub install_call : InitialVars → Judgement → Slot → Call
 install_call initial (Accepts p) slot = Installs p initial (install_in slot p initial).answer
 install_call initial (Breaks rule k) slot = Rejects (Rejected rule k)
 install_call initial Untypable slot = Rejects Untyped
 
--- the same, with memory or without.
+-- the call of an install, with memory or without.
 abbrev pub install_if : Bool → InitialVars → Judgement → Slot → Call
 install_if true initial judgement slot = install_call initial judgement slot
 install_if false initial judgement slot = Refuses
 
--- call of an event for the job that it names, with its result; none if the job's stage needs
--- another call.
+-- the call of an event for the job that it names, with the call's result; `None` if the job's stage
+-- needs another call.
 abbrev pub call_at : Event → Inputs → Stage → Option Call
 call_at (Peek job n) s ToMatch = call_if (n == s.job.origin.slot) (Matches s.job.etags.items (word_at s.around.common.words n))
 call_at (Peek job n) s (ToList seen) = call_if (n == length seen.items) (Lists seen (word_at s.around.common.words n))
@@ -102,11 +103,11 @@ call_at (GiveUp job now) s (ToTell turn needs) = Some (GivesUp turn needs)
 call_at (Lose job) s needs = Some (Loses needs)
 call_at other s needs = None
 
--- ---- its effect
+-- ---- the effect of an event
 
--- transition of a job. It has the job's new stage, the changes of its slot and the calls on the
--- slot's observers, both the newest first. It also has the time passed to the slot's shard, and the
--- head word raised for the slot.
+-- the transition of a job. It has the job's new stage, the changes of the job's slot, and the calls
+-- on the slot's observers, the newest first. It also has the time passed to the slot's shard, and
+-- the head word raised for the slot, if any.
 pub record Effect : Type 0 where
   pub stage : Stage
   pub changes : List Change
@@ -118,22 +119,25 @@ pub record Effect : Type 0 where
 abbrev pub goes_to : Stage → Effect
 goes_to stage = record { stage = stage; changes = []; calls = []; hands = None; raises = None }
 
--- time that an event passes to the shard of its job's slot, and the random word of a notification.
+-- the time that an event passes to the shard of its job's slot, if any.
 abbrev pub handed_in : Event → Option ℕ
 handed_in (Commit job now) = Some now
 handed_in (Note job now random) = Some now
 handed_in (GiveUp job now) = Some now
 handed_in other = None
 
+-- the random word that an event has for a notification, or 0.
 abbrev pub random_in : Event → ℕ
 random_in (Note job now random) = random
 random_in other = 0
 
+-- the later of a time and the time that is passed, if any.
 abbrev pub handed : Option ℕ → ℕ → ℕ
 handed None before = before
 handed (Some now) before = max before now
 
--- calls on the slot's observers, at the shard's time after the event, with this random word.
+-- the calls of a call on the slot's observers. The time is that of the shard after the event, and
+-- the random word that of a notification.
 abbrev pub calls_of_call : ℕ → ℕ → Inputs → Call → List ObserverCall
 calls_of_call at random s (TakesTurn turn taken) = turn_calls turn at s.slot.present s.around.watch
 calls_of_call at random s (Commits count t committed) = commit_calls committed at t
@@ -151,16 +155,16 @@ effect_of e s (Some c) = record {
   raises = word_of_call c;
 }
 
--- transition of an event: the effect of its call.
+-- the transition of an event: the effect of the event's call.
 abbrev pub transition : Event → Inputs → Effect
 transition e s = effect_of e s (call_at e s s.stage)
 
--- notification that a lease sends at this stage.
+-- the notification that a lease sends at this stage, if any.
 abbrev pub notification : ℕ → Inputs → Stage → Option Emission
 notification now s (ToTell turn (turns.ToNote found id)) = note_at turn id (max s.around.time now) found s.around.watch
 notification now s other = None
 
--- emission of an event for the job that it names, apart from its answer.
+-- the emission of an event for the job that it names, apart from the job's answer.
 abbrev pub sends : Event → Inputs → Option Emission
 sends (Note job now random) s = notification now s s.stage
 sends other s = None
@@ -170,11 +174,11 @@ sends other s = None
 abbrev pub inputs_at : Task → Slot → Around → Inputs
 inputs_at task slot around = record { job = task.job; slot = slot; around = around; stage = task.stage }
 
--- surroundings of slot n at a shard.
+-- the surroundings of slot n at its shard.
 abbrev pub around_of : Shard → Common → ℕ → Around
 around_of shard common n = record { common = common; time = shard.now; watch = watch_at shard (n / 8) }
 
--- inputs of an event on a task at a shard.
+-- the inputs of an event on a task, at the shard of the task's slot.
 abbrev pub inputs_of : Shard → Common → Task → Inputs
 inputs_of shard common task = inputs_at task (slot_in shard task.job.origin.slot) (around_of shard common task.job.origin.slot)
 
@@ -185,12 +189,12 @@ task_moved task m = record { job = task.job; stage = m.stage }
 abbrev pub shard_moved : Effect → ℕ → Shard → Shard
 shard_moved m n shard = with_calls m.calls n (with_slot (record shard { now = handed m.hands shard.now }) n (after_changes (slot_in shard n) m.changes))
 
--- notification that a lease sends for its snapshot at a shard, after this time is passed to the
--- shard.
+-- the notification that a lease sends for its snapshot at a shard, after this time was passed to
+-- the shard.
 abbrev pub note_on : Shard → ℕ → Turn → ℕ → Option Ticket → Option Emission
 note_on shard now turn id found = note_at turn id (max shard.now now) found (watch_at shard (turn.slot / 8))
 
--- call for a commit of this ticket at a shard.
+-- the call of a commit of this ticket at a shard.
 abbrev pub commit_call : Shard → ℕ → Ticket → Call
 commit_call shard count t =
     let slot = slot_in shard t.origin.slot in
@@ -211,15 +215,16 @@ commit_effect shard count t now =
 abbrev pub install_effect : InitialVars → Judgement → Inputs → Effect
 install_effect initial judgement s = effect_of (Install 0 true) s (Some (install_call initial judgement s.slot))
 
--- a shard after a transition of this task.
+-- the shard after a transition of this task.
 abbrev pub shard_after : Effect → Task → Shard → Shard
 shard_after m task shard = shard_moved m task.job.origin.slot shard
 
--- the task, and the shard of its slot, after an event: for any shared inputs, since transitions of
--- slots don't depend on them.
+-- the task after an event. The shared inputs may be any, since transitions of slots don't depend on
+-- them.
 abbrev pub TaskMoves : Event → Shard → Task → Task → Type 0
 TaskMoves e shard old new = (common : Common) → new ≡ task_moved old (transition e (inputs_of shard common old))
 
+-- the shard of a task's slot after an event on the task, for any shared inputs.
 abbrev pub ShardMoves : Event → Shard → Task → Shard → Type 0
 ShardMoves e old task new = (common : Common) → new ≡ shard_after (transition e (inputs_of old common task)) task old
 

@@ -5,9 +5,8 @@ use Rattle.fc_registry.specs.Slots.{Ticket}
 pub data TurnStage : Type 0 where
   -- take a snapshot.
   ToTake : TurnStage
-  -- draw a message ID for the notification of this ticket; there is no ticket if the slot was
-  -- empty.
+  -- draw a message ID for the notification of this ticket, or of an empty slot if there is no
+  -- ticket.
   ToDraw : (found : Option Ticket) → TurnStage
-  -- send the lease's notification of this ticket, with this message ID; there is no ticket if the
-  -- slot was empty.
+  -- send the notification of this ticket, or of an empty slot, with this message ID.
   ToNote : (found : Option Ticket) (id : ℕ) → TurnStage

@@ -41,6 +41,7 @@ pub enum End {
 /// The head words of slots, from slot 0 on.
 pub type Words = ArrayVec<u64, WORDS>;
 
+// The body of an answer. The bytes of a run's block are stored next to it.
 #[derive(Drop)]
 pub(crate) enum AnswerBody {
     Ran {
@@ -56,9 +57,9 @@ pub(crate) enum AnswerBody {
 
 /// The answer of a job.
 ///
-/// The answer of a run is made from the run's outcome, and consumes the mark of its commit. Without
-/// a mark no answer of a run can be made. A clause sees the answer's content, except for the rule
-/// and the slot that a refusal by typing names. An answer has memory for a block, and is
+/// The answer of a run is made from the run's outcome, and consumes the mark of the run's commit.
+/// Without a mark no answer of a run can be made. In contracts an answer is its content, without
+/// the rule and the slot of a refusal by typing. An answer has memory for a block, and can be
 /// overwritten in place.
 #[derive(Drop)]
 pub struct Answer {
@@ -81,7 +82,8 @@ impl Model for Answer {
 impl Answer {
     /// Makes the answer of a run from its outcome and ticket, and consumes `mark`.
     ///
-    /// It has the outcome's code, the requested block of the reply, and the ticket's serial. `mark`
+    /// The answer has the outcome's code, the requested block of the reply, and the ticket's
+    /// serial. It also states whether the client is an observer of the slot from now on. `mark`
     /// shows that the run's commit was done.
     pub fn ran(outcome: &Outcome<'_>, ticket: &Ticket<'_>, mark: Mark) -> Answer
         requires { AreOne outcome.now ticket.now mark }
@@ -132,7 +134,7 @@ impl Answer {
     }
 
     // Returns the body of the answer and the stored bytes, of which `reply` makes a response. The
-    // bytes are those of the body's block; without a block they mean nothing.
+    // bytes are those of the answer's block. They mean nothing if the answer has no block.
     pub(crate) fn said(&self) -> (&AnswerBody, &[u8])
         ensures said { said_of result.0.now result.1.now ≡ self.now }
         ensures told { IsTold result.0.now }
@@ -142,8 +144,8 @@ impl Answer {
     }
 }
 
-// Writes the bytes of a block over `bytes`. Returns the block's place, which it has unless the
-// block is a whole body, or `None` if there is no block.
+// Writes the bytes of a block over `bytes`. If there is no block, returns `None` and writes
+// nothing. Otherwise returns the block's place, which a whole body doesn't have.
 fn write_block(
     block: Option<BodyBlock<'_>>,
     bytes: &mut ArrayVec<u8, BLOCK>,

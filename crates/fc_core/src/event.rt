@@ -5,8 +5,8 @@ use fc_help::Readings;
 /// An event of a server.
 ///
 /// Jobs are numbered from 0 in the order of their arrival, and shards from 0 to 7. Times are in
-/// milliseconds. An event has no effect if its job isn't at the stage that the event needs, or if
-/// its shard is above 7.
+/// milliseconds. An event has no effect if the job that it names isn't at the stage that the event
+/// needs. An event of a shard above 7 has no effect either.
 #[derive(Clone, Copy)]
 pub enum Event<'a> {
     /// A datagram is received.
@@ -43,11 +43,11 @@ pub enum Event<'a> {
         job: usize,
         memory: bool,
     },
-    /// A job removes a program.
+    /// A job removes the program of the job's slot.
     Remove {
         job: usize,
     },
-    /// A job reads a receipt.
+    /// A job reads the receipt of the program of the job's slot.
     Receipt {
         job: usize,
     },
@@ -81,7 +81,7 @@ pub enum Event<'a> {
         job: usize,
         now: u64,
     },
-    /// An endpoint acknowledged or reset a message.
+    /// An endpoint acknowledged the message with this message ID, or reset it.
     Signal {
         shard: u8,
         endpoint: Endpoint,

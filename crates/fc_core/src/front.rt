@@ -46,15 +46,15 @@ pub enum Delivered {
     Nothing,
     /// A datagram to send immediately.
     Reply(Emission),
-    /// A job.
+    /// The job of a new request.
     Job(Job),
-    /// An acknowledgement or a reset, for the observers.
+    /// An acknowledgement, or a reset, of the message `mid`, for the observers.
     Signal { mid: u16, reset: bool },
 }
 
 /// The result of a delivery, with the job or the response written separately.
 ///
-/// They are written over the caller's job and emission.
+/// The job and the response are written over those that the caller passes.
 #[derive(Clone, Copy, PartialEq, Eq)]
 pub enum Handled {
     /// Nothing: the datagram is ignored.
@@ -63,7 +63,7 @@ pub enum Handled {
     Reply,
     /// A job, which was written.
     Job,
-    /// An acknowledgement or a reset, for the observers.
+    /// An acknowledgement, or a reset, of the message `mid`, for the observers.
     Signal { mid: u16, reset: bool },
 }
 
@@ -80,7 +80,7 @@ pub enum Answered {
 
 /// The result of answering a job, with the response written separately.
 ///
-/// It is written over the caller's emission.
+/// The response is written over the emission that the caller passes.
 #[derive(Clone, Copy, PartialEq, Eq)]
 pub enum Responded {
     /// The response is to be sent, and was written.
@@ -91,13 +91,13 @@ pub enum Responded {
     NoId,
 }
 
-/// The opening of a job without an exchange. No exchange has its number.
+/// The opening of a job without an exchange, with a number that no exchange has.
 const NO_OPENING: Opening = Opening {
     number: u64::MAX,
     at: 0,
 };
 
-/// The endpoint of a timer's job: 0.0.0.0:0, which no peer has (RFC 1122, section 3.2.1.3).
+/// The endpoint of a timer's job: 0.0.0.0:0, which no peer has (RFC 1122, 3.2.1.3).
 const UNSPECIFIED: Endpoint = Endpoint {
     ip: [0; 4],
     port: 0,
@@ -105,8 +105,9 @@ const UNSPECIFIED: Endpoint = Endpoint {
 
 /// The protocol front end.
 ///
-/// It has the managers' networks, the exchanges younger than EXCHANGE_LIFETIME, the transfers in
-/// progress, and the message IDs that the server draws. It also has the latest time passed to it.
+/// A front has the managers' networks, the exchanges younger than EXCHANGE_LIFETIME, the transfers
+/// in progress, and the message IDs that the server draws. It also has the latest time that was
+/// passed to it.
 #[derive(Drop)]
 pub struct Front {
     managers: Managers,
@@ -128,10 +129,10 @@ impl Model for Front {
 }
 
 impl Front {
-    /// Makes a front with this policy and no exchange, which draws `first_id` first.
+    /// Makes a front with `policy` and no exchange, which draws `first_id` first.
     ///
     /// # Errors
-    /// Returns `AllocError` if memory for its exchanges, transfers or message IDs can't be
+    /// Returns `AllocError` if memory for the exchanges, transfers or message IDs can't be
     /// allocated.
     pub fn new(alloc: Global, policy: &Policy, first_id: u16) -> Result<Front, AllocError>
         ensures { IfOk result (λ f. f ≡ first_front policy.now first_id) }
@@ -147,7 +148,9 @@ impl Front {
 
     /// Handles a datagram: parses and classifies it, and searches the exchanges for it.
     ///
-    /// `now` is in milliseconds.
+    /// `now` is in milliseconds; the clock is advanced to it, and old exchanges expire. Returns the
+    /// job of a request that is served, the datagram to send immediately, or a signal for the
+    /// observers. If there is none of these, the result is `Nothing`.
     pub fn deliver(&mut self, now: u64, endpoint: Endpoint, bytes: &[u8]) -> Delivered
         ensures delivered { result ≡ receiving.delivered (advanced self.old now) endpoint bytes.now }
         ensures after { self.new ≡ after_delivered (advanced self.old now) endpoint bytes.now }
@@ -164,8 +167,8 @@ impl Front {
 
     /// Handles a datagram, and writes its job or response over the caller's.
     ///
-    /// See [`Front::deliver`]. Neither the job nor the response is moved. The contract says nothing
-    /// of `job` or `reply` unless the result says that it was written.
+    /// See [`Front::deliver`]. Neither the job nor the response is moved. `job` is written if the
+    /// result is `Job`, and `reply` if it is `Reply`. Otherwise the contract says nothing of them.
     #[tactic(auto, unfolding(crate::specs::Receiving::received))]
     pub fn handle(
         &mut self,
@@ -199,7 +202,7 @@ impl Front {
     /// Fires the timer of a slot, and writes its job over the caller's.
     ///
     /// `now` is in milliseconds, and the clock is advanced to it. The job is that of a POST from
-    /// 0.0.0.0:0. No exchange is opened for it, so its response goes to nobody.
+    /// 0.0.0.0:0. No exchange is opened for the POST, so its response goes to nobody.
     pub fn fire(&mut self, slot: SlotNumber, now: u64, job: &mut Job)
         ensures job { job.new ≡ timer_job slot }
         ensures after { self.new ≡ advanced self.old now }
@@ -210,8 +213,8 @@ impl Front {
 
     /// Draws a message ID for a lease's notification (RFC 7252, section 4.4).
     ///
-    /// `now` is in milliseconds, and the clock is advanced to it. Returns `None` if the next
-    /// message ID was last drawn less than EXCHANGE_LIFETIME before.
+    /// `now` is in milliseconds, and the clock is advanced to it. Returns `None`, and draws
+    /// nothing, if the next message ID was last drawn less than EXCHANGE_LIFETIME before.
     pub fn fresh_id(&mut self, now: u64) -> Option<u16>
         ensures id { result ≡ free_id (advanced self.old now).ids (advanced self.old now).now }
         ensures after { let f = advanced self.old now in self.new ≡ record f { ids = drawn_for false f.ids f.now } }
@@ -220,10 +223,11 @@ impl Front {
         self.ids.draw(self.now)
     }
 
-    /// Answers a job with its own answer.
+    /// Answers a job with `answer`, which is an answer of this job.
     ///
-    /// `now` is in milliseconds. Nothing is sent if the exchange's lifetime has passed by then, or
-    /// if no message ID is available.
+    /// `now` is in milliseconds, and the clock is advanced to it. Returns `Late` if the job has no
+    /// exchange or the exchange's lifetime has passed, and `NoId` if no message ID is available.
+    /// Otherwise returns `Sent` with the response, which is stored in the exchange.
     pub fn answer(&mut self, now: u64, job: &Job, answer: &Answer) -> Answered
         requires { IsOf job.now answer.now }
         ensures answered { AnswersIn (advanced self.old now) job.now answer.now result }
@@ -266,7 +270,7 @@ impl Front {
     }
 
     // Returns the message ID of a response: the request's `id` for an acknowledgement, otherwise
-    // the next one that the server draws. It is `None` if that message ID isn't available.
+    // the next one that the server draws. Returns `None` if the next one isn't available.
     fn reply_id(&mut self, confirmable: bool, id: u16) -> Option<u16>
         ensures id { result ≡ id_in self.old confirmable id }
         ensures after { self.new ≡ record self.old { ids = drawn_for confirmable self.old.ids self.old.now } }
@@ -278,14 +282,14 @@ impl Front {
         }
     }
 
-    // Advances the clock to `now`, never backwards. No exchange is expired yet.
+    // Advances the clock to `now`, never backwards, without expiring any exchange.
     fn hand(&mut self, now: u64)
         ensures { self.new ≡ handed self.old now }
     {
         self.now = self.now.max(now);
     }
 
-    // Ignores a datagram. Only old exchanges are expired.
+    // Ignores a datagram: expires old exchanges, and returns `Nothing`.
     fn ignore(&mut self) -> Handled
         ensures handled { result ≡ Handled.Nothing }
         ensures after { self.new ≡ front_expired self.old }
@@ -294,7 +298,7 @@ impl Front {
         Handled::Nothing
     }
 
-    // Rejects a message: writes a Reset message with its message ID over `reply`.
+    // Rejects a message: writes a Reset message with the message ID `id` over `reply`.
     fn reject(&mut self, endpoint: Endpoint, id: u16, reply: &mut Emission) -> Handled
         ensures handled { result ≡ Handled.Reply }
         ensures reply { reply.new ≡ reset_of endpoint id }
@@ -305,8 +309,8 @@ impl Front {
         Handled::Reply
     }
 
-    // Handles a message by its class, for `handle`: a request, an acknowledgement or reset for the
-    // observers, or a message that is rejected or ignored.
+    // Handles a message by its class, for `handle`. A request goes to `request`, and an
+    // acknowledgement or a reset to the observers. Others are rejected or ignored.
     fn receive(
         &mut self,
         endpoint: Endpoint,
@@ -337,9 +341,9 @@ impl Front {
         }
     }
 
-    // Handles a request. A new request without room for its exchange is answered 5.03. It is
-    // ignored instead if its address is over its share and it isn't confirmable. A duplicate gets
-    // the stored response, if there is one.
+    // Handles a request. A duplicate gets the stored response, if there is one. A new request
+    // without room for its exchange is answered 5.03. Above its address's share, only a confirmable
+    // request is answered so; any other is ignored.
     fn request(
         &mut self,
         endpoint: Endpoint,
@@ -379,7 +383,7 @@ impl Front {
     }
 
     // Handles a new request for which there is room, by `asking`: serves it, answers it with the
-    // code of a refusal, or sends no response. In each case an exchange is opened.
+    // code of a refusal, or sends no response. An exchange is opened in each case.
     fn open(
         &mut self,
         endpoint: Endpoint,
@@ -422,9 +426,11 @@ impl Front {
         }
     }
 
-    // Serves a new request that its endpoint is allowed to send: opens its exchange and writes its
-    // job over `job`. The payload of a block is added to its transfer; if that doesn't complete the
-    // body, the request is answered immediately.
+    // Serves a new request that its endpoint is allowed to send. The payload of a block is added to
+    // its transfer first. If the request has no block, or the body is then complete, opens an
+    // exchange, writes the request's job over `job`, and returns `Job`. Otherwise opens an exchange
+    // and answers the request immediately: writes the response over `reply` and returns `Reply`, or
+    // `Nothing` if no message ID is available.
     fn serve(
         &mut self,
         endpoint: Endpoint,
@@ -451,8 +457,8 @@ impl Front {
         }
     }
 
-    // Returns 4.03 (Forbidden) instead of `asking` if the request would be served and its endpoint
-    // isn't allowed its action; otherwise `asking`.
+    // Returns 4.03 (Forbidden) instead of `asking` if the request would be served, but `endpoint`
+    // isn't allowed `action`. Otherwise returns `asking`.
     fn authorize(&self, endpoint: Endpoint, asking: Asking<()>, action: Action) -> Asking<()>
         ensures { result ≡ authorized (is_allowed self.entry.now.managers endpoint action) asking }
     {
@@ -472,9 +478,9 @@ impl Front {
         !changes_program(action) || is_manager(&self.managers, endpoint)
     }
 
-    // Adds the payload of a new request with this block to its transfer. Serves the request if its
-    // body is complete; otherwise answers it immediately. This function isn't inlined: its caller
-    // would then zero the memory of a body for each request.
+    // Adds the payload of a new request with this block to the request's transfer. Serves the
+    // request if the body is complete; otherwise answers it immediately. This function isn't
+    // inlined: inlining would make its caller zero the memory of a body for each request.
     #[inline(never)]
     fn serve_block(
         &mut self,
@@ -536,7 +542,7 @@ impl Front {
         }
     }
 
-    // Adds a request's payload to its transfer. Returns the whole body, or why there is none.
+    // Adds a request's payload to its transfer. Returns the whole body, or why it isn't complete.
     fn add(&mut self, endpoint: Endpoint, request: &Request<'_>, block: Block) -> Added
         requires { request.now.block1 ≡ Some block }
         ensures added { add_seen result ≡ add_in self.old endpoint (asked_by request.now) }
@@ -550,8 +556,8 @@ impl Front {
     }
 
     // Writes the response to a request over `reply`: this code, and the block that the request
-    // sent. Returns whether a message ID was available; if not, there is no response. The exchange
-    // isn't closed.
+    // sent. Returns whether a message ID was available; if not, there is no response. The response
+    // isn't stored in the exchange.
     fn write_now(
         &mut self,
         endpoint: Endpoint,
@@ -575,8 +581,8 @@ impl Front {
         true
     }
 
-    // Opens an exchange for a request, and answers it immediately with this code. If no message ID
-    // is available, the result is `Nothing`, and the exchange stays without a response.
+    // Opens an exchange for a request, and answers the request immediately with this code. If no
+    // message ID is available, the result is `Nothing`, and the exchange stays without a response.
     fn respond_now(
         &mut self,
         endpoint: Endpoint,
@@ -602,16 +608,16 @@ impl Front {
 
 /// Returns whether an exchange is live at `now`, in milliseconds.
 ///
-/// It is live for less than EXCHANGE_LIFETIME after it was opened (RFC 7252, section 4.8.2). The
-/// opening of no exchange is never live.
+/// An exchange is live for less than EXCHANGE_LIFETIME after it was opened (RFC 7252, section
+/// 4.8.2). The opening of a job without an exchange is never live.
 pub fn is_live(now: u64, opening: &Opening) -> bool
     ensures { result ≡ spec.opening_is_live now opening.now }
 {
     opening.number < NO_OPENING.number && (now < opening.at || now - opening.at < WINDOW)
 }
 
-// Returns the result for a request that is answered immediately, if the response was written.
-// Otherwise no message ID was available, and the result is `Nothing`.
+// Returns the result for a request that is answered immediately: `Reply` if the response was
+// written. Otherwise no message ID was available, and the result is `Nothing`.
 fn replied(sent: bool) -> Handled
     ensures { result ≡ handled_if sent }
 {
@@ -646,7 +652,7 @@ pub fn blank_job() -> Job {
     }
 }
 
-// Writes the job of a slot's timer.
+// Writes the job of a slot's timer over `job`.
 fn write_timer_job(job: &mut Job, slot: SlotNumber)
     ensures { job.new ≡ timer_job slot }
 {
@@ -665,8 +671,8 @@ fn write_timer_job(job: &mut Job, slot: SlotNumber)
     write_post(&mut job.ask, slot.number());
 }
 
-// Writes a POST without a query and a payload. The memory of an image isn't touched unless `ask`
-// had one.
+// Writes the action of a POST without a Content-Format, a query and a payload over `ask`. The
+// memory of an image isn't touched unless `ask` was an install.
 fn write_post(ask: &mut Ask, slot: u8)
     ensures { ask.new ≡ Ask.Run (timer_request slot) }
 {
@@ -715,7 +721,7 @@ fn named_block(request: &Request<'_>) -> Option<Block>
     }
 }
 
-// Writes a message's token over another.
+// Writes a message's token over `token`.
 fn write_token(token: &mut Token, message: &Message<'_>)
     ensures { token.new.items ≡ message.now.token }
 {
@@ -723,8 +729,8 @@ fn write_token(token: &mut Token, message: &Message<'_>)
     let _fits = token.try_extend_from_slice(message.token());
 }
 
-// Writes a request's ETags. A request that registers or cancels an observation gets none, since it
-// needs a run.
+// Writes a request's ETags over `etags`. A request that registers or cancels an observation gets
+// none, since it needs a run.
 fn write_etags(etags: &mut ArrayVec<u64, ETAGS>, request: &Request<'_>)
     ensures { etags.new.items ≡ etags_by (observes request.now.observe) request.now.etags.items }
 {
@@ -741,7 +747,7 @@ fn observes(option: Option<u32>) -> bool
     has_observe(REGISTER, option) || has_observe(CANCEL, option)
 }
 
-// Returns the slot of an action. A list of the slots belongs to no slot, and its job has slot 0.
+// Returns the slot of an action. The list of slots belongs to no slot, so its result is 0.
 fn slot_asked(action: Action) -> u8
     ensures { result ≡ receiving.slot_asked action }
 {
@@ -772,8 +778,8 @@ fn write_ask(ask: &mut Ask, request: &Request<'_>, body: &[u8])
     }
 }
 
-// Writes the action of answering a request over `ask`. The memory of an image isn't touched unless
-// `ask` had one.
+// Writes the action of running `slot`'s program on a request over `ask`. The memory of an image
+// isn't touched unless `ask` was an install.
 fn write_run(ask: &mut Ask, method: Method, slot: u8, request: &Request<'_>)
     requires { IsServable (asked_by request.now) }
     ensures { ask.new ≡ Ask.Run (request_asked method slot (asked_by request.now)) }
@@ -784,7 +790,7 @@ fn write_run(ask: &mut Ask, method: Method, slot: u8, request: &Request<'_>)
     }
 }
 
-// Writes the action of answering a request over an action of another kind, for `write_run`.
+// Writes the same as `write_run`, over an action that isn't a run.
 fn write_run_anew(ask: &mut Ask, method: Method, slot: u8, request: &Request<'_>)
     requires { IsServable (asked_by request.now) }
     ensures { ask.new ≡ Ask.Run (request_asked method slot (asked_by request.now)) }
@@ -794,7 +800,7 @@ fn write_run_anew(ask: &mut Ask, method: Method, slot: u8, request: &Request<'_>
     *ask = Ask::Run(run);
 }
 
-// Writes the action of installing the program of an image over `ask`.
+// Writes the action of installing the program of `image` over `ask`.
 fn write_image(ask: &mut Ask, image: &[u8], initial: InitialVars)
     requires { length image.now ≤ 8208 }
     ensures { ask.new ≡ Ask.Install (record { items = image.now }) initial }
@@ -802,7 +808,7 @@ fn write_image(ask: &mut Ask, image: &[u8], initial: InitialVars)
     *ask = Ask::Install(image_of(image), initial);
 }
 
-// Returns `Kept` if the query of an install's request is `keep`, otherwise `Zeros`.
+// Returns `Kept` if the query of a PUT is `keep`, otherwise `Zeros`.
 fn initial_vars_by(query: &[u8]) -> InitialVars
     ensures { result ≡ initial_vars_by query.now }
 {
@@ -813,7 +819,7 @@ fn initial_vars_by(query: &[u8]) -> InitialVars
     }
 }
 
-// Returns a copy of an image.
+// Returns a copy of the bytes of an image.
 fn image_of(bytes: &[u8]) -> Body
     requires { length bytes.now ≤ 8208 }
     ensures { result.items ≡ bytes.now }

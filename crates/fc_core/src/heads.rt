@@ -28,7 +28,7 @@ pub fn serial_in(word: u64) -> u64
     word / 2
 }
 
-/// Returns whether the slot of a head word had a program.
+/// Returns whether a head word says that its slot has a program.
 pub fn is_present(word: u64) -> bool
     ensures { result ≡ spec.is_present word }
 {
@@ -37,7 +37,7 @@ pub fn is_present(word: u64) -> bool
 
 /// The greatest head word raised for each of the 64 slots.
 ///
-/// The word of a slot for which none was raised is 0. A clause sees the words.
+/// The word of a slot for which none was raised is 0. In contracts this is the list of the words.
 #[derive(Drop)]
 pub struct Heads {
     words: [u64; WORDS],
@@ -52,7 +52,7 @@ impl Model for Heads {
 }
 
 impl Heads {
-    /// Makes the head words before any was raised.
+    /// Makes the head words, each of them 0, before any was raised.
     pub fn new() -> Heads
         ensures { result ≡ spec.no_words }
     {

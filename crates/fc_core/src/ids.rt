@@ -12,7 +12,7 @@ use std::marker::Model;
 /// The number of message IDs.
 const IDS: usize = 65_536;
 
-/// The next message ID, and the time when each was last drawn.
+/// The next message ID, and for each message ID the time when it was last drawn.
 #[derive(Drop)]
 pub(crate) struct MessageIds {
     next: u16,
@@ -32,7 +32,8 @@ impl Model for MessageIds {
 
 impl MessageIds {
     #[tactic(auto, unfolding(crate::specs::Ids::no_draws))]
-    // Makes message IDs of which none was drawn; the next one is `first`.
+    // Makes message IDs of which none was drawn; the next one is `first`. Returns an error if
+    // memory can't be allocated.
     pub(crate) fn new(alloc: Global, first: u16) -> Result<MessageIds, AllocError>
         ensures { IfOk result (λ x. x ≡ first_ids first) }
     {
@@ -43,8 +44,8 @@ impl MessageIds {
         Ok(MessageIds { next: first, last })
     }
 
-    // Draws the next message ID. If it was last drawn less than EXCHANGE_LIFETIME before `now`,
-    // returns `None`, and nothing changes.
+    // Draws the next message ID. If that was last drawn less than EXCHANGE_LIFETIME before `now`,
+    // in milliseconds, returns `None`, and nothing changes.
     pub(crate) fn draw(&mut self, now: u64) -> Option<u16>
         ensures id { result ≡ free_id self.old now }
         ensures after { self.new ≡ drawn self.old now }
@@ -59,8 +60,8 @@ impl MessageIds {
     }
 }
 
-// Returns whether a message ID that was last drawn at `last` was drawn less than EXCHANGE_LIFETIME
-// before `now`.
+// Returns whether `now` is less than EXCHANGE_LIFETIME after `last`, the time when a message ID was
+// last drawn.
 fn is_recent(now: u64, last: Option<u64>) -> bool
     ensures { result ≡ is_recent now last }
 {

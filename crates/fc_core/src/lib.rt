@@ -1,7 +1,7 @@
 //! The core of the server: the protocol front end, answers, events and jobs.
 //!
-//! It also has the definitions of histories and of their legality. [`Front`] stores the exchanges:
-//! it parses datagrams, makes jobs, and writes responses. Each time and each byte is an argument;
+//! The crate also defines what a history is, and when it is legal. [`Front`] stores the exchanges.
+//! It parses datagrams, makes jobs, and writes responses. Each time and each byte is an argument;
 //! the crate has no clock and no socket. `specs/` defines the history, the stages of jobs, the
 //! changes of slots, and the permitted emissions of each event. A list of all events is judged by
 //! these definitions.
@@ -26,13 +26,13 @@
 //! # What is proved
 //!
 //! - Each delivery and each answer is as defined, including duplicates and message IDs. Each event
-//!   changes a job as the job's stage defines.
-//! - A run's answer can't be made without the mark of its commit, and answers its own job alone.
-//!   Only a success contains the requested block of its reply.
-//! - A PUT in blocks is executed exactly if its last block fits, with the joined payloads since
-//!   block number 0.
+//!   changes a job as defined for the job's stage.
+//! - A run's answer can't be made without the mark of the run's commit, and is no other job's
+//!   answer. Only the answer of a successful run contains the requested block of the reply.
+//! - A PUT in blocks is executed exactly if its last block fits. The body is then the payloads
+//!   since block number 0, joined.
 //! - A timer that fires makes the job of a POST of its slot's resource. The job has no exchange, so
-//!   its answer sends nothing.
+//!   answering the job sends nothing.
 //!
 //! By the contracts of `Front::deliver`, `handle`, `answer`, `respond`, `tick`, `fire`, `fresh_id`,
 //! `Heads`, `Task`, `Answer::ran`.

@@ -42,8 +42,8 @@ pub struct Policy {
     pub limits: Limits,
     /// The time in milliseconds after which a notification is confirmable.
     ///
-    /// It is counted from an observer's registration or last confirmable notification. RFC 7641,
-    /// section 4.5 allows at most 24 hours. At 0 each notification is confirmable.
+    /// The time is counted from an observer's registration or last confirmable notification. RFC
+    /// 7641, section 4.5 allows at most 24 hours. If it is 0, each notification is confirmable.
     pub confirm_after: u64,
 }
 
@@ -73,7 +73,7 @@ impl Network {
     }
 }
 
-/// Returns whether an endpoint may change a slot's program.
+/// Returns whether an endpoint's address is in one of the managers' networks.
 pub fn is_manager(managers: &Managers, endpoint: Endpoint) -> bool
     ensures { result ≡ spec.is_manager managers.now endpoint }
 {

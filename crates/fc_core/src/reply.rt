@@ -91,8 +91,8 @@ fn ended(job: &Job, id: u16, end: &End, bytes: &mut Datagram)
     }
 }
 
-// Writes a 2.03 (Valid) response. Its ETag is the slot's serial; the client already has the
-// response of that serial.
+// Writes a 2.03 (Valid) response over `bytes`. Its ETag is `serial`, the slot's serial; the client
+// already has the response of this serial.
 fn valid(envelope: &Envelope<'_>, serial: u64, bytes: &mut Datagram)
     ensures { to_peer envelope.now bytes.new ≡ sent_in envelope.now
         (record { code = code 2 3; options = etag serial; payload = [] }) }
@@ -107,8 +107,8 @@ fn valid(envelope: &Envelope<'_>, serial: u64, bytes: &mut Datagram)
 // Content-Format of `application/link-format` (RFC 7252, section 12.3).
 const LINK_FORMAT: u16 = 40;
 
-// Writes a 2.05 (Content) response with links to the slots that have a program, by their head
-// words.
+// Writes a 2.05 (Content) response over `bytes`, with the requested block of the links to the slots
+// that have a program. `words` are the head words of the slots.
 fn links(job: &Job, id: u16, words: &[u64], bytes: &mut Datagram)
     requires { length words.now ≤ 64 }
     ensures { IsReplyTo job.now id (Listed words.now) (to_job job.now bytes.new) }
@@ -119,7 +119,7 @@ fn links(job: &Job, id: u16, words: &[u64], bytes: &mut Datagram)
 }
 
 // Writes the response to an install over `bytes`: this code, and the receipt as the payload. If the
-// job names a block, the last of the image, the response repeats it as Block1.
+// image came in blocks, the response has the last one as Block1.
 fn made(job: &Job, id: u16, code: Code, receipt: &Receipt, bytes: &mut Datagram)
     requires { 64 ≤ code.byte }
     ensures { to_job job.now bytes.new ≡ sent_in (spec.envelope_of job.now id)
@@ -146,7 +146,7 @@ fn link_options() -> ReplyOptions
 }
 
 // Returns all bytes except the first, which is the comma before the first link. Returns no bytes if
-// there are none.
+// `bytes` is empty.
 fn after_first(bytes: &[u8]) -> &[u8]
     ensures { result.now ≡ drop 1 bytes.now }
 {
@@ -156,8 +156,8 @@ fn after_first(bytes: &[u8]) -> &[u8]
     }
 }
 
-// Writes the response to a request that is answered immediately over `emission`, with this message
-// ID, a code, and the block that the request sent.
+// Writes the response to a request that is answered immediately over `emission`. It has this
+// message ID, this code, and the block that the request sent as Block1.
 pub(crate) fn immediate(
     id: u16,
     to: Endpoint,

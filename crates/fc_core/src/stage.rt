@@ -33,17 +33,17 @@ pub enum Step {
     ToTake(u8),
     /// Commit the run of this program; the number counts the snapshots so far.
     ToCommit(u8, Arc<Verified>),
-    /// Install the program of its image.
+    /// Install the program of the job's image.
     ToInstall,
-    /// Remove its slot's program.
+    /// Remove the program of the job's slot.
     ToRemove,
-    /// Read the receipt of its slot's program.
+    /// Read the receipt of the program of the job's slot.
     ToDescribe,
-    /// Read the head word of the slot after those whose words the job has listed.
+    /// Read the next slot's head word, after the words that the job has listed.
     ToList,
     /// Raise the head word of the job's slot to this word, then send the job's answer.
     ToRaise(u64),
-    /// Send its answer.
+    /// Send the job's answer.
     ToAnswer,
     /// Notify this lease's observer; the second field is the lease's next action.
     ToTell(Turn, TurnStep),
@@ -66,9 +66,9 @@ pub enum TurnStep {
 
 /// The stage of a job.
 ///
-/// It has the job's next action, and memory for its snapshot, for the head words that it lists, and
-/// for its answer. Each is written over the data of an earlier job. A clause sees the action with
-/// the data that belongs to it.
+/// A stage has the job's next action, and memory for the job's snapshot, listed head words and
+/// answer. The data in this memory is overwritten for each job. In contracts a stage is the action
+/// with the data that the action needs.
 #[derive(Drop)]
 pub struct Stage {
     pub step: Step,
@@ -100,7 +100,7 @@ pub struct Task {
 impl Stage {
     /// Returns the stage of a job that never arrived.
     ///
-    /// Its memory is for the jobs that [`Stage::begin`] starts.
+    /// The memory of the stage is for the jobs that [`Stage::begin`] starts.
     pub fn blank() -> Stage
         ensures { result ≡ Gone }
     {
@@ -127,8 +127,8 @@ impl Stage {
 
     /// Sets the first stage of a request's job.
     ///
-    /// [`Stage::begin`] calls it for a job without a lease; the workers (`fc_workers`) run no other
-    /// jobs.
+    /// [`Stage::begin`] calls this function for a job without a lease. The workers (`fc_workers`)
+    /// call it directly, since none of their jobs has a lease.
     pub fn ask(&mut self, job: &Job)
         ensures { self.new ≡ asked_stage job.now }
     {
@@ -147,8 +147,8 @@ impl Stage {
 
     /// Continues after reading the head word of a run's slot.
     ///
-    /// If the word belongs to a program at a serial of which the client has the response, the
-    /// answer is 2.03 (Valid). Then there is no run. Otherwise the job needs a snapshot.
+    /// If `word` belongs to a program at a serial that is one of the job's ETags, the answer is
+    /// 2.03 (Valid), without a run. Otherwise the job takes a snapshot next.
     pub fn matched(&mut self, job: &Job, word: u64)
         ensures { self.new ≡ stages.matched word job.now.etags.items }
     {
@@ -175,7 +175,8 @@ impl Stage {
 
     /// Continues after an install; `receipt` has no version yet.
     ///
-    /// The slot's head word is raised next. If the slot is at its last serial, the answer is 5.03.
+    /// The slot's head word is raised next, and then the job is answered with the receipt. If the
+    /// slot is at its last serial, the answer is 5.03.
     pub fn made(&mut self, receipt: Receipt, made: Made)
         requires { IsMadeBelow made }
         ensures { self.new ≡ stages.made receipt made }
@@ -196,7 +197,7 @@ impl Stage {
     /// Continues after a removal.
     ///
     /// The slot's head word is raised next, unless the slot was empty. In both cases the answer is
-    /// 2.02. If the slot is at its last serial, the answer is 5.03.
+    /// 2.02. If the slot has a program and is at its last serial, the answer is 5.03.
     pub fn removed(&mut self, removal: Removal)
         requires { IsRemovedBelow removal }
         ensures { self.new ≡ stages.removed removal }
@@ -233,9 +234,7 @@ impl Stage {
         self.step = Step::ToAnswer;
     }
 
-    /// Continues after a failed allocation: the answer is 5.03.
-    ///
-    /// The answer is the same if the slot is at its last serial.
+    /// Continues after a failed allocation, or at the last serial: the answer is 5.03.
     pub fn unavailable(&mut self)
         ensures { self.new ≡ ToAnswer Unavailable }
     {
@@ -245,7 +244,7 @@ impl Stage {
 
     /// Continues after the head words of all slots were listed: they are the answer.
     ///
-    /// Nothing changes if the job lists no head words.
+    /// Nothing changes if the job's next action isn't to list a head word.
     pub fn listed(&mut self)
         requires { HasListed self.old }
         ensures { self.new ≡ after_list self.old }
@@ -260,7 +259,7 @@ impl Stage {
 
     /// Continues after the head word of the job's slot was raised.
     ///
-    /// Nothing changes if the job was to raise none.
+    /// Nothing changes if the job's next action isn't to raise a head word.
     pub fn raised(&mut self)
         ensures { self.new ≡ stages.word_raised self.old }
     {
@@ -279,8 +278,8 @@ impl Stage {
         }
     }
 
-    // Returns the job's lease if the job notifies an observer and takes its snapshot next, or
-    // `None`. `Task::take` and `refuse_take` use it to distinguish a lease from a request.
+    // Returns the job's lease if the lease takes its snapshot next, or `None`. `Task::take` and
+    // `refuse_take` distinguish a lease from a request by this result.
     pub(crate) fn turn_to_take(&self) -> Option<Turn>
         ensures { result ≡ stages.turn_to_take self.now }
     {
@@ -293,12 +292,13 @@ impl Stage {
 
 /// The next actions, with the answer written separately.
 ///
-/// They are for a caller that borrows the stage's snapshot and answer one by one.
+/// These functions are for a caller that borrows the snapshot and the answer of a stage separately.
 impl Step {
     /// Continues after a request's snapshot; `count` snapshots came before it.
     ///
-    /// A program is run and committed next. Otherwise `answer` is written: 4.04 if the slot is
-    /// empty, 5.03 if memory can't be allocated.
+    /// If the snapshot gave a program, the program's run is committed next. Otherwise `answer` is
+    /// written, and sent next: 4.04 if the slot is empty, 5.03 if memory can't be allocated. The
+    /// answer is 5.03 too if the result is that of a lease that isn't active.
     pub fn took(count: u8, taken: Taken, answer: &mut Answer) -> Step
         requires { count < 8 }
         ensures { LeadsTo taken (stages.took count) result answer.new }
@@ -316,8 +316,9 @@ impl Step {
 
     /// Continues after the snapshot of a lease.
     ///
-    /// The lease needs a message ID next, also if the slot is empty. A lease that isn't active is
-    /// over. If memory can't be allocated, the lease still needs its snapshot.
+    /// If the snapshot gave a program, or the slot is empty, the lease needs a message ID next. A
+    /// lease that isn't active has ended. If memory can't be allocated, the lease still needs its
+    /// snapshot.
     pub fn turn_took(turn: Turn, taken: Taken) -> Step
         ensures { (content : Content) → LeadsTo taken (stages.turn_took turn) result content }
     {
@@ -331,9 +332,10 @@ impl Step {
 
     /// Continues after a commit.
     ///
-    /// If the slot changed since the run's snapshot, the job takes another snapshot, at most eight
-    /// in all. An outcome that doesn't belong to the ticket is no outcome of this job, and the
-    /// answer is 5.03.
+    /// If the commit was done, the answer is that of the run, and the head word is raised first if
+    /// the slot changed. If the slot had changed since the snapshot, the job takes another
+    /// snapshot, at most eight in all. Otherwise the answer is 5.03: the slot is at its last
+    /// serial, or the outcome doesn't belong to the ticket.
     pub fn committed(
         count: u8,
         outcome: &Outcome<'_>,
@@ -361,8 +363,8 @@ impl Step {
         }
     }
 
-    // Continues after the slot changed since the snapshot; `count` is the number of snapshots. The
-    // job takes another snapshot; after the eighth, `answer` is 5.03.
+    // Continues if the slot has changed since the snapshot; `count` is the number of snapshots so
+    // far. The job takes another snapshot; after the eighth, `answer` is 5.03 and is sent next.
     fn overtaken(count: u8, answer: &mut Answer) -> Step
         ensures { StandsAt result answer.new (stages.retaken count) }
     {
@@ -373,8 +375,8 @@ impl Step {
         Step::ToAnswer
     }
 
-    // Continues after a failed allocation, or if the slot is at its last serial: `answer` is 5.03,
-    // and is sent next.
+    // Continues after a failed allocation, at the slot's last serial, or after a wrong call:
+    // `answer` is 5.03, and is sent next.
     fn unavailable(answer: &mut Answer) -> Step
         ensures { StandsAt result answer.new (ToAnswer Unavailable) }
     {

@@ -1,7 +1,7 @@
 //! Tasks: the effect of each event on a job, its slot and its shard.
 //!
-//! `fc_server` applies an event by one of these calls. A call has no effect if the task's stage
-//! needs another call, except [`Task::begin`] and [`Task::lose`].
+//! `fc_server` applies an event by one of these calls. Except for [`Task::begin`] and
+//! [`Task::lose`], a call has no effect if the task's stage needs another call.
 ghost use Rattle.std.specs.Prelude.{◌≡◌, ℕ, ◌<◌, List, None, Option, Some, false, option_copied, max, OnOk, IsErr};
 ghost use Rattle.fc_verify.specs.Accepted.{Accepts};
 ghost use Rattle.fc_verify.specs.Judged.{judged};
@@ -63,7 +63,7 @@ impl Task {
         self.stage.begin(&self.job);
     }
 
-    /// Reads the head word of `slot`, if it is the one that the job needs next.
+    /// Reads the head word of `slot`, if the job needs the head word of this slot next.
     pub fn peek(&mut self, slot: u8, heads: &Heads)
         requires { HasNext self.old.stage }
         ensures { (k : ℕ) (shard : Shard) (free : ℕ → Option ℕ) → let common : Common = record { words = heads.now; free = free } in
@@ -86,10 +86,11 @@ impl Task {
         }
     }
 
-    /// Takes a snapshot of the job's slot in its shard, with these readings.
+    /// Takes a snapshot of the job's slot in `shard`, with these readings.
     ///
-    /// Returns whether memory could be allocated; `true` if no snapshot is needed. If not, a
-    /// request is answered 5.03, and a lease still needs its snapshot.
+    /// Returns `false` if memory for the snapshot can't be allocated: then a request is answered
+    /// 5.03, and a lease still needs its snapshot. Returns `true` in all other cases, also if no
+    /// snapshot is needed.
     pub fn take(&mut self, shard: &mut Shard, readings: &Readings) -> bool
         requires owned { IsOwned shard.old self.old.job.origin.slot }
         requires fits { FitsStage self.old.job (slot_in shard.old self.old.job.origin.slot) self.old.stage }
@@ -109,7 +110,8 @@ impl Task {
         memory
     }
 
-    // Takes the snapshot of the job's lease `turn`. Returns whether memory could be allocated.
+    // Takes the snapshot of the job's lease `turn`. Returns `false` if memory for the snapshot
+    // can't be allocated, otherwise `true`.
     fn take_turn(&mut self, turn: Turn, shard: &mut Shard, readings: &Readings) -> bool
         requires owned { IsOwned shard.old self.old.job.origin.slot }
         requires fits { FitsStage self.old.job (slot_in shard.old self.old.job.origin.slot) self.old.stage }
@@ -126,8 +128,8 @@ impl Task {
 
     /// Takes a snapshot as if memory couldn't be allocated.
     ///
-    /// It applies a `Take` whose `memory` is `false`. Only an empty slot, and a lease that isn't
-    /// active any more, need no memory.
+    /// The call applies a `Take` whose `memory` is `false`. It has the effect of [`Task::take`] for
+    /// an empty slot and for a lease that isn't active any more, since these need no memory.
     pub fn refuse_take(&mut self, shard: &mut Shard)
         requires owned { IsOwned shard.old self.old.job.origin.slot }
         requires fits { FitsStage self.old.job (slot_in shard.old self.old.job.origin.slot) self.old.stage }
@@ -157,7 +159,9 @@ impl Task {
         stage.step = Step::turn_took(turn, taken);
     }
 
-    /// Runs the snapshot's program, and commits in its shard at `now`, in milliseconds.
+    /// Runs the snapshot's program, and commits the run in `shard`.
+    ///
+    /// `now` is in milliseconds. See [`Step::committed`].
     pub fn commit(&mut self, frame: &mut Frame, shard: &mut Shard, now: u64)
         requires owned { IsOwned shard.old self.old.job.origin.slot }
         requires fits { FitsStage self.old.job (slot_in shard.old self.old.job.origin.slot) self.old.stage }
@@ -172,7 +176,7 @@ impl Task {
         stage.step = run_and_commit(frame, *count, &ticket, shard, now, &mut stage.answer);
     }
 
-    /// Removes its slot's program in its shard.
+    /// Removes the program of the job's slot in `shard`. See [`Stage::removed`].
     pub fn remove(&mut self, shard: &mut Shard)
         requires { IsOwned shard.old self.old.job.origin.slot }
         ensures task { (k : ℕ) → TaskMoves (Event.Remove k) shard.old self.old self.new }
@@ -184,7 +188,7 @@ impl Task {
         }
     }
 
-    /// Reads the receipt of its slot's program in its shard.
+    /// Reads the receipt of the program of the job's slot in `shard`.
     pub fn describe(&mut self, shard: &Shard)
         ensures { (k : ℕ) → TaskMoves (Event.Receipt k) shard.entry.now self.old self.new }
     {
@@ -194,10 +198,11 @@ impl Task {
         }
     }
 
-    /// Verifies its image, and installs the program in its slot in its shard.
+    /// Verifies the job's image, and installs the program in the job's slot.
     ///
-    /// Returns whether memory could be allocated; `true` if no install is needed. If not, no slot
-    /// changes, and the job is answered 5.03. An image that breaks a rule is answered 4.00.
+    /// Returns `false` if memory can't be allocated: then no slot changes, and the job is answered
+    /// 5.03. Returns `true` in all other cases, also if no install is needed. An image that breaks
+    /// a rule is answered 4.00.
     pub fn install(&mut self, alloc: Global, shard: &mut Shard) -> bool
         requires { IsOwned shard.old self.old.job.origin.slot }
         ensures task { (k : ℕ) → TaskMoves (Event.Install k result) shard.old self.old self.new }
@@ -221,7 +226,7 @@ impl Task {
 
     /// Installs as if memory couldn't be allocated: the job is answered 5.03.
     ///
-    /// It applies an `Install` whose `memory` is `false`.
+    /// The call applies an `Install` whose `memory` is `false`.
     pub fn refuse_install(&mut self)
         ensures { (k : ℕ) (shard : Shard) → TaskMoves (Event.Install k false) shard self.old self.new }
     {
@@ -231,7 +236,7 @@ impl Task {
         }
     }
 
-    /// Publishes the new head word of its slot.
+    /// Publishes the new head word of the job's slot.
     pub fn raise(&mut self, heads: &mut Heads)
         ensures task { (k : ℕ) (shard : Shard) → TaskMoves (Event.Raise k) shard self.old self.new }
         ensures words { (k : ℕ) (shard : Shard) (common : Common) →
@@ -244,14 +249,14 @@ impl Task {
         }
     }
 
-    /// Returns its answer if it is to be answered next, or `None`.
+    /// Returns the job's answer if the job is to be answered next, or `None`.
     pub fn content(&self) -> Option<&Answer>
         ensures { option_copied result ≡ content_at self.now.stage }
     {
         self.stage.content()
     }
 
-    /// Ends a task that was to be answered, so that it is answered once.
+    /// Ends a task whose job is to be answered next, so that it is answered once.
     pub fn end(&mut self)
         ensures { self.new ≡ task_moved self.old (goes_to (ended self.old.stage)) }
     {
@@ -261,7 +266,7 @@ impl Task {
         }
     }
 
-    /// Returns whether it needs a message ID for the notification of its lease.
+    /// Returns whether the task needs a message ID for its lease's notification.
     pub fn needs_id(&self) -> bool
         ensures { result ≡ needs_id self.now.stage }
     {
@@ -269,9 +274,9 @@ impl Task {
         matches!(stage.step, Step::ToTell(_, TurnStep::ToDraw(_)))
     }
 
-    /// Stores the message ID `free` for the notification of its lease.
+    /// Stores the message ID `free` for the notification of the task's lease.
     ///
-    /// If `free` is `None`, the lease still needs one.
+    /// If `free` is `None`, the lease still needs a message ID.
     pub fn draw(&mut self, free: Option<u16>)
         ensures { self.new ≡ task_moved self.old (goes_to (drew free self.old.stage)) }
     {
@@ -284,11 +289,11 @@ impl Task {
         }
     }
 
-    /// Runs the program in its lease's snapshot, and notifies the lease's observer.
+    /// Runs the program of the lease's snapshot, and notifies the lease's observer.
     ///
     /// `now` is in milliseconds. No program runs if the slot was empty. The observer is notified if
-    /// the lease is still active. The datagram is written over `emission`. Returns whether there is
-    /// one to send. The task has then ended.
+    /// the lease is still active. The datagram is written over `emission`, and the task has ended.
+    /// Returns whether there is a datagram to send.
     pub fn note(
         &mut self,
         frame: &mut Frame,
@@ -314,7 +319,7 @@ impl Task {
         sent
     }
 
-    /// Ends the task: releases its lease in its shard at `now`, in milliseconds.
+    /// Ends the task: releases the task's lease in `shard`. `now` is in milliseconds.
     pub fn give_up(&mut self, shard: &mut Shard, now: u64)
         requires owned { IsOwned shard.old self.old.job.origin.slot }
         requires fits { FitsStage self.old.job (slot_in shard.old self.old.job.origin.slot) self.old.stage }
@@ -328,7 +333,7 @@ impl Task {
         }
     }
 
-    /// Ends the task, since its worker is lost. It is never answered.
+    /// Ends the task, since its worker is lost. The job is never answered.
     pub fn lose(&mut self)
         ensures { self.new ≡ task_moved self.old (goes_to Gone) }
     {
@@ -344,8 +349,8 @@ fn had_memory(taken: &Taken) -> bool
     !matches!(taken, Taken::Refused)
 }
 
-// Returns the result that a snapshot has if memory can't be allocated: `Refused` instead of a
-// program, any other result as it is.
+// Returns the result of a snapshot as if memory couldn't be allocated: `Refused` instead of a
+// program. Any other result needs no memory, and stays as it is.
 fn without_memory(taken: Taken) -> Taken
     ensures { (f : SlotSnapshot) → (taken_with result f ≡ without_memory (taken_with taken f)) × HasSize result f }
 {
@@ -355,7 +360,7 @@ fn without_memory(taken: Taken) -> Taken
     }
 }
 
-/// Returns the image that a job is to install; no bytes for any other job.
+/// Returns the image that a job is to install, or no bytes for any other job.
 pub fn image(ask: &Ask) -> &[u8]
     ensures { result.now ≡ image_of ask.now }
 {
@@ -366,7 +371,8 @@ pub fn image(ask: &Ask) -> &[u8]
 }
 
 // Runs the ticket's program and commits the run in the shard. Returns the next action, and writes
-// the answer over `answer` if there is one. `count` is the number of snapshots so far.
+// the answer over `answer` if the run or the commit determines one. `count` is the number of
+// snapshots so far.
 fn run_and_commit(
     frame: &mut Frame,
     count: u8,
@@ -403,9 +409,9 @@ fn ticket_if<'a>(program: &'a Option<Arc<Verified>>, found: &'a SlotSnapshot) ->
     }
 }
 
-// Notifies the observer of a lease: runs the program of its ticket, or reports that the slot was
-// found empty if `found` is `None`. The datagram is written over `emission`. Returns whether there
-// is one to send.
+// Notifies the observer of a lease. Runs the program of the lease's ticket, or reports that the
+// slot was empty if `found` is `None`. The datagram is written over `emission`. Returns whether
+// there is a datagram to send.
 fn note(
     frame: &mut Frame,
     shard: &mut Shard,
@@ -442,8 +448,8 @@ fn note(
     }
 }
 
-// Installs the program of an image, or records the rule that the image breaks, and sets the stage
-// after that. The error is that memory can't be allocated; then the shard is unchanged.
+// Installs the program of an image, or records the rule that the image breaks, and sets the next
+// stage. Returns an error if memory can't be allocated; then the shard is unchanged.
 fn verify_and_install(
     alloc: Global,
     image: &[u8],
@@ -469,7 +475,7 @@ fn verify_and_install(
     }
 }
 
-// Installs a verified program, and sets the stage after that. The error is that memory can't be
+// Installs a verified program, and sets the next stage. Returns an error if memory can't be
 // allocated; then the shard is unchanged.
 fn install_program(
     alloc: Global,

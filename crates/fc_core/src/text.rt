@@ -17,7 +17,7 @@ pub(crate) const TEXT: usize = 128;
 // A short text in ASCII.
 pub(crate) type Text = ArrayVec<u8, TEXT>;
 
-// Appends bytes.
+// Appends bytes to a text that has room for them.
 fn push_bytes(text: &mut Text, bytes: &[u8])
     requires { length text.old.items + length bytes.now ≤ 128 }
     ensures items { text.new.items ≡ text.old.items ++ bytes.now }
@@ -26,7 +26,7 @@ fn push_bytes(text: &mut Text, bytes: &[u8])
     let _fits = text.try_extend_from_slice(bytes);
 }
 
-// Appends a number in decimal, which has at most twenty digits.
+// Appends a number in decimal, which has at most twenty digits, to a text.
 fn push_decimal(text: &mut Text, number: u64)
     requires { length text.old.items + 20 ≤ 128 }
     ensures items { text.new.items ≡ text.old.items ++ decimal number }
@@ -71,7 +71,8 @@ pub(crate) fn receipt_line(receipt: &Receipt) -> Text
 // Capacity for the links: 64 times a comma, `</r/`, two digits and `>;obs` are 768 bytes.
 pub(crate) const LINKS: usize = 1024;
 
-// Returns the links to the slots that have a program, by their head words, each after a comma.
+// Returns the links to the slots that have a program, each after a comma. `words` are the head
+// words of the slots.
 pub(crate) fn link_lines(words: &[u64]) -> ArrayVec<u8, LINKS>
     requires { length words.now ≤ 64 }
     ensures text { result.items ≡ links_from 0 words.now }

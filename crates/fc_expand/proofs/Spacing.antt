@@ -1,4 +1,5 @@
--- Sources that are plain from a byte on, and sources without tabs with spaces for them.
+-- Sources that are plain from a byte on, and the replacement of tabs by spaces in sources without
+-- tabs.
 use Rattle.std.proofs.Common.{arith, length-drop, take_all, ◌≡◌, ℕ, zero, suc, ◌+◌, ◌<◌, ◌-◌, take, length, ◌&&◌, not, Bool, true, false, List, [], ◌∷◌, drop, map, refl, sym, ap, ◌∙◌}
 use Rattle.std.specs.Prelude.{if◌then◌else◌}
 use Rattle.std.proofs.lemmas.Bool.{and_parts}
@@ -22,13 +23,13 @@ untrue : (x : Bool) → not x ≡ true → x ≡ false
 untrue true e = sym e
 untrue false e = refl
 
--- a source without tabs and carriage returns is unchanged with spaces for them.
+-- a source without tabs and carriage returns doesn't change if they are replaced by spaces.
 pub spaced_is : (text : List ℕ) → has_no_tab text ≡ true → map as_space text ≡ text
 spaced_is [] h = refl
 spaced_is (b ∷ more) h = let p : (not (is_tab b) ≡ true) × (has_no_tab more ≡ true) = and_parts (not (is_tab b)) (has_no_tab more) h in
     ap (λ x. x ∷ map as_space more) (spaced_byte b (untrue (is_tab b) p.0)) ∙ ap (λ l. b ∷ l) (spaced_is more p.1)
 
--- so is a plain source.
+-- a plain source is unchanged too.
 pub plain_is_spaced : (text : List ℕ) → is_plain text ≡ true → (is_plain_but_for_tabs text ≡ true) × (map as_space text ≡ text)
 plain_is_spaced text h = let p : (is_plain_but_for_tabs text ≡ true) × (has_no_tab text ≡ true) = and_parts (is_plain_but_for_tabs text) (has_no_tab text) h in
     (p.0, spaced_is text p.1)

@@ -8,7 +8,7 @@ use crate::words::{from_word, is_blank, is_name, split_word};
 use fc_asm::vocabulary::{is_register, operands_of};
 use std::alloc::{AllocError, Global};
 
-/// A constant, its line, counted from 1, and its number as that line writes it.
+/// A constant: its name, its line, counted from 1, and its number as written there.
 #[derive(Clone, Copy)]
 pub(crate) struct Constant<'a> {
     name: &'a [u8],
@@ -60,11 +60,11 @@ pub(crate) fn value_of<'a>(constants: &[Constant<'a>], name: &[u8]) -> Option<&'
     }
 }
 
-/// Appends the text after a constant's number, and nothing of the line before.
+/// Appends the text after a constant's number, but nothing before that text.
 ///
 /// # Errors
-/// Returns the mistake of a malformed line, or of a name that an earlier constant or something else
-/// has. Returns `NoMemory` if memory can't be allocated.
+/// Returns the mistake of a malformed line, or of a name that an earlier constant, a label, a
+/// register, an instruction or a helper has. Returns `NoMemory` if memory can't be allocated.
 pub(crate) fn expand_constant(
     out: &mut Vec<u8>,
     body: &[u8],

@@ -61,9 +61,9 @@ struct Place<'a> {
 /// The kind of name that an instruction accepts, apart from a constant's.
 #[derive(Clone, Copy)]
 enum Wanted {
-    /// A jump or `callf`: the label of its target, as its last operand.
+    /// A jump or `callf`: a label, as the last operand.
     Label,
-    /// `call`: a helper, as its first operand.
+    /// `call`: the name of a helper, as the first operand.
     Helper,
     /// Any other instruction: no name.
     Nothing,
@@ -143,9 +143,9 @@ fn expand_lines(text: &[u8], names: LabelNames<'_>) -> Result<Vec<u8>, ExpandErr
     Ok(out)
 }
 
-/// Appends the line that replaces this one, and returns its number of slots.
+/// Appends the replacement of the line `code`, and returns its number of slots.
 ///
-/// `line` is its number, counted from 1, and `slot` the slot of its instruction.
+/// `line` is the line's number, counted from 1, and `slot` the slot of its instruction.
 fn expand_line(
     out: &mut Vec<u8>,
     code: &[u8],
@@ -199,10 +199,13 @@ fn expand_words(out: &mut Vec<u8>, body: &[u8], place: &Place<'_>) -> Result<(),
     Ok(())
 }
 
-/// Appends the replacement of the first piece of `rest`, and returns its size.
+/// Appends the replacement of the first piece of `rest` to `out`.
 ///
-/// The size is that of the piece in bytes, and 0 at the line's end. `before` is the line's text
-/// before `rest`.
+/// Returns the length of the piece in bytes, or 0 if `rest` is empty. A piece is a separator, a
+/// comment, a number or a word. `before` is the line's text before `rest`.
+///
+/// # Errors
+/// Returns the mistake in a number or a name, or an error if memory can't be allocated.
 fn expand_piece(
     out: &mut Vec<u8>,
     before: &[u8],
@@ -230,8 +233,8 @@ fn spaced(out: &mut Vec<u8>, bytes: &[u8]) -> Result<usize, PieceError>
 
 /// Appends the replacement of the first word of `rest`, and returns its size.
 ///
-/// The replacement is that of a hexadecimal number, of a name as an operand, or the word itself.
-/// The size is the word's. `before` is the line's text before `rest`.
+/// A hexadecimal number and a name as an operand have replacements; any other word is appended
+/// unchanged. The size is the word's. `before` is the line's text before `rest`.
 fn word(
     out: &mut Vec<u8>,
     before: &[u8],

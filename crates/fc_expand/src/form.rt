@@ -1,6 +1,7 @@
 //! Mistakes that the preprocessor finds.
 //!
-//! They are in labels, constants, helpers' names, numbers and texts of the assembler's source.
+//! The mistakes are in labels, constants, helpers' names, numbers and texts of the assembler's
+//! source.
 use fc_asm::{AsmError, Mistake};
 use std::fmt;
 
@@ -11,9 +12,9 @@ pub enum Form {
     UnknownLabel,
     /// A label that an earlier line has.
     DoubleLabel,
-    /// A character that isn't ASCII between two `'`, or something directly after it.
+    /// A character that isn't ASCII between two `'`, or has something after it.
     Character,
-    /// A text that isn't ASCII between two `"`, or something directly after it.
+    /// A text that isn't ASCII between two `"`, or has something directly after it.
     Packed,
     /// A text of more than eight characters.
     LongPacked,
@@ -23,9 +24,9 @@ pub enum Form {
     UnknownHelper,
     /// A line `.const` without exactly a name and a number.
     Constant,
-    /// A constant that an earlier line has.
+    /// A constant whose name an earlier line defines.
     DoubleConstant,
-    /// A constant with the name of something else.
+    /// A constant with the name of a label, a helper, an instruction or a register.
     TakenConstant,
 }
 
@@ -77,7 +78,7 @@ impl Form {
     }
 }
 
-/// A line with such a mistake, counted from 1. It prints as `A2 line 7`.
+/// A mistake, and its line, counted from 1. They print as `A2 line 7`.
 #[derive(Clone, Copy, Debug, PartialEq, Eq)]
 pub struct BadForm {
     pub form: Form,

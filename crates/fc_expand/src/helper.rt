@@ -1,7 +1,7 @@
 //! The helpers, by their names in a source.
 use fc_help::helper::{Helper, helper_of};
 
-/// Returns the number of the helper with this name, or `None` if none has it.
+/// Returns the number of the helper with this name, or `None` for any other name.
 pub(crate) fn number_of_helper(name: &[u8]) -> Option<u64> {
     for number in 1..8 {
         if let Some(helper) = helper_of(number) {

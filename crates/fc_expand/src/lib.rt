@@ -1,12 +1,12 @@
 //! The assembler's preprocessor, line for line.
 //!
-//! It replaces labels, constants, names of helpers, hexadecimal numbers, characters and texts by
-//! numbers that the assembler accepts.
+//! The preprocessor replaces labels, constants, names of helpers, hexadecimal numbers, characters
+//! and texts by numbers that the assembler accepts.
 //!
 //! # What is proved
 //!
-//! - A source without `:`, `'`, `"`, `0x`, `.c` and a possible call by name is expanded to itself,
-//!   with spaces for tabs and carriage returns.
+//! - A source without `:`, `'`, `"`, `0x`, `.c` and possible calls by name is expanded to
+//!   itself. Only its tabs and carriage returns become spaces.
 //!
 //! By the contracts of `expand`.
 #![tactic(auto)]

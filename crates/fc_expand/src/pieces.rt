@@ -26,7 +26,7 @@ impl<T: Drop> From<AllocFailed<T>> for PieceError {
 
 /// Appends the number that `rest` begins with, or its first word otherwise.
 ///
-/// Returns the number of bytes of `rest` that it replaces.
+/// Returns the number of bytes of `rest` that the appended number or word replaces.
 ///
 /// # Errors
 /// Returns the mistake in a character, a text or a hexadecimal number, or `NoMemory` if memory
@@ -49,7 +49,7 @@ pub(crate) fn number_piece(
     }
 }
 
-/// Appends the code of a character, from after its first `'`.
+/// Appends the code of a character; `more` is the text after its first `'`.
 ///
 /// Returns the number of bytes from the first `'` to the second, both included.
 ///
@@ -73,7 +73,7 @@ fn is_printed(byte: u8) -> bool {
     byte == b' ' || byte.is_ascii_graphic()
 }
 
-/// Appends the number of a text, from after its `.text`.
+/// Appends the number of a text; `more` is the source after its `.text`.
 ///
 /// Returns the number of bytes from `.text` to the second `"`, both included.
 ///

@@ -7,8 +7,8 @@ use std::alloc::AllocError;
 
 /// Returns whether a source has nothing to expand but tabs and carriage returns.
 ///
-/// That is so if no mark begins anywhere in it. `expand` then only replaces tabs and carriage
-/// returns by spaces.
+/// That is so if no mark begins anywhere in the source. `expand` then only replaces tabs and
+/// carriage returns by spaces.
 pub(crate) fn is_plain_but_for_tabs(text: &[u8]) -> bool
     ensures { result ≡ is_plain_but_for_tabs text.now }
 {

@@ -1,4 +1,4 @@
--- Each step keeps the rule.
+-- Each step keeps the rule of the words and all views.
 use Rattle.std.proofs.Common.{◌≡◌, ◌≢◌, ◌⊎◌, ℕ, zero, suc, ◌<◌, ◌≤◌, max, List, [], ◌∷◌, ◌++◌, length, set, get_or, refl, sym, ap, ◌∙◌, subst, ⊎_elim, inl, inr, arith}
 use Rattle.std.specs.Prelude.{slice_index}
 use Rattle.std.proofs.lemmas.Grind.{common_steps}
@@ -10,7 +10,8 @@ use Rattle.atomic_table.proofs.Lists.{at_set, at_snoc, set_again}
 use Rattle.fc_heads.specs.declared.view.View.{View}
 use Rattle.fc_heads.specs.Heads.{zeros, fresh, note, met, higher, peeked, raised_to, greatest_raised, AreGreatest, IsWhole}
 
--- one view's published words are replaced by others, of which this one is the greater of it and m
+-- if one view's published word becomes the greater of it and m, so does the greatest published word
+-- of the slot.
 pub top_set : (slot m : ℕ) (views : List View) (seat : ℕ) (v w : View) → get_elem? views seat ≡ some v → slice_index w.raised slot ≡ max (slice_index v.raised slot) m → greatest_raised slot (set views seat w) ≡ max (greatest_raised slot views) m
 top_set slot m [] seat v w at e = absurd (some-ne-none v (sym at))
 top_set slot m (x ∷ xs) zero v w at e =
@@ -36,7 +37,7 @@ higher_at (x ∷ xs) [] i = omega arith
 higher_at (x ∷ xs) (y ∷ ys) zero = refl
 higher_at (x ∷ xs) (y ∷ ys) (suc i) = higher_at xs ys i
 
--- the rule for one view, with these words
+-- the view has seen no word that is greater than these words.
 abbrev Below : List ℕ → View → Type 0
 Below words v = (slot : ℕ) → slot < 64 → slice_index v.seen slot ≤ slice_index words slot
 
@@ -48,7 +49,7 @@ below_set old words views by w up others mine j u e =
     (λ (x : (j ≢ by) × (get_elem? views j ≡ some u)). λ slot lt. let a = others j u x.1 slot lt in let b = up slot lt in omega arith)
     (at_set views by j w u e)
 
--- a slot of a list that is set
+-- an element of a list, after one was set: it is the one that was set, or is unchanged.
 index_set : (xs : List ℕ) (i x j : ℕ) → i < length xs → ((j ≡ i) × (slice_index (set xs i x) j ≡ x)) ⊎ ((j ≢ i) × (slice_index (set xs i x) j ≡ slice_index xs j))
 index_set xs i x j lt = elim (ℕ_discrete j i) [ yes e ↦ inl (e, grind (arith, common_steps)) | no n ↦ inr (n, grind (arith, common_steps)) ]
 
@@ -63,7 +64,7 @@ begins words is = record {
     one zero v e slot lt = let a : slice_index v.seen slot ≡ slice_index zeros slot = ap (λ (u : View). slice_index u.seen slot) (sym (some-injective _ _ e)) in let b = zeros_at slot lt in omega arith
     one (suc by) v e slot lt = absurd (some-ne-none v (sym e))
 
--- a load: the word doesn't change, and the handle has seen it
+-- a load keeps the rule: the word doesn't change, and the handle has seen it.
 pub peeks : (words : List ℕ) (views : List View) (id i : ℕ) (v : View) → AreGreatest words views → get_elem? views id ≡ some v → i < 64 → length v.seen ≡ 64
     → AreGreatest (set words i (slice_index words i)) (set views id (peeked v i (slice_index words i)))
 peeks words views id i v h at lt whole =
@@ -78,7 +79,7 @@ peeks words views id i v h at lt whole =
           (λ slot l. let old = h.seen id v at slot l in let e = same slot in ⊎_elim (λ (x : (slot ≡ i) × (slice_index (set v.seen i n) slot ≡ n)). let y = ap (λ (k : ℕ). slice_index words k) x.0 in let z = x.1 in omega arith) (λ (x : (slot ≢ i) × (slice_index (set v.seen i n) slot ≡ slice_index v.seen slot)). let z = x.1 in omega arith) (index_set v.seen i n slot (omega arith)));
     }
 
--- the word is replaced by the greater of it and k
+-- a publication keeps the rule: the word is replaced by the greater of the word and k.
 pub raises : (words : List ℕ) (views : List View) (id i k : ℕ) (v : View) → AreGreatest words views → get_elem? views id ≡ some v → i < 64 → length v.seen ≡ 64 → length v.raised ≡ 64
     → AreGreatest (set words i (max (slice_index words i) k)) (set views id (raised_to v i k (slice_index words i)))
 raises words views id i k v h at lt whole whole' =
@@ -116,7 +117,7 @@ raises words views id i k v h at lt whole whole' =
     tops slot l (inl x) (inr y) = absurd (y.0 x.0)
     tops slot l (inr x) (inl y) = absurd (x.0 y.0)
 
--- a new view, which has published nothing and has seen no more than this one
+-- a new view keeps the rule, if it has published nothing and has seen no more than this one.
 pub forks : (words : List ℕ) (views : List View) (id : ℕ) (v w : View) → AreGreatest words views → get_elem? views id ≡ some v → ((slot : ℕ) → slot < 64 → slice_index w.raised slot ≡ 0) → ((slot : ℕ) → slot < 64 → slice_index w.seen slot ≤ slice_index v.seen slot)
     → AreGreatest words (set views id v ++ w ∷ [])
 forks words views id v w h at none less = subst (λ (vs : List View). AreGreatest words (vs ++ w ∷ [])) (sym (set_again views id v at)) record {
@@ -125,7 +126,7 @@ forks words views id v w h at none less = subst (λ (vs : List View). AreGreates
   seen = λ j u e. ⊎_elim (λ was. h.seen j u was) (λ (same : w ≡ u). subst (Below words) same (λ slot l. let a = less slot l in let b = h.seen id v at slot l in omega arith)) (at_snoc views w u j e);
 }
 
--- a fresh view is added
+-- a fresh view keeps the rule.
 pub arrives : (words : List ℕ) (views : List View) → AreGreatest words views → AreGreatest words (views ++ fresh ∷ [])
 arrives words views h = record {
   size = h.size;
@@ -133,7 +134,8 @@ arrives words views h = record {
   seen = λ j u e. ⊎_elim (λ was. h.seen j u was) (λ (same : fresh ≡ u). subst (Below words) same (λ slot l. let z = zeros_at slot l in omega arith)) (at_snoc views fresh u j e);
 }
 
--- a view adds the knowledge of a note, and the note is empty
+-- a merge keeps the rule: a view adds the knowledge of a note, and the note is replaced by a fresh
+-- view.
 pub merges : (words : List ℕ) (views : List View) (id other : ℕ) (v w : View) → AreGreatest words views → get_elem? views id ≡ some v → other ≢ id → get_elem? (set views id (met v w)) other ≡ some w → ((slot : ℕ) → slot < 64 → slice_index w.raised slot ≡ 0)
     → AreGreatest words (set (set views id (met v w)) other fresh)
 merges words views id other v w h at apart there none =
@@ -153,11 +155,11 @@ length-higher [] (y ∷ ys) e = absurd (omega arith)
 length-higher (x ∷ xs) [] e = refl
 length-higher (x ∷ xs) (y ∷ ys) e = ap suc (length-higher xs ys (omega arith))
 
--- the same, if the note and the view are given by equations
+-- a merge keeps the rule, if the note and the view are given by equations.
 pub merges_as : (words : List ℕ) (views : List View) (id other : ℕ) (v w : View) (u : View) → w ≡ note u → AreGreatest words views → get_elem? views id ≡ some v → other ≢ id → get_elem? (set views id (met v w)) other ≡ some w
     → AreGreatest words (set (set views id (met v w)) other fresh)
 merges_as words views id other v w u is h at apart there = merges words views id other v w h at apart there (λ slot l. ap (λ (x : View). slice_index x.raised slot) is ∙ zeros_at slot l)
 
--- a whole view is whole after its handle exchanged knowledge with another
+-- a view of 64 words has 64 words after its handle exchanged knowledge with another one.
 pub met_is_whole : (v w : View) → IsWhole v → IsWhole w → IsWhole (met v w)
 met_is_whole v w old other = (length-higher v.seen w.seen (omega arith) ∙ old.0, old.1)

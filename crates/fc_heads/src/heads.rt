@@ -8,7 +8,7 @@ use atomic_table::{Seat, Table};
 use std::alloc::{AllocError, Global};
 use std::marker::Model;
 
-/// Number of slots that have a word.
+/// The number of slots that have a word.
 pub const HEAD_WORDS: usize = 64;
 
 /// The published words of 64 slots, each initially 0.
@@ -32,7 +32,8 @@ impl Model for Heads {
 
 /// A handle to the words, for one thread.
 ///
-/// In contracts a handle is the table of its words, and the values that it has seen and published.
+/// In contracts a handle is the table of its words, and the values that the handle has seen and
+/// published.
 #[derive(Drop)]
 pub struct HeadSeat {
     seat: Seat<u8, View>,
@@ -65,10 +66,10 @@ impl Heads {
 
     /// Makes another handle, which has seen and published nothing.
     ///
-    /// `from` stays as it is. A thread that has no handle calls [`Heads::new_seat`].
+    /// `from` is unchanged. A thread that has no handle calls [`Heads::new_seat`].
     ///
     /// # Errors
-    /// Returns no error at present: it allocates no memory.
+    /// No error is returned at present, since the call allocates no memory.
     pub fn seat(&self, from: &mut HeadSeat) -> Result<HeadSeat, AllocError>
         requires { from.old.table ≡ self.now }
         ensures new { IfOk result (λ s. s ≡ record { table = self.now; view = fresh }) }
@@ -81,7 +82,7 @@ impl Heads {
 
     /// Makes another handle, which has seen and published nothing.
     ///
-    /// It is for a thread that has no handle from which to make one.
+    /// This call is for a thread that has no handle from which to make one.
     pub fn new_seat(&self) -> HeadSeat
         ensures { result ≡ record { table = self.now; view = fresh } }
     {
@@ -92,8 +93,8 @@ impl Heads {
 
     /// Loads the word of a slot, 0 to 63.
     ///
-    /// The word is at least the greatest value of it that the handle has seen. The handle has then
-    /// seen it.
+    /// The result is at least the greatest value of this word that the handle has seen before. The
+    /// handle has then seen the result.
     pub fn peek(&self, slot: u8, seat: &mut HeadSeat) -> u64
         requires seat { seat.old.table ≡ self.now }
         requires slot { slot < 64 }
@@ -105,8 +106,8 @@ impl Heads {
 
     /// Publishes a value in the word of a slot, 0 to 63.
     ///
-    /// A value lower than the word doesn't change it. The handle has then published this value, and
-    /// has seen the greater of both.
+    /// A value lower than the word doesn't change the word. The handle has then published the
+    /// value, and has seen the greater of the value and the word.
     pub fn raise(&self, slot: u8, word: u64, seat: &mut HeadSeat)
         requires seat { seat.old.table ≡ self.now }
         requires slot { slot < 64 }

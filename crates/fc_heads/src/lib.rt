@@ -28,9 +28,9 @@
 //!
 //! # What is proved
 //!
-//! - A load of a word returns at least the greatest value that the handle has seen of it. After a
+//! - A load returns at least the greatest value of the word that the handle has seen. After a
 //!   publication the handle has seen at least the published value. Two handles that exchange
-//!   knowledge have seen the values that either had seen.
+//!   knowledge have then both seen the values that either had seen.
 //! - Under every schedule a word is the greatest value that was published, or 0, and no view has
 //!   seen a greater one.
 //! - None of these calls takes a lock or waits.

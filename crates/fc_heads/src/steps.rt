@@ -1,8 +1,8 @@
 //! The atomic steps on a word, for the methods of [`Heads`](crate::Heads).
 //!
-//! They are a load, and a step that sets the word to the greater of two numbers. A seat is the part
-//! of a handle that `atomic_table` defines. In a clause `me.0` is the handle's view. `me.1` lists
-//! the table's slots that the handle has taken out: none.
+//! The steps are a load, and a step that sets the word to the greater of two numbers. A seat is the
+//! part of a handle that `atomic_table` defines. In contracts `me.0` is the handle's view. `me.1`
+//! lists the table's slots that the handle has taken out: none.
 ghost use Rattle.std.specs.Prelude.{◌≡◌, ◌<◌, ◌≤◌, []};
 ghost use Rattle.fc_heads.specs.Heads.{IsWhole, fresh, peeked, raised_to, met, word_of};
 
@@ -13,7 +13,7 @@ use std::alloc::Global;
 /// The table of the words.
 pub(crate) type Words = Table<u8, View, (), Greatest, Global>;
 
-/// Loads the word of a slot, which the handle has then seen.
+/// Loads the word of a slot, and returns it; the handle has then seen it.
 pub(crate) fn load(words: &Words, slot: usize, seat: &mut Seat<u8, View>) -> u64
     requires size { words.now.shared.table_id.words ≡ 64 }
     requires table { seat.old.table_id ≡ words.now.shared.table_id }
@@ -26,9 +26,9 @@ pub(crate) fn load(words: &Words, slot: usize, seat: &mut Seat<u8, View>) -> u64
     words.shared.load::<Peeks>(seat, slot)
 }
 
-/// Sets the word of a slot to the greater of it and `word`.
+/// Sets the word of a slot to the greater of the word and `word`.
 ///
-/// Returns the previous value.
+/// Returns the previous value of the word.
 pub(crate) fn raise(words: &Words, slot: usize, word: u64, seat: &mut Seat<u8, View>) -> u64
     requires size { words.now.shared.table_id.words ≡ 64 }
     requires table { seat.old.table_id ≡ words.now.shared.table_id }
@@ -43,7 +43,7 @@ pub(crate) fn raise(words: &Words, slot: usize, word: u64, seat: &mut Seat<u8, V
 
 /// Makes a handle that has seen and published nothing, from another one.
 ///
-/// The other one stays as it is.
+/// The other handle is unchanged.
 pub(crate) fn another(words: &Words, seat: &mut Seat<u8, View>) -> Seat<u8, View>
     requires size { words.now.shared.table_id.words ≡ 64 }
     requires table { seat.old.table_id ≡ words.now.shared.table_id }

@@ -6,7 +6,7 @@ use std::collections::LinkedList;
 
 /// The values that a handle has seen and published, for each slot.
 ///
-/// It is never instantiated: only contracts use it.
+/// No value of this type is made: only contracts use it.
 pub struct View {
     pub seen: LinkedList<u64>,
     pub raised: LinkedList<u64>,
@@ -25,7 +25,7 @@ impl TableRule<u8, View, ()> for Greatest {
     ghost first = { λ _. fresh };
 }
 
-/// A load of a word, which the handle then has seen.
+/// A load of a word: the handle has seen the word then.
 pub(crate) struct Peeks;
 
 impl Play<u8, View> for Peeks {
@@ -46,7 +46,7 @@ impl Play<u8, View> for Raises {
         × (w ≡ (raised_to v.0 s.word s.first found, v.1)) };
 }
 
-/// A handle that gives another its knowledge.
+/// The step by which a handle gives another one its knowledge.
 pub(crate) struct Tells;
 
 impl Split<View> for Tells {

@@ -20,7 +20,7 @@ padded_size size bytes h =
 pub refill_whole : (n : ℕ) (old new : List ℕ) → length new ≡ n → refill n old new ≡ new
 refill_whole n old new size = take_at new (drop (length new) old) n size
 
--- bytes of which the first were overwritten, and then the others
+-- bytes of which the first were overwritten, and then all others, are the new bytes
 pub written_over : (old first last : List ℕ) (at : ℕ) → length first ≡ at → put_mid at (length (first ++ drop at old) - at) (first ++ drop at old) last ≡ first ++ last
 written_over old first last at size =
     let rest : List ℕ = drop at old in
@@ -28,19 +28,20 @@ written_over old first last at size =
     let none : drop (length (first ++ rest) - at) (drop at (first ++ rest)) ≡ [] = ap (drop (length (first ++ rest) - at)) (drop_at first rest at size) ∙ drop_all (length (first ++ rest) - at) rest (omega (arith, long, size)) in
     (λ i. take_at first rest at size i ++ (last ++ none i)) ∙ ap (λ l. first ++ l) (append-nil last)
 
--- the others don't change
+-- overwriting the first bytes doesn't change the others
 pub others_kept : (old first : List ℕ) (at : ℕ) → length first ≡ at → take (length (first ++ drop at old) - at) (drop at (first ++ drop at old)) ≡ drop at old
 others_kept old first at size =
     let rest : List ℕ = drop at old in
     let long = length-append first rest in
     ap (take (length (first ++ rest) - at)) (drop_at first rest at size) ∙ take_all (length (first ++ rest) - at) rest (omega (arith, long, size))
 
--- if all is zero from a place on, so it is from a later place on
+-- bytes that are zero from a place on are zero from any later place on
 zero_further : (before at : ℕ) (room : List ℕ) → before ≤ at → IsZeroFrom before room → IsZeroFrom at room
 zero_further before at room le zero =
     ap (λ n. drop n room) {x = at} {y = before + (at - before)} (omega (arith, le)) ∙ (sym (drop-drop (at - before) before room) ∙ (ap (drop (at - before)) zero ∙ (drop-replicate (at - before) (length room - before) 0 ∙ ap (λ n. replicate n 0) {x = length room - before - (at - before)} {y = length room - at} (omega (arith, le)))))
 
--- bytes over the first of others, which are zero after them, are padded
+-- if the old bytes after a place are zero, overwriting the bytes before it by padded bytes pads
+-- them to 1,024
 pub padded_over : (room bytes first : List ℕ) (before at : ℕ) → length room ≡ 1024 → before ≤ at → length bytes ≤ at → at ≤ 1024 → IsZeroFrom before room → first ≡ padded at bytes → first ++ drop at room ≡ padded 1024 bytes
 padded_over room bytes first before at size le fits few zero is =
     ap (λ l. l ++ drop at room) is ∙ (append_assoc bytes (replicate (at - length bytes) 0) (drop at room)
@@ -72,7 +73,7 @@ readings_whole bytes e =
     let zeros : List ℕ = replicate 64 0 in
     ap (λ n. take n (bytes ++ zeros)) (sym e) ∙ take-append_seam bytes zeros
 
--- a part in the middle of bytes
+-- the part at the place of some bytes, with their length, is these bytes
 part : (before bytes after : List ℕ) → part_at (before ++ (bytes ++ after)) (length before) (length bytes) ≡ bytes
 part before bytes after = ap (take (length bytes)) (drop-append_seam before (bytes ++ after)) ∙ take-append_seam bytes after
 
@@ -103,7 +104,7 @@ pub laid_out : (r : Request) (region : List ℕ) → FitsRegion r → region ≡
 laid_out r region fits e =
     (ap (λ m. part_at m 16 (length r.query)) e ∙ query_back r, ap (λ m. part_at m 80 (length r.payload)) e ∙ payload_back r fits.query)
 
--- the region is a head and a query, and then a payload
+-- a head and a padded query, followed by a padded payload, are the region of their request
 pub region_parts : (r : Request) (first last region : List ℕ) → region ≡ first ++ last → first ≡ region_head r ++ padded 64 r.query → last ≡ padded 1024 r.payload → region ≡ region_of r
 unfolding region_of
 region_parts r first last region is start rest = is ∙ ((λ i. start i ++ rest i) ∙ append_assoc (region_head r) (padded 64 r.query) (padded 1024 r.payload))

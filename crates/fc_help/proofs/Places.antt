@@ -10,7 +10,7 @@ use Rattle.fc_help.specs.Layout.{FitsRegion}
 use Rattle.fc_help.specs.Request.{Request}
 use Rattle.fc_help.proofs.Laid.{padded_size}
 
--- two bytes, the least significant first
+-- two bytes, the least significant first, represent a number below 65,536
 two_bytes : (n : ℕ) → n < 65536 → slice_index (to_le_bytes w16 n) 0 + 256 * slice_index (to_le_bytes w16 n) 1 ≡ n
 two_bytes n low = omega (arith, from_le_bytes-to_le_bytes_2 n low)
 
@@ -57,7 +57,7 @@ pub query_length_is : (r : Request) → slice_index (region_of r) 7 ≡ length r
 unfolding region_of
 query_length_is r = refl
 
--- eight zeros after eight bytes
+-- if eight zeros follow eight bytes, bytes 8 to 15 are zero
 zeros_behind : (before after : List ℕ) (k : ℕ) → length before ≡ 8 → 8 ≤ k → k < 16 → slice_index (before ++ (replicate 8 0 ++ after)) k ≡ 0
 zeros_behind before after k eight low high =
     get_or-append_right before (replicate 8 0 ++ after) 8 k 0 eight low

@@ -11,7 +11,7 @@ use Rattle.fc_help.specs.declared.helper.Signature.{Signature}
 abbrev pub helpers : List Helper
 helpers = PayloadLen ∷ PayloadByte ∷ VarGet ∷ VarPut ∷ ReplyPut ∷ ReplyByte ∷ Notify ∷ []
 
--- the helpers are numbered from 1 on.
+-- the helper with this number; the helpers are numbered from 1 on.
 abbrev pub helper_of : ℤ → Option Helper
 helper_of (pos (suc n)) = slice_get helpers n
 helper_of other = None

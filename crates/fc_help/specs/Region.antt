@@ -1,4 +1,4 @@
--- The request in a program's memory: 1,104 bytes. And the readings: 64.
+-- A request in a program's memory, in 1,104 bytes, and the readings there, in 64 bytes.
 use Rattle.std.specs.Prelude.{ℕ, ◌-◌, List, ◌∷◌, ◌++◌, length, take, replicate, slice_index, Option, Some, None}
 use Rattle.std.specs.Int.{w16, to_le_bytes}
 use Rattle.fc_help.specs.declared.request.Method.{Method}
@@ -9,7 +9,8 @@ abbrev pub method_number : Method → ℕ
 method_number Get = 1
 method_number Post = 2
 
--- a missing Content-Format is zero, and the byte after it says whether there is one.
+-- the number of a Content-Format; a missing one is zero, and the byte after it says whether there
+-- is one.
 abbrev pub format_number : Option ℕ → ℕ
 format_number None = 0
 format_number (Some format) = format
@@ -32,7 +33,8 @@ region_head r =
     ∷ slice_index (to_le_bytes w16 (format_number r.content_format)) 0 ∷ slice_index (to_le_bytes w16 (format_number r.content_format)) 1
     ∷ said r.content_format ∷ length r.query ∷ replicate 8 0
 
--- these bytes, then 64 bytes for the query, and then 1,024 for the payload.
+-- the region of a request: its first 16 bytes, then 64 bytes for the query, and then 1,024 for the
+-- payload.
 unfoldable pub region_of : Request → List ℕ
 region_of r = region_head r ++ (padded 64 r.query ++ padded 1024 r.payload)
 

@@ -3,8 +3,8 @@ use Rattle.std.specs.Prelude.{ℕ, List, [], Option, None}
 use Rattle.fc_help.specs.declared.request.Method.{Method}
 use Rattle.fc_help.specs.declared.request.Method.TheVariants.{Get}
 
--- its method, its slot, its payload's Content-Format if the request states one, the values of its
--- Uri-Query options joined by `&`, and its payload (RFC 7252, section 5.10).
+-- a request: its method, its slot, and the payload's Content-Format if the request states one; the
+-- values of the Uri-Query options joined by `&`, and the payload (RFC 7252, section 5.10).
 pub record Request : Type 0 where
   pub method : Method
   pub slot : ℕ

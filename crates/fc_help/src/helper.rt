@@ -29,7 +29,7 @@ pub enum Helper {
     Notify,
 }
 
-/// The arguments of a helper: R1, or R1 and R2.
+/// The arguments of a helper: none, R1, or R1 and R2.
 #[derive(Clone, Copy, PartialEq, Eq)]
 pub enum Arguments {
     /// No argument.
@@ -68,7 +68,7 @@ pub fn helper_of(number: i32) -> Option<Helper>
     }
 }
 
-/// Returns the signature of a helper: its arguments and results.
+/// Returns a helper's arguments, and the greatest number that it returns.
 pub fn signature_of(helper: Helper) -> Signature
     ensures { result ≡ signature_of helper }
 {

@@ -10,7 +10,7 @@ ghost use Rattle.fc_help.specs.declared.helper.Arguments.TheVariants.{Bytes, NoA
 ghost use Rattle.fc_help.specs.declared.helper.Helper.TheVariants.{Notify, PayloadByte, PayloadLen, ReplyByte, ReplyPut, VarGet, VarPut};
 ghost use Rattle.fc_help.specs.declared.request.Method.TheVariants.{Get, Post};
 
-/// The helpers by their numbers, 1 to 7; no other number is a helper.
+/// The helpers have the numbers 1 to 7; 0 and numbers above 7 are no helpers.
 ///
 /// A reply to a GET has room for 4,096 bytes, and a reply to a POST has room for 1,024.
 pub fn helpers_have_their_numbers()
@@ -75,7 +75,7 @@ pub fn requests_have_their_places()
 
 /// The layout of the readings in 64 bytes.
 ///
-/// They are those supplied with the snapshot, followed by zeros.
+/// The supplied bytes come first, at most 64 of them, and zeros follow.
 pub fn readings_have_their_places()
     ensures size { (bytes : List ℕ) → length (readings_region bytes) ≡ 64 }
     ensures given { (bytes : List ℕ) (k : ℕ) → k < length bytes → k < 64 → slice_index (readings_region bytes) k ≡ slice_index bytes k }

@@ -1,6 +1,6 @@
 //! The inputs of a run: request, readings, variables, and the helpers.
 //!
-//! It also defines the maximum length of a reply.
+//! The crate also defines the maximum length of a reply.
 //!
 //! ```rust
 //! use fc_help::{Method, Request, Vars};
@@ -19,7 +19,7 @@
 //! - A request is laid out as the region of memory that its program reads. Requests and variables
 //!   are compared and copied whole, and readings are compared.
 //! - Each helper has stated arguments and results, and a reply has a stated maximum length.
-//! - Each byte of the region and of the readings is stated by its place, and each helper by its
+//! - `laws` states each byte of the region and of the readings by its place, and each helper by its
 //!   number.
 //!
 //! By the contracts of `Request`, `Request::region`, `Vars`, `helper_of`, `signature_of`,

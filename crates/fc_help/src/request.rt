@@ -28,15 +28,15 @@ pub const REGION: usize = 1104;
 
 /// Length of the part before the query, in bytes.
 ///
-/// It has the method, the slot, lengths and the Content-Format.
+/// These bytes have the method, the slot, lengths and the Content-Format.
 const HEAD: usize = 16;
 
-/// Offset of the payload.
+/// Offset of the payload in the region, in bytes.
 const BEFORE_PAYLOAD: usize = HEAD + QUERY;
 
 /// A request for a program, laid out as the memory region that the program reads.
 ///
-/// Its type guarantees the limits of query and payload.
+/// The type guarantees the limits of query and payload.
 #[derive(Drop)]
 pub struct Request {
     method: Method,
@@ -61,7 +61,7 @@ impl Model for Request {
 /// Zeros for padding.
 const ZEROS: [u8; PAYLOAD] = [0; PAYLOAD];
 
-/// Appends bytes, padded with zeros to a size.
+/// Appends bytes, padded with zeros to `size` bytes.
 fn put_padded(region: &mut ArrayVec<u8, REGION>, bytes: &[u8], size: usize)
     requires fits { length bytes.now ≤ size }
     requires size { size ≤ 1024 }
@@ -74,7 +74,7 @@ fn put_padded(region: &mut ArrayVec<u8, REGION>, bytes: &[u8], size: usize)
 
 /// Encodes the first 16 bytes of a request's region.
 ///
-/// They have the method, the slot, the Content-Format, and the lengths of query and payload.
+/// These bytes have the method, the slot, the Content-Format, and the lengths of query and payload.
 fn head(
     method: Method,
     slot: u8,
@@ -135,7 +135,7 @@ fn write_start(room: &mut [u8], head: &[u8; HEAD], query: &[u8])
     write_padded(&mut room[HEAD..], query);
 }
 
-/// Overwrites a payload of length `before`, and the rest of it with zeros.
+/// Overwrites a payload of `before` bytes with `payload`, padded with zeros.
 ///
 /// All bytes of `room` after the old payload are already zero.
 fn write_payload(room: &mut [u8], before: usize, payload: &[u8])
@@ -149,10 +149,10 @@ fn write_payload(room: &mut [u8], before: usize, payload: &[u8])
     write_padded(&mut room[..written], payload);
 }
 
-/// Overwrites the region of a request with another's.
+/// Overwrites the region of a request with that of another request.
 ///
-/// `before` is the length of the old payload. After the new payload, only the bytes by which the
-/// old one was longer are cleared.
+/// `before` is the length of the old payload. After the new payload, only the rest of a longer old
+/// payload is cleared.
 fn lay_over(
     region: &mut ArrayVec<u8, REGION>,
     before: usize,
@@ -188,8 +188,8 @@ fn method_byte(method: Method) -> u8
 impl Request {
     /// Makes a GET or POST of this slot's resource.
     ///
-    /// `content_format` is that of its payload, if the request states one. `query` is the values of
-    /// its Uri-Query options joined by `&`, at most 64 bytes. `payload` has at most 1,024 bytes.
+    /// `content_format` is that of the payload, if the request states one. `query` is the values of
+    /// the Uri-Query options joined by `&`, at most 64 bytes. `payload` has at most 1,024 bytes.
     pub fn new(
         method: Method,
         slot: u8,

@@ -44,7 +44,7 @@ abbrev StandsIn : List Insn → List Loop → Option Loop → ℕ → Type 0
 StandsIn code loops None t = IsOutside loops t
 StandsIn code loops (Some m) t = IsWithin code loops m t
 
--- no loop begins at the slot
+-- if no loop begins at a slot, a loop whose head isn't after the slot begins before it
 pub not_head : (code : List Insn) (loops : List Loop) (t i : ℕ) (l : Loop) → AreBodies code loops → begins loops t ≡ None → slice_get loops i ≡ Some l → l.head ≤ t → l.head < t
 not_head code loops t i l b e g le = elim (cases_eq l.head t) [
   | inl same ↦ absurd (cc (e, subst (λ k. begins loops k ≡ Some l) same (b.first i l g)))
@@ -75,7 +75,7 @@ stands_head code loops t l b e =
       goes = λ h. b.starts r.0 l r.1 (subst (λ k. flow_at code k ≡ Some Halts) (sym r.2) h);
     }
 
--- a flow stays in the body, or outside
+-- a flow within a function keeps a path in its innermost body, or outside of all bodies
 goes_in : (code : List Insn) (loops : List Loop) (g : Option Loop) (slot t : ℕ) (f : Flow) → AreBodies code loops → StandsIn code loops g slot → ends loops slot ≡ None → flow_at code slot ≡ Some f → FlowsTo f t → slot < t → ComesIn code loops g t
 goes_in code loops None slot t f b s e at leads later = record { apart = λ i l g from upto. s.outside i l g (b.closed i slot t l f g at leads later from upto) (omega (arith, later, upto)) }
 goes_in code loops (Some m) slot t f b s e at leads later =
@@ -100,7 +100,7 @@ same_head code loops i k l m b g h e =
     let c = subst (λ j. begins loops j ≡ Some m) (sym e) (b.first k m h) in
     cc (a, c)
 
--- if the slot after a loop's end is in another's body, the loop is in that body
+-- if the slot after a loop's end is in the body of another loop, the first loop is in that body too
 pub around : (code : List Insn) (loops : List Loop) (i k : ℕ) (l m : Loop) → AreBodies code loops → slice_get loops i ≡ Some l → slice_get loops k ≡ Some m → m.head < l.last + 1 → l.last + 1 ≤ m.last → m.head < l.head
 around code loops i k l m b g h from upto = elim (cases_lt m.head l.head) [
   | inl lt ↦ lt
@@ -128,7 +128,7 @@ leaves_in code loops (Some m) i l b g c =
       goes = b.goes c.index l.last (l.last + 1) m (Forks l.head (l.last + 1)) c.among (b.jumps i l g) (inr refl) (omega (arith, begun, o)) (omega (arith, n));
     }
 
--- at a back jump the path is in its loop
+-- at a back jump, the innermost body of the path is that of the jump's loop
 ends_in : (code : List Insn) (loops : List Loop) (g : Option Loop) (slot : ℕ) (e : Loop) → AreBodies code loops → ends loops slot ≡ Some e → StandsIn code loops g slot → g ≡ Some e
 ends_in code loops None slot e b at s =
     let r = ends_is loops slot e at in
@@ -147,7 +147,7 @@ ends_in code loops (Some m) slot e b at s =
 
 -- ---- continuations
 
--- it ends in the same body, or in none
+-- the continuation begins with the loop of this body, or with no loop if the path is in no body
 abbrev Fits : Option Loop → List Behind → Type 0
 Fits None [] = Unit {0}
 Fits None (Return place ∷ behind) = Unit {0}
@@ -182,7 +182,8 @@ step_back code loops n m slot behind l e is p = subst (λ x. IsPath code loops x
 own_is : (code : List Insn) (loops : List Loop) (slot : ℕ) (f : Flow) → ends loops slot ≡ None → flow_at code slot ≡ Some f → own code loops slot ≡ own_cost (cost_in code loops) None f
 own_is code loops slot f e at = rw (e, at) refl
 
--- an instruction in its body, or in none, if the later slots are known
+-- if the later slots have paths as long as their costs, the instruction at a slot begins such a
+-- path
 stand_attained : (code : List Insn) (loops : List Loop) (g : Option Loop) (slot : ℕ) (f : Flow) → AreBodies code loops → StandsIn code loops g slot → ends loops slot ≡ None → flow_at code slot ≡ Some f → IsForward (length code) slot f
     → ((t : ℕ) → slot < t → t < length code → Attains code loops t) → AttainsAt code loops g slot
 stand_attained code loops None slot Halts b s e at w ih n [] fits rest = let o = own_is code loops slot Halts e at in step_flow code loops n (own code loops slot + n) slot [] Halts e at (omega (arith, o)) rest
@@ -227,7 +228,7 @@ any_attained code loops g slot b lt s ih = go (ends loops slot) refl
     go None e = let i = flow_there code slot lt in stand_attained code loops g slot (flow slot i.0) b s e (flow_here code slot i.0 i.1) (b.onward slot i.0 i.1 e) ih
     go (Some l) e = subst (λ x. AttainsAt code loops x slot) (sym (ends_in code loops g slot l b e s)) (back_attained code loops slot l b e)
 
--- a number of iterations
+-- if one iteration has a path as long as its cost, so have k iterations
 laps : (code : List Insn) (loops : List Loop) (l : Loop) (n : ℕ) (behind : List Behind) → AttainsAt code loops (Some l) l.head → Rest code loops n (Turns l 0 ∷ behind) → (k : ℕ) → Rest code loops (k * own code loops l.head + n) (Turns l k ∷ behind)
 laps code loops l n behind way rest zero = let e : n ≡ 0 * own code loops l.head + n = omega arith in subst (λ x. Rest code loops x (Turns l 0 ∷ behind)) e rest
 laps code loops l n behind way rest (suc k) =

@@ -69,7 +69,7 @@ cost_capped cap loops slot insn xs ys h =
     looped_capped cap (cost_at xs slot) (cost_at ys slot) (begins loops slot) (own_cost (cost_at xs slot) (ends loops slot) (flow slot insn)) (own_cost (cost_at ys slot) (ends loops slot) (flow slot insn)) (λ t. at t h)
     (own_capped cap (cost_at xs slot) (cost_at ys slot) (ends loops slot) (flow slot insn) (λ t. at t h))
 
--- one slot more, before the others
+-- after one more slot is set, the table has the capped costs from that slot on
 pub one_more : (cap : ℕ) (table whole : List ℕ) (slot value : ℕ) → slot < length table → ((k : ℕ) → suc slot ≤ k → get_or table k 0 ≡ min cap (get_or whole k 0))
     → value ≡ min cap (get_or whole slot 0) → (k : ℕ) → slot ≤ k → get_or (set table slot value) k 0 ≡ min cap (get_or whole k 0)
 one_more cap table whole slot value lt known is k ge =

@@ -1,4 +1,4 @@
--- The cost of a slot, from those of the slots after it; no run is longer.
+-- The cost of a slot, from the costs of the slots after it; no path has more steps than its cost.
 use Rattle.std.proofs.Common.{◌≡◌, ℕ, zero, suc, ◌+◌, ◌-◌, ◌*◌, ◌<◌, ◌≤◌, ◌==◌, nat_lt, Bool, true, false, if◌then◌else◌, Option, Some, None, List, [], ◌∷◌, length, drop, get_or, refl, sym, ap, ◌∙◌, subst, inl, inr, arith}
 use Rattle.std.specs.Prelude.{slice_get, slice_index}
 use Rattle.std.proofs.lemmas.Bool.Decides.{nat_tests}
@@ -72,7 +72,7 @@ pub flow_here : (code : List Insn) (slot : ℕ) (insn : Insn) → slice_get code
 unfolding flow_at
 flow_here code slot insn e = ap (flow_of slot) e
 
--- the cost of reaching a slot, from its own
+-- the cost of a slot is its own cost, or that of all iterations and the rest if a loop begins there
 pub cost_is : (code : List Insn) (loops : List Loop) (slot : ℕ) → AreBodies code loops → slot < length code → cost_in code loops slot ≡ looped (cost_in code loops) (begins loops slot) (own code loops slot)
 unfolding cost_in
 cost_is code loops slot b lt =

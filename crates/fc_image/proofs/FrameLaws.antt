@@ -38,7 +38,7 @@ call_frames code slot o g lt =
 past_frames : (code : List Insn) (slot : ℕ) → length code ≤ slot → frames_at code slot ≡ 0
 past_frames code slot le = get_or_past (depths (is_start code) 0 code) slot 0 (let n = length-depths (is_start code) 0 code in omega (arith, n, le))
 
--- no function starts from the next slot on to a later one
+-- if no function starts after a slot, up to a later one, the later slot needs no more frames
 within_frames : (code : List Insn) (slot n : ℕ) → starts_within code slot n ≡ false → frames_at code (slot + n) ≤ frames_at code slot
 within_frames code slot zero e = let z : slot + 0 ≡ slot = omega arith in rw z (omega arith)
 within_frames code slot (suc n) e =
@@ -154,7 +154,7 @@ second_half (WideSecond ∷ rest) slot dst value p e = absurd (cc p)
 second_half (i ∷ rest) zero dst value p e = absurd (cc e)
 second_half (i ∷ rest) (suc slot) dst value p e = second_half rest slot dst value p e
 
--- a program has its first frame, and those that calls add
+-- the frames of a program are the first function's own frame, and those that calls add
 pub first_and_added : (code : List Insn) → frames code ≡ 1 + frames_at code 0
 unfolding frames
 first_and_added code = refl

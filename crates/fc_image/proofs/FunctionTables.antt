@@ -19,7 +19,8 @@ starts_grow code slot (suc n) =
     let e : slot + suc n ≡ suc (slot + n) = omega arith in
     rw e (omega (arith, rest))
 
--- a start is between two slots exactly if more functions start up to the later one
+-- a function starts in the `n` slots after a slot exactly if more functions start up to the last of
+-- them
 pub within_counted : (code : List Insn) (slot n : ℕ) → starts_within code slot n ≡ nat_lt (starts_below code (slot + 1)) (starts_below code (slot + n + 1))
 within_counted code slot zero = rw add-zero (grind (arith, nat_tests))
 within_counted code slot (suc n) =
@@ -102,7 +103,7 @@ rest_is_capped cap false xs ys h = let e = h 0 in omega (arith, e)
 max_capped : (cap a b a' b' : ℕ) → min cap a ≡ min cap a' → min cap b ≡ min cap b' → min cap (max a b) ≡ min cap (max a' b')
 max_capped cap a b a' b' e f = omega (arith, e, f)
 
--- the flag of the next slot: past the table there is none, and no depth
+-- past the table's end the next slot's flag doesn't matter, since the depth there is 0
 next_rest : (flags : List Bool) (table : List ℕ) (starts : Bool) (next : ℕ) → (next < length table → get_or flags next false ≡ starts)
     → unless (get_or flags next false) (get_or table next 0) ≡ unless starts (get_or table next 0)
 next_rest flags table starts next h =

@@ -35,7 +35,7 @@ loop_here code slot insn l e = absurd (cc e)
 here : (allowed : Bool) (code : List Insn) (slot : ℕ) (insn : Insn) (l : Loop) → loop_if allowed code slot insn ≡ Some l → Here slot l
 here allowed code slot insn l e = loop_here code slot insn l (if_at allowed code slot insn l e)
 
--- it ends at its slot
+-- the loop of a back jump ends at the jump's slot
 pub at_low : (code : List Insn) (slot : ℕ) (insn : Insn) → AreLow slot (loop_at code slot insn)
 at_low code slot insn = go (loop_at code slot insn) refl
   where
@@ -55,7 +55,7 @@ From allowed code slot = loops_from allowed code slot (drop slot code)
 from_here : (allowed : Bool) (code : List Insn) (slot : ℕ) (insn : Insn) → slice_get code slot ≡ Some insn → From allowed code slot ≡ and_loop (loop_if allowed code slot insn) (From allowed code (suc slot))
 from_here allowed code slot insn e = ap (loops_from allowed code slot) (drop_at code slot insn e)
 
--- a loop that ends before a slot doesn't begin or end flow_there
+-- a loop with another head doesn't change which loop begins at a slot
 begins_on : (o : Option Loop) (loops : List Loop) (h : ℕ) → ((l : Loop) → o ≡ Some l → l.head ≢ h) → begins (and_loop o loops) h ≡ begins loops h
 begins_on None loops h n = refl
 begins_on (Some l) loops h n = let other = n l refl in let t : (l.head == h) ≡ false = grind (arith, nat_tests, other) in ap (λ b. if b then Some l else begins loops h) t
@@ -89,7 +89,7 @@ ends_from allowed code (suc n) h le = ends_from allowed code n h (omega (arith, 
   | inr ge ↦ ap (λ l. ends l h) (empty_from allowed code n ge ∙ sym (empty_from allowed code (suc n) (omega (arith, ge))))
 ]
 
--- none ends at a slot before the first
+-- no loop of the instructions from a slot on ends before that slot
 ends_past : (allowed : Bool) (code : List Insn) (first : ℕ) (rest : List Insn) (slot : ℕ) → slot < first → ends (loops_from allowed code first rest) slot ≡ None
 ends_past allowed code first [] slot lt = refl
 ends_past allowed code first (insn ∷ rest) slot lt =
@@ -151,7 +151,7 @@ heads_more allowed code slot insn heads few stands t = go (loop_if allowed code 
           ];
         }
 
--- the same for all loops
+-- with the entries from slot 0 on, the table has all loops
 pub heads_are : (allowed : Bool) (code : List Insn) (heads : List (Option Loop)) → AreHeadsFrom allowed code 0 heads → AreHeads (loops_of allowed code) heads
 heads_are allowed code heads t = record { count = t.count; each = λ h lt. t.each h lt ∙ sym (begins_from allowed code 0 h (omega arith)); low = t.low }
 

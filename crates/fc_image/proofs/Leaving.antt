@@ -36,7 +36,7 @@ or_right : (a b : Bool) → (a || b) ≡ false → b ≡ false
 or_right true b e = absurd (cc e)
 or_right false b e = e
 
--- a jump stays on its side
+-- a jump that doesn't cross a loop stays in the body or stays outside
 same_side : (b c d : Bool) → ((if b then not c else c) || d) ≡ false → b ≡ c
 same_side true true d e = refl
 same_side true false d e = absurd (cc e)

@@ -63,7 +63,7 @@ loop_by_is slot j (Some n) (Some c) l e = go (nat_lt (landing slot j.offset) slo
 loop_by_is slot j (Some n) None l e = absurd (cc e)
 loop_by_is slot j None s l e = absurd (cc e)
 
--- the instructions of a loop of the list
+-- a loop's back jump and the addition before it are in the program
 pub record IsJump (allowed : Bool) (code : List Insn) (l : Loop) : Type 0 where
   pub jump : Jump
   pub stands : slice_get code l.last ≡ Some (JumpIf jump)
@@ -126,7 +126,7 @@ from_next code slot insn rest h k i e = let m : slot + suc k ≡ suc slot + k = 
 from_first : (code : List Insn) → AreFrom code 0 code
 from_first code k insn e = let z : k ≡ 0 + k = omega arith in subst (λ j. slice_get code j ≡ Some insn) z e
 
--- each loop of the list has its jump in the text
+-- each loop of the list has its back jump in the program
 in_list : (allowed : Bool) (code : List Insn) (slot : ℕ) (rest : List Insn) (i : ℕ) (l : Loop) → AreFrom code slot rest → slice_get (loops_from allowed code slot rest) i ≡ Some l → IsJump allowed code l
 in_list allowed code slot [] i l at e = absurd (cc e)
 in_list allowed code slot (insn ∷ rest) i l at e = go (loop_if allowed code slot insn) refl i e (λ j f. in_list allowed code (suc slot) rest j l (from_next code slot insn rest at) f)
@@ -140,7 +140,7 @@ pub has_jump : (allowed : Bool) (code : List Insn) (i : ℕ) (l : Loop) → slic
 unfolding loops_of
 has_jump allowed code i l e = in_list allowed code 0 code i l (from_first code) e
 
--- each allowed back jump has its loop in the list
+-- each back jump has its loop in the list, if loops are allowed
 among : (allowed : Bool) (code : List Insn) (slot : ℕ) (rest : List Insn) (k : ℕ) (insn : Insn) (l : Loop) → slice_get rest k ≡ Some insn → loop_if allowed code (slot + k) insn ≡ Some l → (i : ℕ) × (slice_get (loops_from allowed code slot rest) i ≡ Some l)
 among allowed code slot [] k insn l e f = absurd (cc e)
 among allowed code slot (x ∷ rest) zero insn l e f =
@@ -163,7 +163,7 @@ is_among allowed code slot insn l e f = let z : slot ≡ 0 + slot = omega arith 
 
 -- ---- consequences of the rule of back jumps for each slot
 
--- an offset with another landing place has a target there
+-- an offset that lands at another slot than the jump's own has that slot as its target
 pub lands_at : (slot : ℕ) (offset : ℤ) (t : ℕ) → landing slot offset ≡ t → t ≢ slot → target slot offset ≡ Some t
 lands_at slot offset t e n = go (target slot offset) refl
   where
@@ -200,7 +200,7 @@ undisturbed allowed code l s j =
     twice true false p h = absurd (cc p)
     twice false c p h = refl
 
--- an instruction disturbs no loop
+-- in a program that passes the checks, no instruction disturbs a loop
 pub calm : (allowed : Bool) (code : List Insn) (l : Loop) → IsShapedBy allowed code → IsJump allowed code l → (k : ℕ) (insn : Insn) → slice_get code k ≡ Some insn → disturbs l k insn ≡ false
 calm allowed code l s j k insn g = let z : 0 + k ≡ k = omega arith in subst (λ n. disturbs l n insn ≡ false) z (none_of (disturbs l) 0 code (undisturbed allowed code l s j) k insn g)
 

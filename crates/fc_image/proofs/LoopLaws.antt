@@ -38,7 +38,8 @@ use Rattle.fc_image.proofs.Costs.{flow_here}
 
 -- ---- the successors of a flow
 
--- by a jump, to the next slot, or past the second half of a wide load
+-- the instruction leads to slot t by a jump, as the next slot, or past the second half of a wide
+-- load
 data Leads (slot : ℕ) (insn : Insn) (t : ℕ) : Type 0 where
   Jumps : (offset : ℤ) → jump_offset insn ≡ Some offset → landing slot offset ≡ t → Leads slot insn t
   Falls : t ≡ slot + 1 → is_wide_load insn ≡ false → may_end insn ≡ false → slots_taken insn ≡ 1 → Leads slot insn t
@@ -59,7 +60,7 @@ halting slot Exit e = inl refl
 halting slot WideSecond e = inr refl
 halting slot insn e = absurd (cc e)
 
--- the instruction of a slot with a flow
+-- a slot with a flow has an instruction with that flow
 flow_insn : (code : List Insn) (slot : ℕ) (f : Flow) → flow_at code slot ≡ Some f → (insn : Insn) × (slice_get code slot ≡ Some insn) × (flow slot insn ≡ f)
 unfolding flow_at
 flow_insn code slot f e = go (slice_get code slot) refl e
@@ -70,7 +71,7 @@ flow_insn code slot f e = go (slice_get code slot) refl e
 
 -- ---- wide loads
 
--- a wide load precedes its second half
+-- the instruction before a second half is a wide load
 first_half : (code : List Insn) (slot : ℕ) (insn : Insn) → is_program code ≡ true → slice_get code (suc slot) ≡ Some WideSecond → slice_get code slot ≡ Some insn → is_wide_load insn ≡ true
 first_half [] slot insn p e g = absurd (cc e)
 first_half (LoadWide d v ∷ WideSecond ∷ rest) zero insn p e g = let same : LoadWide d v ≡ insn = cc g in ap is_wide_load (sym same)
@@ -111,7 +112,8 @@ jump_lands allowed code slot insn offset t s g o lands =
     let e : not (is_place code (target slot offset)) ≡ false = subst (λ x. with_offset x (λ o. not (is_place code (target slot o))) ≡ false) o first in
     place_of code slot offset t (not_true (is_place code (target slot offset)) e) lands
 
--- a jump stays on its side of a body, and doesn't lead to a back jump
+-- in a program that passes the checks, no jump leads into a loop's body from outside, out of the
+-- body, or to the loop's back jump
 jump_aside : (allowed : Bool) (code : List Insn) (l : Loop) (slot : ℕ) (insn : Insn) (offset : ℤ) (t : ℕ) → IsShapedBy allowed code → IsJump allowed code l → slice_get code slot ≡ Some insn → jump_offset insn ≡ Some offset → landing slot offset ≡ t → IsAside l slot t
 jump_aside allowed code l slot insn offset t s j g o lands =
     let d = second_false (spoils l slot insn) (with_offset (jump_offset insn) (λ o. crosses l slot (target slot o))) (calm allowed code l s j slot insn g) in
@@ -166,7 +168,7 @@ stays allowed code l k t insn s p j g other h from upto = go (leads k insn t h)
       | inr d ↦ omega (arith, e, before, d)
     ]
 
--- there is no exit in a body
+-- in a program that passes the checks, no exit is in the body of a loop
 no_exit : (allowed : Bool) (code : List Insn) (l : Loop) (k : ℕ) → IsShapedBy allowed code → IsJump allowed code l → l.head ≤ k → k ≤ l.last → slice_get code k ≡ Some Exit → ⊥
 no_exit allowed code l k s j from upto g =
     let c = first_false (spoils l k Exit) _ (calm allowed code l s j k Exit g) in
@@ -361,7 +363,7 @@ if_other false code slot insn n = refl
 if_other true code slot (JumpIf j) n = absurd (n j refl)
 if_other true code slot insn n = refl
 
--- a jump that isn't a loop's leads to a later slot
+-- a jump that isn't the back jump of a loop leads to a later slot
 not_back : (allowed : Bool) (code : List Insn) (slot : ℕ) (insn : Insn) (offset : ℤ) → IsShapedBy allowed code → slice_get code slot ≡ Some insn → jump_offset insn ≡ Some offset → loop_if allowed code slot insn ≡ None → IsLater (length code) slot (landing slot offset)
 not_back allowed code slot insn offset s g o none =
     let place = first_false (with_offset (jump_offset insn) (λ o. not (is_place code (target slot o)))) _ (s.each JumpTarget slot insn g) in
@@ -370,7 +372,7 @@ not_back allowed code slot insn offset s g o none =
     let later : leads_back slot insn ≡ false = subst (λ x. (not (is_undisturbed code x) && leads_back slot insn) ≡ false) none back in
     lands code slot offset at (subst (λ x. with_offset x (λ o. not (is_later slot (target slot o))) ≡ false) o later)
 
--- a conditional jump has a next slot in its function
+-- the slot after a conditional jump is a later slot of the program
 past_jump : (allowed : Bool) (code : List Insn) (slot : ℕ) (j : Jump) → IsShapedBy allowed code → slice_get code slot ≡ Some (JumpIf j) → IsLater (length code) slot (slot + 1)
 past_jump allowed code slot j s g =
     goes_on code slot (slot + 1) (is_start code (slot + 1)) (omega arith) (second_false (leaves code slot (target slot j.offset)) (not (nat_lt (slot + 1) (length code)) || is_start code (slot + 1)) (s.each Boundary slot (JumpIf j) g))

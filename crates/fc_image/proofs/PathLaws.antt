@@ -32,7 +32,8 @@ placed code t e = go (slice_get code t) refl e
 nat_lt_true : (a b : ℕ) → nat_lt a b ≡ true → a < b
 nat_lt_true a b e = grind (arith, nat_tests, e)
 
--- if an offset's target is a later instruction, the jump lands there
+-- if an offset's target is an instruction at a later slot, the jump lands at a later slot of the
+-- program
 pub lands : (code : List Insn) (slot : ℕ) (o : ℤ) → not (is_place code (target slot o)) ≡ false → not (is_later slot (target slot o)) ≡ false → IsLater (length code) slot (landing slot o)
 lands code slot o p l = go (target slot o) refl (not_true (is_place code (target slot o)) p) (not_true (is_later slot (target slot o)) l)
   where
@@ -50,7 +51,8 @@ goes_on code slot next starts lt e =
     let t = not_true (nat_lt next (length code)) (first_false (not (nat_lt next (length code))) starts e) in
     (lt, grind (arith, nat_tests, t))
 
--- an offset to a later slot is looked up among the later costs
+-- for an offset to a later slot, the entry that is found in the later part of a table is the
+-- target's
 pub offset_lands : (table : List ℕ) (slot : ℕ) (o : ℤ) → slot < landing slot o → at_offset (drop (suc slot) table) o ≡ get_or table (landing slot o) 0
 offset_lands table slot (pos n) lt = let e : suc slot + n ≡ slot + 1 + n = omega arith in get_or-drop (suc slot) table n 0 ∙ ap (λ k. get_or table k 0) e
 offset_lands table slot (negsuc n) lt = absurd (back (nat_le n slot) lt)

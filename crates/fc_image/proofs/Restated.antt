@@ -1,4 +1,4 @@
--- A parsed header is encoded as it was.
+-- Encoding a parsed header gives the bytes that were parsed.
 use Rattle.std.proofs.Common.{Fits, ◌≡◌, ℕ, zero, suc, ◌+◌, ◌*◌, ◌<◌, ◌≤◌, ◌==◌, ◌&&◌, ◌||◌, not, Bool, true, false, List, [], ◌∷◌, ◌++◌, None, length, drop, refl, sym, subst, ap, ◌∙◌, arith, nat_le}
 use Rattle.std.specs.Int.{w8, w16, w32, from_le_bytes, to_le_bytes}
 use Rattle.std.specs.Prelude.{get_or}
@@ -10,7 +10,7 @@ use Rattle.fc_image.specs.Written.{digit_of, head_bytes}
 use Rattle.fc_isa.proofs.Faultless.{none_of_five}
 use Rattle.fc_isa.proofs.Slot.{two_bytes}
 
--- the first four of these bytes, and the rest
+-- the bytes are four bytes and a rest
 record Word (bytes : List ℕ) : Type 0 where
   pub a : ℕ
   pub b : ℕ
@@ -40,7 +40,7 @@ word_is_zero false h = absurd (cc h)
 pub record AreBytes (bytes : List ℕ) : Type 0 where
   pub each : (i : ℕ) → get_or bytes i 0 < 256
 
--- the bound that the type of a slice of `u8` gives
+-- the elements of a slice of `u8` are bytes
 pub are_bytes : (bytes : List ℕ) → ((i : ℕ) → Fits w8 (get_or bytes i 0)) → AreBytes bytes
 are_bytes bytes h = record { each = λ i. let f = h i in omega arith }
 
@@ -55,7 +55,7 @@ four_bytes x y z w hx hy hz hw (suc (suc (suc (suc i)))) = omega arith
 joined : (digit : ℕ) (size count budget rest : List ℕ) → List ℕ
 joined digit size count budget rest = (70 ∷ 67 ∷ 66 ∷ digit ∷ (size ++ (count ++ (budget ++ (0 ∷ 0 ∷ 0 ∷ 0 ∷ []))))) ++ rest
 
--- the magic names a version, and is that version's
+-- a known magic is the magic of the version that it names
 magic_tells : (a b c d : ℕ) → ((((a == 70) && (b == 67)) && ((c == 66) && (d == 49))) || (((a == 70) && (b == 67)) && ((c == 66) && (d == 50)))) ≡ true → (a ≡ 70) × (b ≡ 67) × (c ≡ 66) × (digit_of (version_of d) ≡ d)
 magic_tells a b c d m = go (((a == 70) && (b == 67)) && ((c == 66) && (d == 49))) refl m
   where
@@ -69,7 +69,8 @@ magic_tells a b c d m = go (((a == 70) && (b == 67)) && ((c == 66) && (d == 49))
     go true e m = let w = word_tells a b c d 70 67 66 49 e in (w.0, w.1, w.2, first w.3)
     go false e m = let w = word_tells a b c d 70 67 66 50 m in (w.0, w.1, w.2, second w.3)
 
--- sixteen bytes that begin with the magic, and end with four zeros
+-- an image that begins with a known magic, and has zeros in bytes 12 to 15, begins with its
+-- header's encoding
 record Restated (image : List ℕ) : Type 0 where
   pub says : AreBytes image → has_magic image ≡ true → is_word 0 0 0 0 (drop 12 image) ≡ true → image ≡ head_bytes (stated image) ++ drop 16 image
 

@@ -31,7 +31,7 @@ jgt n = JumpIf (record { width = W64; relation = Gt; left = 3; right = Imm (pos 
 abbrev caller : Insn
 caller = CallLocal (pos 1)
 
--- the path through the jump is shorter than the other
+-- the cost is that of the longer path, on which the jump isn't taken
 branch_costs_five : longest One (jgt 4 ∷ mov ∷ mov ∷ mov ∷ Exit ∷ mov ∷ Exit ∷ []) ≡ 5
 unfolding longest cost_in loops_of costs
 branch_costs_five = refl
@@ -49,7 +49,7 @@ call_back : shape_fault (head One 8) (caller ∷ Exit ∷ CallLocal (negsuc 2) �
 unfolding shape_fault breaks_shape longest cost_in loops_of costs is_start frames
 call_back = refl
 
--- the start that a call back makes ends the function before it
+-- the target of a call back is the start of a function, so the function before it ends there
 call_back_ends_a_function : shape_fault (head One 8) (mov ∷ CallLocal (negsuc 0) ∷ Exit ∷ []) ≡ Some (0, Boundary)
 unfolding shape_fault breaks_shape longest cost_in loops_of costs is_start frames
 call_back_ends_a_function = refl
@@ -78,7 +78,7 @@ no_helper_eight : shape_fault (head One 8) (CallHelper (pos 8) ∷ mov ∷ Exit 
 unfolding shape_fault breaks_shape longest cost_in loops_of costs is_start frames
 no_helper_eight = refl
 
--- the cost is reported before the helper
+-- a cost above the budget is reported before a missing helper
 cost_before_helper : shape_fault (head One 2) (CallHelper (pos 8) ∷ mov ∷ Exit ∷ []) ≡ Some (0, Cost)
 unfolding shape_fault breaks_shape longest cost_in loops_of costs is_start frames
 cost_before_helper = refl

@@ -90,7 +90,7 @@ least_is test from (i ∷ code) (suc index) slot insn e g t b =
     ap (λ (b : Bool). if b then Some from else least test (from + 1) code) f
     ∙ least_is test (from + 1) code index slot insn (omega (arith, e)) g t (λ k j lt h. let m : from + 1 + k ≡ from + suc k = omega arith in ap (λ x. test x j) m ∙ b (suc k) j (omega arith) h)
 
--- the result of a search of the slots
+-- the test of the instruction at slot k gives b
 abbrev pub Tests : (ℕ → Insn → Bool) → Bool → List Insn → ℕ → Type 0
 Tests test b code k = (insn : Insn) × (insn ≡ get_or code k insn) × (test k insn ≡ b)
 
@@ -152,7 +152,8 @@ kept_all : (head : Head) (code : List Insn) (rules : List Rule) → ((rule : Rul
 kept_all head code [] h = refl
 kept_all head code (rule ∷ rules) h = ap (λ o. or_next o rule (first_broken head code rules)) (kept_rule head code rule (h rule)) ∙ kept_all head code rules h
 
--- the first broken one of these rules, and the rules before it
+-- `rule` is the first of these rules that a slot breaks, and `slot` is the first slot that breaks
+-- it
 record FirstBreaks (head : Head) (code : List Insn) (rules : List Rule) (slot : ℕ) (rule : Rule) : Type 0 where
   before : List Rule
   after : List Rule
@@ -196,7 +197,7 @@ is_fault head code slot rule f =
     ∙ first_is head code f.before f.after slot rule f.kept
     (least_is test 0 code slot slot f.insn n f.stands f.broken (λ k i lt g. let m : k ≡ 0 + k = omega arith in subst (λ x. breaks_shape head code x i rule ≡ false) m (f.slots_before k i lt g)))
 
--- no slot breaks a rule that isn't one of the control flow
+-- if no slot breaks a rule of the control flow, no slot breaks any rule
 kept_by_all : (head : Head) (code : List Insn) → AllByRecursion (KeepsRule head code) flow_rules → (rule : Rule) → KeepsRule head code rule
 unfolding breaks_shape
 kept_by_all head code h JumpTarget = h.0

@@ -52,7 +52,7 @@ wider_ends : (code : List Insn) (slot place : ℕ) (o : Option Span) → AreEnds
 wider_ends code slot place None e t = (omega arith, t, t)
 wider_ends code slot place (Some w) e t = (let least = e.0 in omega (arith, least), e.1, t)
 
--- with one more slot
+-- widening the spans by the jump at a slot gives the spans of one more slot
 pub spans_more : (code : List Insn) (slot : ℕ) (insn : Insn) (spans : List (Option Span)) → slice_get code slot ≡ Some insn → AreSpans code slot spans → AreSpans code (slot + 1) (widened spans slot (jumps_to slot insn))
 spans_more code slot insn spans stands a = go (jumps_to slot insn) refl
   where
@@ -135,7 +135,7 @@ none_at test from (x ∷ code) h =
     ap (λ b. b || some_slot test (suc from) code) first
     ∙ none_at test (suc from) code (λ k insn e. let m : from + suc k ≡ suc from + k = omega arith in subst (λ n. test n insn ≡ false) m (h (suc k) insn e))
 
--- a jump that crosses the body's bounds
+-- a jump that crosses a loop's body disturbs the loop
 crossing : (l : Loop) (slot place : ℕ) (insn : Insn) → jumps_to slot insn ≡ Some place → crosses l slot (Some place) ≡ true → disturbs l slot insn ≡ true
 crossing l slot place insn e c = either (spoils l slot insn) (with_offset (jump_offset insn) (λ o. crosses l slot (target slot o))) (go (jump_offset insn) e)
   where
@@ -149,7 +149,8 @@ some_here code l slot insn stands d = let z : slot ≡ 0 + slot = omega arith in
 by_jump : (code : List Insn) (l : Loop) (slot place : ℕ) → IsJumpTo code slot place → crosses l slot (Some place) ≡ true → some_slot (disturbs l) 0 code ≡ true
 by_jump code l slot place t c = some_here code l slot t.insn t.stands (crossing l slot place t.insn t.leads c)
 
--- a disturbance found at a slot of the body disturbs the loop
+-- if the check finds a disturbance at a slot of the body, an instruction of the program disturbs
+-- the loop
 pub found : (code : List Insn) (spans : List (Option Span)) (l : Loop) (slot : ℕ) (insn : Insn) → AreSpans code (length code) spans → slot < 1024 → l.head ≤ slot → slot ≤ l.last → slice_get code slot ≡ Some insn
     → (disturbs l slot insn || is_jumped_into l slot (get_or spans slot None)) ≡ true → some_slot (disturbs l) 0 code ≡ true
 found code spans l slot insn a few from to stands e = go (disturbs l slot insn) refl e
@@ -170,7 +171,7 @@ found code spans l slot insn a few from to stands e = go (disturbs l slot insn) 
     go true d e = some_here code l slot insn stands d
     go false d e = enters (get_or spans slot None) (a.ends slot few) e
 
--- if none is found in the body, nothing disturbs the loop
+-- if no disturbance is found at a slot of the body, no instruction disturbs the loop
 pub none_found : (code : List Insn) (spans : List (Option Span)) (l : Loop) → AreSpans code (length code) spans → length code ≤ 1024 → l.head < l.last → l.last < length code
     → ((slot : ℕ) (insn : Insn) → l.head ≤ slot → slot ≤ l.last → slice_get code slot ≡ Some insn → (disturbs l slot insn || is_jumped_into l slot (get_or spans slot None)) ≡ false)
     → some_slot (disturbs l) 0 code ≡ false
@@ -194,7 +195,8 @@ none_found code spans l a few order last quiet = none_at (disturbs l) 0 code eac
     before_end (x ∷ code) zero insn e = omega arith
     before_end (x ∷ code) (suc k) insn e = let h = before_end code k insn e in omega (arith, h)
 
-    -- no jump from outside leads to the slot of the body
+    -- if the check finds no jump from outside to a slot of the body, each jump to the slot is in
+    -- the body
     kept : (k place : ℕ) (o : Option Span) → IsInSpan k o → is_jumped_into l place o ≡ false → (l.head ≤ k) × (k ≤ l.last)
     kept k place None w e = absurd w
     kept k place (Some s) w e =

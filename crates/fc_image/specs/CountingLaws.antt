@@ -27,7 +27,7 @@ pub record CountsUp (code : List Insn) (slot : ℕ) (j : Jump) (l : Loop) : Type
   pub last : l.last ≡ slot
   pub back : l.head < slot
 
--- a slot is in a loop's body: from its head to its back jump.
+-- a slot is in a loop's body: from the loop's head to its back jump.
 abbrev pub IsInBody : Loop → ℕ → Type 0
 IsInBody l k = (l.head ≤ k) × (k ≤ l.last)
 

@@ -15,7 +15,7 @@ abbrev pub frames_allowed : ImageVersion → ℕ
 frames_allowed One = 4
 frames_allowed Two = 8
 
--- whether jumps may go back, as those of counted loops.
+-- whether a program may have counted loops, whose jumps go back.
 abbrev pub loops_allowed : ImageVersion → Bool
 loops_allowed One = false
 loops_allowed Two = true
@@ -31,8 +31,8 @@ pub record Head : Type 0 where
 abbrev pub version_of : ℕ → ImageVersion
 version_of digit = if digit == 50 then Two else One
 
--- the version and the numbers in a header: after the magic two bytes each for variables and slots,
--- four for the budget.
+-- the version and the numbers that a header states. After the magic there are two bytes each for
+-- variables and slots, and four for the budget.
 abbrev pub stated : List ℕ → Head
 stated image = record {
   version = version_of (slice_index image 3);
@@ -50,8 +50,8 @@ is_word a b c d bytes =
 abbrev pub has_magic : List ℕ → Bool
 has_magic image = is_word 70 67 66 49 image || is_word 70 67 66 50 image
 
--- violations of the limits. These are: the number of slots is 1 to the version's limit, the
--- variables are up to 256 bytes in words of eight, the budget is 1 to 65536.
+-- a number is outside its limits. The limits are 1 to the version's number of slots; up to 256
+-- bytes of variables, in words of eight; and a budget of 1 to 65,536.
 abbrev pub is_bad_count : ImageVersion → ℕ → Bool
 is_bad_count version count = (count == 0) || nat_lt (slots_allowed version) count
 

@@ -12,8 +12,9 @@ use Rattle.fc_image.specs.Tables.{AreStarts, AreCounts}
 use Rattle.fc_isa.specs.declared.rule.Rule.{Rule}
 use Rattle.fc_isa.specs.declared.rule.Fault.{Fault}
 
--- the function starts; the sources of jumps; the frames, capped at 9, and the longest path, capped
--- at 65,537; both caps are above the limits.
+-- the tables have the program's function starts, the sources of its jumps, its frames, and the
+-- steps of its longest path. The frames are capped at 9 and the steps at 65,537; both caps are
+-- above the limits.
 pub record AreTables (version : ImageVersion) (code : List Insn) (t : Tables) : Type 0 where
   pub starts : AreStarts code t.starts
   pub counts : AreCounts code t.counts
@@ -21,7 +22,7 @@ pub record AreTables (version : ImageVersion) (code : List Insn) (t : Tables) : 
   pub frames : t.frames ≡ min 9 (frames code)
   pub cost : t.cost ≡ min 65537 (longest version code)
 
--- a fault or none, from a slot and a rule.
+-- `fault` has the slot and the rule of `found`, or both are `None`.
 abbrev pub IsSame : Option (ℕ × Rule) → Option Fault → Type 0
 IsSame found fault = MatchOption fault (found ≡ None) (λ f. found ≡ Some (f.slot, f.rule))
 

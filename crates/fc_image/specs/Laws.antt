@@ -16,17 +16,18 @@ pub record KeepsLimits (head : Head) (code : List Insn) : Type 0 where
   pub within : longest head.version code ≤ head.budget
 
 -- the fault that is found has the first broken rule, and the first slot that breaks that rule.
--- Conversely, such a fault is found. Its rule is below 20.
 abbrev pub ShapeFaultIsFirst : Type 0
 ShapeFaultIsFirst =
     (head : Head) (code : List Insn) (slot : ℕ) (rule : Rule) → shape_fault head code ≡ Some (slot, rule)
     → IsShapeFault head code slot rule
 
+-- the fault with the first broken rule, and the first slot that breaks it, is found.
 abbrev pub FirstShapeFaultIsFound : Type 0
 FirstShapeFaultIsFound =
     (head : Head) (code : List Insn) (slot : ℕ) (rule : Rule) → IsShapeFault head code slot rule
     → shape_fault head code ≡ Some (slot, rule)
 
+-- the rule of a fault that is found has a number below 20.
 abbrev pub ShapeFaultIsLow : Type 0
 ShapeFaultIsLow =
     (head : Head) (code : List Insn) (slot : ℕ) (rule : Rule) → shape_fault head code ≡ Some (slot, rule)

@@ -19,7 +19,7 @@ use Rattle.fc_image.specs.Loops.{is_written, has_call, begins, ends, loops_of}
 use Rattle.fc_image.specs.Paths.{IsLongestIn, cost_in}
 use Rattle.fc_image.specs.ShapeRules.{IsShapedBy}
 
--- a later slot of a program of `count` slots.
+-- t is later than `slot`, and is a slot of a program of `count` slots.
 abbrev pub IsLater : ℕ → ℕ → ℕ → Type 0
 IsLater count slot t = (slot < t) × (t < count)
 
@@ -30,19 +30,19 @@ IsForward count slot (Goes next) = IsLater count slot next
 IsForward count slot (Forks taken next) = IsLater count slot taken × IsLater count slot next
 IsForward count slot (Enters start next) = IsLater count slot start × IsLater count slot next
 
--- the slot is a successor within the same function.
+-- slot t is a successor within the same function.
 abbrev pub FlowsTo : Flow → ℕ → Type 0
 FlowsTo Halts t = ⊥
 FlowsTo (Goes next) t = t ≡ next
 FlowsTo (Forks taken next) t = (t ≡ taken) ⊎ (t ≡ next)
 FlowsTo (Enters start next) t = t ≡ next
 
--- the flow calls the function at the slot.
+-- the flow calls the function that starts at slot t.
 abbrev pub Calls : Flow → ℕ → Type 0
 Calls (Enters start next) t = t ≡ start
 Calls f t = ⊥
 
--- the back jump: `jlt counter, bound`.
+-- the loop's last slot has its back jump, `jlt counter, bound`.
 pub record JumpsBack (code : List Insn) (l : Loop) : Type 0 where
   pub jump : Jump
   pub stands : slice_get code l.last ≡ Some (JumpIf jump)
@@ -68,7 +68,7 @@ pub record IsLoop (code : List Insn) (l : Loop) : Type 0 where
   -- no function starts within the body.
   pub whole : (k t : ℕ) (insn : Insn) → slice_get code k ≡ Some insn → Calls (flow k insn) t → l.head < t → t ≤ l.last → ⊥
 
--- the back jump of a loop.
+-- one of the loops has its back jump at `slot` and its head at `t`.
 pub record IsBack (loops : List Loop) (slot t : ℕ) : Type 0 where
   pub index : ℕ
   pub loop : Loop

@@ -35,8 +35,8 @@ loop_by slot j (Some bound) (Some step) =
     else None
 loop_by slot j bound step = None
 
--- the loop of which an instruction would be the back jump, by this instruction and the one before
--- it.
+-- the loop of which an instruction would be the back jump, if only this instruction and the one
+-- before it are considered.
 abbrev pub loop_at : List Insn → ℕ → Insn → Option Loop
 loop_at code slot (JumpIf j) =
     loop_by slot j (bound_of j.width j.relation j.right) (step_of (slice_get code (slot - 1)) j.left)
@@ -51,11 +51,11 @@ abbrev pub is_exit : Insn → Bool
 is_exit Exit = true
 is_exit insn = false
 
--- in the body an instruction other than the addition writes the counter, or is an exit.
+-- an instruction of the body other than the addition writes the counter, or is an exit.
 abbrev pub spoils : Loop → ℕ → Insn → Bool
 spoils l slot insn = is_in l slot && ((writes insn l.counter && not (suc slot == l.last)) || is_exit insn)
 
--- a jump leads into the body or out of it, or to its back jump.
+-- a jump leads into the body from outside, out of the body, or to the loop's back jump.
 abbrev pub crosses : Loop → ℕ → Option ℕ → Bool
 crosses l slot None = false
 crosses l slot (Some t) = (if is_in l slot then not (is_in l t) else is_in l t) || (t == l.last)
@@ -74,7 +74,7 @@ is_undisturbed code (Some l) = not (some_slot (disturbs l) 0 code)
 
 -- ---- the loops of a program
 
--- the loop of a back jump, if loops are allowed at all.
+-- the loop of which an instruction would be the back jump, if loops are allowed.
 abbrev pub loop_if : Bool → List Insn → ℕ → Insn → Option Loop
 loop_if false code slot insn = None
 loop_if true code slot insn = loop_at code slot insn

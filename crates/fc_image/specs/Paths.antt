@@ -7,17 +7,19 @@ use Rattle.fc_image.specs.Flow.{flow_at}
 use Rattle.fc_image.specs.declared.loops.Loop.{Loop}
 use Rattle.fc_image.specs.Loops.{loops_in, begins, ends}
 
--- the number of times that a path runs through a body, each time that the path enters the body's
--- head from outside.
+-- the number of iterations of a loop on a path, each time that the path enters the loop at its head
+-- from outside.
 abbrev pub turns : Loop → ℕ
 turns l = 1 + (l.bound - 1) / l.step
 
--- the continuation of a path: a call's return place, or a loop with the iterations after this one.
+-- a part of a path's continuation: the return place of a call, or a loop with the number of
+-- iterations after the current one.
 pub data Behind : Type 0 where
   Return : (place : ℕ) → Behind
   Turns : (loop : Loop) (left : ℕ) → Behind
 
--- a path reaches a slot: if a loop begins at the slot, the path is in its first iteration.
+-- the continuation of a path that reaches a slot. If a loop begins at the slot, the path is in the
+-- first iteration.
 abbrev pub opened_loop : Option Loop → List Behind → List Behind
 opened_loop None behind = behind
 opened_loop (Some l) behind = Turns l (turns l - 1) ∷ behind
@@ -28,7 +30,7 @@ opened_loops loops slot behind = opened_loop (begins loops slot) behind
 abbrev pub ContinuesAt : List Loop → (ℕ → List Behind → Type 0) → ℕ → List Behind → Type 0
 ContinuesAt loops Path slot behind = Path slot (opened_loops loops slot behind)
 
--- an exit goes back to the return place of the last call; if there is none, it ends the path.
+-- an exit goes back to the return place of the last call; without a call, the exit ends the path.
 abbrev pub Returns : List Loop → (ℕ → List Behind → Type 0) → ℕ → List Behind → Type 0
 Returns loops Path n [] = n ≡ 0
 Returns loops Path n (Return place ∷ behind) = ContinuesAt loops Path place behind
@@ -47,7 +49,8 @@ GoesBy loops Path n behind (Some (Goes next)) = ContinuesAt loops Path next behi
 GoesBy loops Path n behind (Some (Forks taken next)) = ContinuesAt loops Path taken behind ⊎ ContinuesAt loops Path next behind
 GoesBy loops Path n behind (Some (Enters start next)) = ContinuesAt loops Path start (Return next ∷ behind)
 
--- the continuations of a path with n steps left.
+-- a path with n steps left goes on from a slot by the slot's flow, or at the end of a loop by the
+-- back jump.
 abbrev pub GoesOn : List Insn → List Loop → (ℕ → List Behind → Type 0) → ℕ → ℕ → List Behind → Option Loop → Type 0
 GoesOn code loops Path n slot behind None = GoesBy loops Path n behind (flow_at code slot)
 GoesOn code loops Path n slot behind (Some l) = TurnsBack loops Path slot behind
@@ -63,11 +66,11 @@ pub record IsLongestIn (code : List Insn) (loops : List Loop) (steps : ℕ) : Ty
   pub path : IsPath code loops steps 0 (opened_loops loops 0 [])
   pub greatest : (n : ℕ) → IsPath code loops n 0 (opened_loops loops 0 []) → n ≤ steps
 
--- the same with the loops that a version of the format allows.
+-- the greatest number of steps, with the loops that a version of the format allows.
 abbrev pub IsLongest : ImageVersion → List Insn → ℕ → Type 0
 IsLongest version code steps = IsLongestIn code (loops_in version code) steps
 
--- ---- the same as a function, computed from the last slot back
+-- ---- the greatest number of steps as a function, computed from the last slot back
 
 -- the steps from an instruction on, to the end of its body or function.
 abbrev pub along : (ℕ → ℕ) → Flow → ℕ
@@ -76,12 +79,14 @@ along at (Goes next) = 1 + at next
 along at (Forks taken next) = 1 + max (at taken) (at next)
 along at (Enters start next) = 1 + (at start + at next)
 
--- a back jump is the end of its body.
+-- the steps from an instruction to the end of its body or function. A back jump is the end of its
+-- body, and one step.
 abbrev pub own_cost : (ℕ → ℕ) → Option Loop → Flow → ℕ
 own_cost at None f = along at f
 own_cost at (Some l) f = 1
 
--- at a head the cost is that of all iterations, and of the rest after the loop.
+-- the cost of a slot. At the head of a loop it is the cost of all iterations and of the rest after
+-- the loop.
 abbrev pub looped : (ℕ → ℕ) → Option Loop → ℕ → ℕ
 looped at None own = own
 looped at (Some l) own = turns l * own + at (l.last + 1)
@@ -109,5 +114,3 @@ cost_in code loops slot = slice_index (costs loops 0 code) slot
 
 unfoldable pub longest : ImageVersion → List Insn → ℕ
 longest version code = cost_in code (loops_in version code) 0
-
--- ---- the rest of a path

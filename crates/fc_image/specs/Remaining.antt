@@ -7,7 +7,7 @@ use Rattle.fc_image.specs.declared.loops.Loop.{Loop}
 use Rattle.fc_image.specs.Loops.{ends}
 use Rattle.fc_image.specs.Paths.{Behind, Return, Turns, own_cost, cost_in}
 
--- a slot's own cost.
+-- the steps from a slot to the end of its body or function.
 abbrev pub own_by : (ℕ → ℕ) → Option Loop → Option Flow → ℕ
 own_by at o None = 0
 own_by at o (Some f) = own_cost at o f

@@ -26,15 +26,17 @@ abbrev pub is_later : ℕ → Option ℕ → Bool
 is_later slot None = false
 is_later slot (Some t) = nat_lt slot t
 
--- a jump whose target isn't a later slot.
+-- the instruction is a jump whose target isn't a later slot.
 abbrev pub leads_back : ℕ → Insn → Bool
 leads_back slot insn = with_offset (jump_offset insn) (λ o. not (is_later slot (target slot o)))
 
--- such a jump that isn't a counted loop's, if loops are allowed.
+-- the instruction is such a jump, and isn't the jump of a counted loop. If loops aren't allowed,
+-- there are no counted loops.
 abbrev pub breaks_back : Bool → List Insn → ℕ → Insn → Bool
 breaks_back allowed code slot insn = not (is_undisturbed code (loop_if allowed code slot insn)) && leads_back slot insn
 
--- a function starts after the lower of two slots, up to the higher; the target is in the program.
+-- the target t is in the program, and a function starts after the lower of the two slots, up to the
+-- higher.
 abbrev pub leaves : List Insn → ℕ → Option ℕ → Bool
 leaves code slot None = false
 leaves code slot (Some t) = nat_lt t (length code) && starts_within code (min slot t) (max slot t - min slot t)
@@ -47,9 +49,12 @@ abbrev pub calls_no_helper : Insn → Bool
 calls_no_helper (CallHelper number) = not (is_helper number)
 calls_no_helper other = false
 
--- the rules that a slot breaks: its target isn't an instruction of the program; a jump leads to no
--- later slot and isn't a counted loop's; a jump leaves its function, or the function's last
--- instruction isn't an exit; a call leads to no later slot; a helper doesn't exist.
+-- the slot breaks the rule of the control flow:
+-- - 11: a target isn't an instruction of the program.
+-- - 12: a jump leads to no later slot and isn't the jump of a counted loop.
+-- - 13: a jump leaves its function, or the function's last instruction isn't an exit.
+-- - 14: a call leads to no later slot.
+-- - 17: a helper doesn't exist.
 abbrev pub breaks_flow : Bool → List Insn → ℕ → Insn → Rule → Bool
 breaks_flow allowed code slot insn JumpTarget =
     with_offset (jump_offset insn) (λ o. not (is_place code (target slot o)))
@@ -72,7 +77,7 @@ pub record IsShapedBy (allowed : Bool) (code : List Insn) : Type 0 where
   pub each :
       (rule : Rule) (slot : ℕ) (insn : Insn) → slice_get code slot ≡ Some insn → breaks_flow allowed code slot insn rule ≡ false
 
--- counted loops are allowed as the version says.
+-- no slot breaks a rule of the control flow; the version says whether counted loops are allowed.
 abbrev pub IsShaped : ImageVersion → List Insn → Type 0
 IsShaped version code = IsShapedBy (loops_allowed version) code
 
@@ -80,11 +85,11 @@ IsShaped version code = IsShapedBy (loops_allowed version) code
 pub record KeepsRule (head : Head) (code : List Insn) (rule : Rule) : Type 0 where
   pub each : (slot : ℕ) (insn : Insn) → slice_get code slot ≡ Some insn → breaks_shape head code slot insn rule ≡ false
 
--- the rules in their order: each is checked at all slots before the next.
+-- the rules in their order. A rule is checked at all slots before the next rule is checked.
 abbrev pub flow_rules : List Rule
 flow_rules = JumpTarget ∷ BackwardJump ∷ Boundary ∷ BackwardCall ∷ FrameDepth ∷ Cost ∷ Helper ∷ []
 
--- the rules before this one hold, and this is the first slot that breaks this rule.
+-- the rules before `rule` hold, and `slot` is the first slot that breaks `rule`.
 pub record IsShapeFault (head : Head) (code : List Insn) (slot : ℕ) (rule : Rule) : Type 0 where
   pub before : List Rule
   pub after : List Rule
@@ -95,9 +100,9 @@ pub record IsShapeFault (head : Head) (code : List Insn) (slot : ℕ) (rule : Ru
   pub broken : breaks_shape head code slot insn rule ≡ true
   pub slots_before : (k : ℕ) (i : Insn) → k < slot → slice_get code k ≡ Some i → breaks_shape head code k i rule ≡ false
 
--- ---- the same as a function
+-- ---- the fault as a function
 
--- the first slot that passes a test; `slot` is the first of them.
+-- the first slot that passes a test; `slot` is the slot of the first instruction.
 abbrev pub least : (ℕ → Insn → Bool) → ℕ → List Insn → Option ℕ
 least test slot [] = None
 least test slot (insn ∷ code) = if test slot insn then Some slot else least test (slot + 1) code

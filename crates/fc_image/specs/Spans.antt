@@ -35,7 +35,7 @@ pub record AreSpans (code : List Insn) (count : ℕ) (spans : List (Option Span)
   pub all : (slot place : ℕ) → slot < count → place < 1024 → IsJumpTo code slot place → IsInSpan slot (slice_index_or spans place None)
   pub ends : (place : ℕ) → place < 1024 → AreEnds code count place (slice_index_or spans place None)
 
--- the span with a later slot.
+-- the span extended to a later slot.
 abbrev pub span_with : Option Span → ℕ → Span
 span_with None slot = record { least = slot; greatest = slot }
 span_with (Some s) slot = record { least = s.least; greatest = slot }
@@ -44,8 +44,8 @@ abbrev pub widened : List (Option Span) → ℕ → Option ℕ → List (Option 
 widened spans slot None = spans
 widened spans slot (Some place) = if nat_lt place 1024 then slice_set spans place (Some (span_with (slice_index_or spans place None) slot)) else spans
 
--- a jump leads to this slot of a body from outside of the body, or leads to the slot of the back
--- jump.
+-- a jump leads to this slot of a body from outside the body. At the slot of the back jump, any jump
+-- to the slot counts.
 abbrev pub is_jumped_into : Loop → ℕ → Option Span → Bool
 is_jumped_into l slot None = false
 is_jumped_into l slot (Some s) = (slot == l.last) || (nat_lt s.least l.head || nat_lt l.last s.greatest)

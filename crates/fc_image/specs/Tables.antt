@@ -36,12 +36,12 @@ pub record AreHeads (loops : List Loop) (heads : List (Option Loop)) : Type 0 wh
   pub each : (slot : ℕ) → slot < 1024 → slice_index_or heads slot None ≡ begins loops slot
   pub low : (slot : ℕ) → AreLow 1024 (slice_index_or heads slot None)
 
--- the loops by their heads, with one more.
+-- the table of loops by their heads, with one more loop.
 abbrev pub headed : List (Option Loop) → Option Loop → List (Option Loop)
 headed heads None = heads
 headed heads (Some l) = slice_set heads l.head (Some l)
 
--- the flags together with that of the function that an instruction calls.
+-- the new flags are the old ones, and also the function that the instruction calls is marked.
 abbrev pub IsMarked : ℕ → Insn → List Bool → List Bool → Type 0
 IsMarked slot insn old new =
     (place : ℕ) → place < 1024 → slice_index_or new place false ≡ (calls slot insn place || slice_index_or old place false)

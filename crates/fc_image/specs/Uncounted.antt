@@ -20,7 +20,7 @@ use Rattle.fc_image.specs.declared.uncounted.Disturbance.TheVariants.{Write, Exi
 
 -- ---- the jump, and the addition before it
 
--- whether a jump tests that a register is below an immediate, in 64 bits.
+-- a jump tests whether a register is below an immediate, in 64 bits.
 abbrev pub is_below : Width → Relation → Operand → Bool
 is_below W64 Lt (Imm n) = true
 is_below width relation operand = false
@@ -29,12 +29,12 @@ abbrev pub compares_below : Insn → Bool
 compares_below (JumpIf j) = is_below j.width j.relation j.right
 compares_below insn = false
 
--- the bound is 1 to 1,024.
+-- the bound of a conditional jump, if it is an immediate of 1 to 1,024.
 abbrev pub has_bound : Insn → Option ℕ
 has_bound (JumpIf j) = bound_of j.width j.relation j.right
 has_bound insn = None
 
--- the instruction before counts the register up.
+-- the step by which the instruction before a jump counts up the jump's register.
 abbrev pub has_step : List Insn → ℕ → Insn → Option ℕ
 has_step code slot (JumpIf j) = step_of (slice_get code (slot - 1)) j.left
 has_step code slot insn = None

@@ -7,17 +7,18 @@ use Rattle.fc_isa.specs.declared.insn.Operand.TheVariants.{Imm}
 use Rattle.fc_isa.specs.declared.insn.Relation.TheVariants.{Lt}
 use Rattle.fc_isa.specs.declared.insn.Width.TheVariants.{W64}
 
--- sets R0 to zero, and exits.
+-- a function that sets R0 to zero, and exits.
 abbrev pub zero_function : List Insn
 zero_function = Alu Mov W64 0 (Imm (pos 0)) ∷ Exit ∷ []
 
--- this many functions in a row, each of which calls the next.
+-- a program of n functions, each of which calls the next.
 abbrev pub call_chain : ℕ → List Insn
 call_chain zero = []
 call_chain (suc zero) = zero_function
 call_chain (suc (suc n)) = CallLocal (pos 1) ∷ Exit ∷ call_chain (suc n)
 
--- R1 counts from 0 by ones to a bound: `add64 r1, 1`, and `jlt r1, bound` back to it.
+-- a loop in which R1 counts from 0 by ones to a bound: `add64 r1, 1`, and `jlt r1, bound` back to
+-- the addition.
 abbrev pub counted_to : ℕ → List Insn
 counted_to bound =
     Alu Mov W64 1 (Imm (pos 0)) ∷ Alu Add W64 1 (Imm (pos 1))

@@ -10,7 +10,7 @@ use Rattle.fc_image.specs.Head.{slots_allowed, Head, stated, is_bad_count, is_ba
 abbrev pub head_of : ℕ → ℕ → ℕ → ImageVersion → Head
 head_of vars_size count budget version = record { version = version; vars_size = vars_size; count = count; budget = budget }
 
--- the limits of these numbers.
+-- the numbers of a header are within their limits.
 pub record IsHead (h : Head) : Type 0 where
   pub vars : h.vars_size ≤ 256
   pub words : h.vars_size % 8 ≡ 0
@@ -19,7 +19,7 @@ pub record IsHead (h : Head) : Type 0 where
   pub steps : 1 ≤ h.budget
   pub budget : h.budget ≤ 65536
 
--- the last byte of the magic, `FCB1` or `FCB2`, and the version that it names.
+-- the last byte of the magic, `FCB1` or `FCB2`, that names a version.
 abbrev pub digit_of : ImageVersion → ℕ
 digit_of One = 49
 digit_of Two = 50

@@ -20,7 +20,8 @@ use fc_isa::{Fault, Insn, Rule};
 /// Checks the control flow of a program, and returns its cost.
 ///
 /// The program must have the header's number of slots. The cost is the greatest number of steps on
-/// any path from slot 0 to its exit. A path through a local call passes through the whole callee.
+/// any path from slot 0 to the program's exit. A path through a local call passes through the whole
+/// callee.
 ///
 /// # Errors
 /// Returns the least rule, 11 to 17, that a slot breaks, with the first slot that breaks it.
@@ -55,7 +56,7 @@ const FLOW_RULES: [Rule; 7] = [
 
 /// Returns the fault of the first rule in `rules` that any slot breaks, or `None`.
 ///
-/// Its slot is the first that breaks the rule. `tables` are those of the program.
+/// The fault's slot is the first that breaks that rule. `tables` are those of the program.
 fn first_broken(code: &[Insn], tables: &Tables, head: &Head, rules: &[Rule]) -> Option<Fault>
     requires tables { AreTables head.now.version code.now tables.now }
     requires count { length code.now ≤ 1024 }
@@ -80,8 +81,8 @@ fn least(code: &[Insn], tables: &Tables, head: &Head, rule: Rule) -> Option<usiz
 
 /// Returns whether a slot, with the instruction `insn`, breaks a rule.
 ///
-/// The rules of the whole program, frame depth and cost, are broken at slot 0. A rule of another
-/// sort than those of the control flow isn't broken.
+/// Frame depth and cost are rules of the whole program, and only slot 0 can break them. Returns
+/// `false` for a rule that isn't one of the control flow.
 #[tactic(auto, unfolding(crate::specs::ShapeRules::breaks_shape))]
 fn breaks(code: &[Insn], tables: &Tables, head: &Head, slot: usize, insn: &Insn, rule: Rule) -> bool
     requires tables { AreTables head.now.version code.now tables.now }
@@ -124,7 +125,7 @@ fn is_astray(code: &[Insn], slot: usize, offset: Option<i32>) -> bool
 
 /// Returns whether a target is a slot of the program, and no second half.
 ///
-/// `None`, which is a target below slot 0, gives `false`.
+/// Returns `false` for `None`, which is a target below slot 0.
 fn is_place(code: &[Insn], place: Option<usize>) -> bool
     ensures { result ≡ is_place code.now place }
 {
@@ -134,10 +135,10 @@ fn is_place(code: &[Insn], place: Option<usize>) -> bool
     }
 }
 
-/// Returns whether a jump leads to no later slot, and isn't that of a counted loop.
+/// Returns whether a jump to no later slot isn't the jump of a counted loop.
 ///
-/// Unless loops are `allowed`, no jump is that of a counted loop. `spans` has the sources of the
-/// jumps to each slot.
+/// Returns `false` if the instruction isn't such a jump. Unless loops are `allowed`, no jump is the
+/// jump of a counted loop. `spans` has the sources of the jumps to each slot.
 fn breaks_back(
     allowed: bool,
     code: &[Insn],
@@ -166,7 +167,9 @@ fn is_back(slot: usize, offset: Option<i32>) -> bool
     }
 }
 
-/// Returns whether a target is a later slot; `None`, below slot 0, gives `false`.
+/// Returns whether a target is a slot later than `slot`.
+///
+/// Returns `false` for `None`, which is a target below slot 0.
 fn is_later(slot: usize, place: Option<usize>) -> bool
     ensures { result ≡ is_later slot place }
 {
@@ -178,8 +181,8 @@ fn is_later(slot: usize, place: Option<usize>) -> bool
 
 /// Returns whether a jump with this offset leaves its function.
 ///
-/// Returns `false` without an offset, or if the target isn't a slot of the program. `counts` has
-/// the number of functions that start at or before each slot.
+/// Returns `false` without an offset, or if the target isn't a slot of the program. `counts` has,
+/// for each slot, the number of functions that start at or before it.
 fn leaves(code: &[Insn], counts: &[u16; MOST_SLOTS], slot: usize, offset: Option<i32>) -> bool
     requires counts { AreCounts code.now counts.now }
     requires count { length code.now ≤ 1024 }
@@ -192,7 +195,7 @@ fn leaves(code: &[Insn], counts: &[u16; MOST_SLOTS], slot: usize, offset: Option
     }
 }
 
-/// Returns whether a jump from a slot to this target leaves its function.
+/// Returns whether a jump from a slot to this target leaves the slot's function.
 ///
 /// Returns `false` if the target isn't a slot of the program.
 fn crosses_to(code: &[Insn], counts: &[u16; MOST_SLOTS], slot: usize, place: Option<usize>) -> bool

@@ -11,13 +11,13 @@ use crate::loops::Loop;
 use crate::table::MOST_SLOTS;
 use fc_isa::Insn;
 
-/// One more step than any budget allows: costs are capped at it.
+/// The number at which costs are capped: one more step than any budget allows.
 const TOO_MANY: u32 = 65_537;
 
 /// Returns the number of steps on the longest path from slot 0.
 ///
-/// It is capped at 65,537. `heads` has the loop that begins at each slot, and `allowed` says
-/// whether counted loops are allowed.
+/// The number is capped at 65,537. `heads` has the loop that begins at each slot, and `allowed`
+/// says whether counted loops are allowed.
 pub(crate) fn longest_cost(code: &[Insn], heads: &[Option<Loop>; MOST_SLOTS], allowed: bool) -> u32
     requires count { length code.now ≤ 1024 }
     requires heads { AreHeads (loops_of allowed code.now) heads.now }
@@ -37,8 +37,8 @@ pub(crate) fn longest_cost(code: &[Insn], heads: &[Option<Loop>; MOST_SLOTS], al
 
 /// Returns the steps from an instruction to the end of its body or function.
 ///
-/// `costs` has the steps from the later slots. If the instruction is the back jump of the loop
-/// `ending`, it is one step: the loop's head counts the iterations.
+/// `costs` has the steps from the later slots. If `ending` is a loop, the instruction is that
+/// loop's back jump, and the result is 1: the loop's head counts the iterations.
 fn own_steps(costs: &[u32; MOST_SLOTS], slot: usize, ending: &Option<Loop>, insn: &Insn) -> u32
     requires slot { slot < 1024 }
     requires capped { (k : ℕ) → slice_index costs.now k ≤ 65537 }
@@ -77,8 +77,8 @@ fn steps_along(costs: &[u32; MOST_SLOTS], slot: usize, insn: &Insn) -> u32
 
 /// Returns the steps from a slot on, once a path reaches it.
 ///
-/// `own` are the steps up to the end of the slot's body or function. At the head of the loop
-/// `beginning` these count for each iteration, and the steps after the loop are added.
+/// `own` is the number of steps to the end of the slot's body or function. If the loop `beginning`
+/// has its head here, `own` counts once for each iteration, and the steps after the loop are added.
 fn steps(costs: &[u32; MOST_SLOTS], slot: usize, beginning: &Option<Loop>, own: u32) -> u32
     requires slot { slot < 1024 }
     requires capped { (k : ℕ) → slice_index costs.now k ≤ 65537 }
@@ -103,7 +103,7 @@ fn turns(counted: &Loop) -> u32
     1 + (counted.bound - 1) / counted.step
 }
 
-/// Returns the slot to which an offset leads, or `slot` if that is below 0.
+/// Returns the slot to which an offset leads, or `slot` if that would be below 0.
 fn landing(slot: usize, offset: i32) -> usize
     requires { slot < 1024 }
     ensures { result ≡ landing slot offset }
@@ -111,7 +111,9 @@ fn landing(slot: usize, offset: i32) -> usize
     target(slot, offset).unwrap_or(slot)
 }
 
-/// Returns the cost at `place`, or 0 if it isn't later than `slot` or has no entry.
+/// Returns the cost at `place`, a slot later than `slot`.
+///
+/// Returns 0 if `place` isn't later than `slot`, or isn't in the table.
 fn at(costs: &[u32; MOST_SLOTS], slot: usize, place: usize) -> u32
     requires { (k : ℕ) → slice_index costs.now k ≤ 65537 }
     ensures cost { result ≡ cost_at (drop (slot + 1) costs.now) slot place }

@@ -6,7 +6,7 @@ use fc_isa::Insn;
 
 /// Returns the offset of a jump, or `None` for any other instruction.
 ///
-/// It counts slots from the slot after the jump.
+/// The offset counts slots from the slot after the jump.
 pub(crate) fn jump_offset(insn: &Insn) -> Option<i32>
     ensures { result ≡ jump_offset insn.now }
 {
@@ -20,7 +20,7 @@ pub(crate) fn jump_offset(insn: &Insn) -> Option<i32>
 
 /// Returns the offset of a local call, or `None` for any other instruction.
 ///
-/// It counts slots from the slot after the call.
+/// The offset counts slots from the slot after the call.
 pub(crate) fn call_offset(insn: &Insn) -> Option<i32>
     ensures { result ≡ call_offset insn.now }
 {
@@ -30,7 +30,7 @@ pub(crate) fn call_offset(insn: &Insn) -> Option<i32>
     }
 }
 
-/// Returns the slot after this one plus the offset, or `None` if that is below 0.
+/// Returns the slot after `slot` plus the offset, or `None` if the sum is below 0.
 pub(crate) fn target(slot: usize, offset: i32) -> Option<usize>
     requires { slot < 1024 }
     ensures { result ≡ target slot offset }

@@ -7,7 +7,7 @@ use crate::flow::{call_offset, target};
 use crate::table::MOST_SLOTS;
 use fc_isa::Insn;
 
-/// One frame more than any program may have: depths are capped at it.
+/// The number at which depths are capped: one frame more than any program may have.
 const TOO_DEEP: u8 = 9;
 
 /// Returns for each slot whether a function starts there.
@@ -29,7 +29,7 @@ pub(crate) fn starts(code: &[Insn]) -> [bool; MOST_SLOTS]
 
 /// Marks the start of the function that an instruction calls.
 ///
-/// Nothing is marked if its target isn't a slot.
+/// Nothing is marked if the instruction isn't a local call, or if its target isn't in the table.
 fn mark(starts: &mut [bool; MOST_SLOTS], slot: usize, insn: &Insn)
     requires { slot < 1024 }
     ensures { IsMarked slot insn.now starts.old starts.new }
@@ -42,7 +42,7 @@ fn mark(starts: &mut [bool; MOST_SLOTS], slot: usize, insn: &Insn)
     }
 }
 
-/// Returns for each slot how many functions start at or before it.
+/// Returns for each slot the number of functions that start at or before the slot.
 pub(crate) fn starts_counted(code: &[Insn], starts: &[bool; MOST_SLOTS]) -> [u16; MOST_SLOTS]
     requires { AreStarts code.now starts.now }
     ensures { AreCounts code.now result }
@@ -71,6 +71,8 @@ pub(crate) fn crosses(code: &[Insn], counts: &[u16; MOST_SLOTS], slot: usize, pl
 }
 
 /// Returns whether an instruction is the last of its function, and isn't an exit.
+///
+/// Returns `false` for the second half of a wide load: the load is checked in its first slot.
 pub(crate) fn is_open_end(
     code: &[Insn],
     starts: &[bool; MOST_SLOTS],
@@ -99,7 +101,7 @@ fn slots_taken(insn: &Insn) -> usize
 
 /// Returns whether an instruction may be the last of its function: an exit.
 ///
-/// A second half may too, since its wide load is checked instead.
+/// Returns `true` for a second half too: its wide load is checked in its place.
 fn may_end(insn: &Insn) -> bool
     ensures { result ≡ may_end insn.now }
 {
@@ -108,7 +110,7 @@ fn may_end(insn: &Insn) -> bool
 
 /// Returns the maximum depth of stack frames of a program's calls, or 9 if greater.
 ///
-/// All calls count, also those that no path reaches.
+/// Calls that no path reaches count too.
 pub(crate) fn deepest(code: &[Insn], starts: &[bool; MOST_SLOTS]) -> u8
     requires starts { AreStarts code.now starts.now }
     requires count { length code.now ≤ 1024 }
@@ -125,7 +127,7 @@ pub(crate) fn deepest(code: &[Insn], starts: &[bool; MOST_SLOTS]) -> u8
 
 /// Returns the frames that calls add from a slot to the end of its function.
 ///
-/// They are capped at 9. `depths` has those of the later slots.
+/// The number is capped at 9. `depths` has the numbers of the later slots.
 fn depth(depths: &[u8; MOST_SLOTS], starts: &[bool; MOST_SLOTS], slot: usize, insn: &Insn) -> u8
     requires slot { slot < 1024 }
     requires capped { (k : ℕ) → slice_index depths.now k ≤ 9 }
@@ -167,7 +169,7 @@ fn called(depths: &[u8; MOST_SLOTS], slot: usize, insn: &Insn) -> u8
 
 /// Returns the depth at an offset from the next slot.
 ///
-/// It is 0 if the offset is negative or leads past the table's end.
+/// The depth is 0 if the offset is negative or leads past the table's end.
 fn at_offset(depths: &[u8; MOST_SLOTS], slot: usize, offset: i32) -> u8
     requires slot { slot < 1024 }
     requires capped { (k : ℕ) → slice_index depths.now k ≤ 9 }

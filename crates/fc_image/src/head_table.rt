@@ -1,6 +1,6 @@
 //! The loops of a program, by the slots at which they begin.
 //!
-//! The longest path and the verifier's pass look them up by slot.
+//! The computation of the longest path and the verifier's pass look up the loops by slot.
 ghost use Rattle.std.specs.Prelude.{length, ◌<◌, ◌≡◌, ◌≤◌};
 ghost use Rattle.fc_image.specs.Loops.{loop_if, loops_in};
 ghost use Rattle.fc_image.specs.Tables.{AreHeads, AreLow, headed};
@@ -10,10 +10,10 @@ use crate::loops::{Loop, loop_at};
 use crate::table::MOST_SLOTS;
 use fc_isa::{ImageVersion, Insn};
 
-/// Returns for each slot the loop that begins there, or `None`.
+/// Returns for each slot the loop that begins there, or `None` if none does.
 ///
-/// A back jump and the addition before it make a loop, whether or not other instructions disturb
-/// it. Of several loops with one head, the entry is the one with the first back jump.
+/// A back jump and the addition before it make a loop, even if other instructions disturb the loop.
+/// Of several loops with one head, the entry is the one with the first back jump.
 pub fn loops_by_head(version: ImageVersion, code: &[Insn]) -> [Option<Loop>; MOST_SLOTS]
     requires { length code.now ≤ 1024 }
     ensures { AreHeads (loops_in version code.now) result }

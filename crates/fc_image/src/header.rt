@@ -30,7 +30,9 @@ pub fn head(image: &[u8]) -> Result<Head, Fault>
     }
 }
 
-/// Returns the least rule of the header that the image breaks, or `None`.
+/// Returns the least rule of the header that the image breaks.
+///
+/// Returns `None` if the image breaks no rule of the header.
 fn fault(image: &[u8]) -> Option<Rule>
     ensures { result ≡ head_fault image.now }
 {
@@ -49,7 +51,9 @@ fn fault(image: &[u8]) -> Option<Rule>
     }
 }
 
-/// Returns whether the image isn't a header with a known magic, and its slots.
+/// Returns whether the image isn't a header with a known magic and its slots.
+///
+/// The image must have 16 bytes for the header, and 8 for each of the slots that the header states.
 #[tactic(auto, unfolding(crate::specs::Head::head_breaks))]
 fn breaks_format(image: &[u8]) -> bool
     ensures value { result ≡ head_breaks image.now Rule.Format }
@@ -96,7 +100,7 @@ fn breaks_reserved(image: &[u8]) -> bool
     !is_word(&image[12..], [0; 4])
 }
 
-/// Returns whether the bytes begin with these four.
+/// Returns whether the bytes begin with those of `word`.
 fn is_word(bytes: &[u8], word: [u8; 4]) -> bool
     requires { 4 ≤ length bytes.now }
     ensures { result ≡ is_word (slice_index word 0) (slice_index word 1) (slice_index word 2) (slice_index word 3) bytes.now }
@@ -104,7 +108,7 @@ fn is_word(bytes: &[u8], word: [u8; 4]) -> bool
     (bytes[0] == word[0] && bytes[1] == word[1]) && (bytes[2] == word[2] && bytes[3] == word[3])
 }
 
-/// Returns the version that the magic names, if the magic is a known one.
+/// Returns the version that a known magic names: `Two` for `FCB2`, else `One`.
 fn version(image: &[u8]) -> ImageVersion
     requires { 4 ≤ length image.now }
     ensures { result ≡ (stated image.now).version }
@@ -116,7 +120,7 @@ fn version(image: &[u8]) -> ImageVersion
     }
 }
 
-/// Returns the header's size of the variables.
+/// Returns the size of the variables that the header states, in bytes.
 fn vars_size(image: &[u8]) -> u16
     requires { 16 ≤ length image.now }
     ensures { result ≡ (stated image.now).vars_size }
@@ -124,7 +128,7 @@ fn vars_size(image: &[u8]) -> u16
     u16::from_le_bytes([image[4], image[5]])
 }
 
-/// Returns the header's number of slots.
+/// Returns the number of slots that the header states.
 fn count(image: &[u8]) -> u16
     requires { 16 ≤ length image.now }
     ensures { result ≡ (stated image.now).count }
@@ -132,7 +136,7 @@ fn count(image: &[u8]) -> u16
     u16::from_le_bytes([image[6], image[7]])
 }
 
-/// Returns the header's budget.
+/// Returns the budget that the header states, in steps.
 fn budget(image: &[u8]) -> u32
     requires { 16 ≤ length image.now }
     ensures { result ≡ (stated image.now).budget }

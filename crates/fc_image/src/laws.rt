@@ -27,7 +27,7 @@ ghost use Rattle.fc_image.specs.VersionLaws.{call_chain, counted_to};
 
 /// An image whose header breaks no rule is the header and its slots.
 ///
-/// The header's numbers are within their limits.
+/// The numbers that the header states are within their limits.
 pub fn faultless_head_is_kept(image: &[u8])
     ensures { head_fault image.now ≡ None → KeepsHead image.now }
 {}
@@ -39,7 +39,7 @@ pub fn read_head_is_written(image: &[u8])
 
 /// A program that passes the control-flow checks has a longest path.
 ///
-/// `longest` is its number of steps.
+/// `longest` is the number of steps on that path.
 pub fn longest_is_longest()
     ensures { (version : ImageVersion) (code : List Insn) → 0 < length code → is_program code ≡ true → IsShaped version code
         → IsLongest version code (longest version code) }
@@ -47,22 +47,22 @@ pub fn longest_is_longest()
 
 /// The loops of a program that passes the control-flow checks are well formed.
 ///
-/// They are nested or apart. A path enters each by its head and leaves it by its back jump, and
-/// each counts up to its bound.
+/// Two loops are nested or apart. A path enters a loop by the loop's head, and leaves it by its
+/// back jump. Each loop counts up to its bound.
 pub fn shaped_loops_are_loops()
     ensures { ShapedLoopsAreLoops }
 {}
 
 /// A program with counted loops that passes the checks has a longest path.
 ///
-/// It runs through each body as many times as its loop has iterations.
+/// The longest path runs through each body as many times as its loop has iterations.
 pub fn longest_path_turns()
     ensures { LoopsHaveLongestPaths }
 {}
 
 /// The fault of a program's control flow is the first broken rule.
 ///
-/// Its slot is the first that breaks the rule, which has a number below 20.
+/// The fault's slot is the first that breaks that rule. The rule has a number below 20.
 pub fn shape_fault_is_first()
     ensures is_first { ShapeFaultIsFirst }
     ensures only_first { FirstShapeFaultIsFound }
@@ -83,9 +83,9 @@ pub fn written_head_is_read()
     ensures stated { (h : Head) (slots : List ℕ) → IsHead h → stated (head_bytes h ++ slots) ≡ h }
 {}
 
-/// The rules of a header are checked in the order of their numbers.
+/// Rules are checked in the order of their numbers.
 ///
-/// So are the rules of the control flow.
+/// The rules of a header are 1 to 5, and those of the control flow are 11 to 17.
 pub fn rules_come_by_number()
     ensures head { map number_of head_rules ≡ 1 ∷ 2 ∷ 3 ∷ 4 ∷ 5 ∷ [] }
     ensures flow { map number_of flow_rules ≡ 11 ∷ 12 ∷ 13 ∷ 14 ∷ 15 ∷ 16 ∷ 17 ∷ [] }
@@ -93,9 +93,9 @@ pub fn rules_come_by_number()
 
 /// The exact form of a counted loop's back jump.
 ///
-/// It is `jlt` with a register and a bound of 1 to 1,024, in 64 bits, and leads to an earlier slot.
-/// An `add64` of 1 or more to the same register directly precedes it. No other instruction is a
-/// back jump.
+/// The jump is `jlt` of a register and a bound of 1 to 1,024, in 64 bits, and leads to an earlier
+/// slot. An `add64` of 1 or more to the same register directly precedes it. No other instruction is
+/// a back jump.
 pub fn jumps_back_count_up()
     ensures counts { (code : List Insn) (slot : ℕ) (j : Jump) (l : Loop) → CountsUp code slot j l → loop_at code slot (JumpIf j) ≡ Some l }
     ensures only { (code : List Insn) (slot : ℕ) (insn : Insn) (l : Loop) → loop_at code slot insn ≡ Some l
@@ -104,15 +104,17 @@ pub fn jumps_back_count_up()
 
 /// The exact condition under which an instruction doesn't disturb a loop.
 ///
-/// In the body it isn't an exit, and doesn't write the counter unless it is the addition. It jumps
-/// neither out of the body, nor into it from outside, nor to the back jump.
+/// In the body it isn't an exit, and it writes the counter only if it is the addition. It doesn't
+/// jump out of the body, into the body from outside, or to the back jump.
 pub fn loops_are_left_as_they_are()
     ensures { (l : Loop) (k : ℕ) (insn : Insn) → ((disturbs l k insn ≡ false) ↔ LeavesLoop l k insn) }
 {}
 
-/// An instruction that is reported to disturb a loop does so in that way.
+/// An instruction that is reported to disturb a loop does so as reported.
 ///
-/// - The instruction writes the counter in the body, and isn't the addition.
+/// These are the ways in which an instruction disturbs a loop:
+///
+/// - It writes the counter in the body, and isn't the addition.
 /// - It is an exit in the body.
 /// - It jumps out of the body.
 /// - It jumps into the body from outside.
@@ -130,7 +132,7 @@ pub fn disturbances_are_what_they_say()
 ///
 /// It is the magic, three numbers with the least significant byte first, and four zeros. The size
 /// of the variables is in bytes 4 and 5, the number of slots in 6 and 7, and the budget in 8 to 11.
-/// Here they are 24, 258 and 65,536.
+/// In the example these are 24, 258 and 65,536.
 pub fn header_bytes_have_their_places()
     ensures written { head_bytes (head_of 24 258 65536 Two) ≡ 70 ∷ 67 ∷ 66 ∷ 50 ∷ 24 ∷ 0 ∷ 2 ∷ 1 ∷ 0 ∷ 0 ∷ 1 ∷ 0 ∷ 0 ∷ 0 ∷ 0 ∷ 0 ∷ [] }
     ensures read { stated (70 ∷ 67 ∷ 66 ∷ 50 ∷ 24 ∷ 0 ∷ 2 ∷ 1 ∷ 0 ∷ 0 ∷ 1 ∷ 0 ∷ 0 ∷ 0 ∷ 0 ∷ 0 ∷ []) ≡ head_of 24 258 65536 Two }
@@ -138,8 +140,8 @@ pub fn header_bytes_have_their_places()
 
 /// The limits of a header's numbers, which rules 2, 3 and 4 check.
 ///
-/// A program of version 1 has 1 to 512 slots, and one of version 2 has 1 to 1,024. Its variables
-/// have at most 256 bytes, in words of 8. Its budget is 1 to 65,536 steps.
+/// A program of version 1 has 1 to 512 slots, and one of version 2 has 1 to 1,024. The size of the
+/// variables is a multiple of 8, and at most 256 bytes. The budget is 1 to 65,536 steps.
 pub fn headers_have_limits()
     ensures slots_of_one { (limit_fault (head_of 0 1 1 One) ≡ None) × (limit_fault (head_of 0 512 1 One) ≡ None)
         × (limit_fault (head_of 0 0 1 One) ≡ Some SlotCount) × (limit_fault (head_of 0 513 1 One) ≡ Some SlotCount) }
@@ -154,10 +156,10 @@ pub fn headers_have_limits()
 #[tactic(auto, unfolding(crate::specs::ShapeRules::shape_fault, crate::specs::ShapeRules::breaks_shape, crate::specs::Paths::longest, crate::specs::Paths::cost_in, crate::specs::Paths::costs, crate::specs::Loops::loops_of, crate::specs::Functions::is_start, crate::specs::Functions::frames))]
 /// The limits of the versions: stack frames and loops.
 ///
-/// Version 1 allows 4 stack frames and no loops; version 2 allows 8, and counted loops. `FCB1`
-/// begins an image of version 1, and `FCB2` one of version 2. A call that nests deeper breaks rule
-/// 15. In version 1 every jump back breaks rule 12. In version 2 a counted loop has a bound of 1 to
-/// 1,024, and the steps of its body count once for each iteration.
+/// Version 1 (magic `FCB1`) allows 4 stack frames and no loops; version 2 (`FCB2`) allows 8, and
+/// counted loops. Calls that need more frames break rule 15. In version 1 every jump back breaks
+/// rule 12. In version 2 a counted loop has a bound of 1 to 1,024, and the steps of its body count
+/// once for each iteration.
 pub fn versions_have_frames_and_loops()
     ensures magic { ((stated (70 ∷ 67 ∷ 66 ∷ 49 ∷ [])).version ≡ One) × ((stated (70 ∷ 67 ∷ 66 ∷ 50 ∷ [])).version ≡ Two) }
     ensures magics { (has_magic (70 ∷ 67 ∷ 66 ∷ 49 ∷ []) ≡ true) × (has_magic (70 ∷ 67 ∷ 66 ∷ 50 ∷ []) ≡ true) }

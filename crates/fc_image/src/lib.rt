@@ -14,19 +14,21 @@
 //!
 //! # What is proved
 //!
-//! - The header's rules are checked in their order, with the limits of the version that its magic
-//!   names: 512 slots and four frames, or 1,024 and eight (`slots_allowed`, `frames_allowed`).
+//! - The header's rules are checked in their order, with the limits of the version that the magic
+//!   names. Version 1 allows 512 slots and four frames, and version 2 allows 1,024 and eight
+//!   (`slots_allowed`, `frames_allowed`).
 //! - The limits of each version are stated in literals: slots, stack frames, loops and their
 //!   bounds.
-//! - The encoding of a header is parsed as that header, and a parsed header is encoded as it was.
+//! - The encoding of a header is parsed as that header. An accepted header is encoded as the bytes
+//!   that were parsed.
 //! - The rules of the control flow are checked in their order, for all instructions including
-//!   calls, in the second version with counted loops. The cost is the greatest number of steps on
-//!   any path from slot 0 to the exit. A path runs through a body as many times as its loop has
-//!   iterations.
-//! - For a jump back that isn't a counted loop's, the reason is returned: the missing part of the
-//!   form, or the slot that disturbs the loop, and how.
-//! - A jump is a counted loop's exactly if it and the addition before it have that form, in
-//!   literals. An accepted program with such jumps has the loops that these form, nested or apart.
+//!   calls, in version 2 with counted loops. The cost is the greatest number of steps on any path
+//!   from slot 0 to the exit. A path runs through a body as many times as its loop has iterations.
+//! - For a jump back that isn't a counted loop's, the reason is returned. It is a missing part of
+//!   the form, or the slot that disturbs the loop, and how.
+//! - A jump is that of a counted loop exactly if it and the addition before it have the form that
+//!   `laws` states in literals. An accepted program has the loops that such jumps form. Any two of
+//!   them are nested or apart.
 //!
 //! By the contracts of `head`, `Head::new`, `Head::bytes`, `shape`, `why_uncounted`, `laws`.
 #![tactic(auto)]

@@ -40,7 +40,7 @@ pub fn loops_allowed(version: ImageVersion) -> bool
 
 /// The header of an image.
 ///
-/// In contracts it is the version and three numbers, which are within its limits.
+/// In contracts a header is its version and three numbers, which are within the version's limits.
 #[derive(Clone, Copy, PartialEq, Eq)]
 pub struct Head {
     version: ImageVersion,
@@ -67,7 +67,7 @@ impl Head {
     ghost use Rattle.fc_image.specs.Head.{frames_allowed, slots_allowed};
     ghost use Rattle.fc_image.specs.Written.{IsHead, IsWithinLimits, head_bytes, head_of, limit_fault};
 
-    /// Checks these numbers, and makes the header of this version.
+    /// Makes the header with these numbers, if they are within the version's limits.
     ///
     /// `vars_size` is the size of the variables in bytes, `count` the number of slots, and `budget`
     /// the maximum number of steps.
@@ -102,9 +102,9 @@ impl Head {
         }
     }
 
-    /// Returns the same header with another budget.
+    /// Returns this header with the budget `budget`, in steps.
     ///
-    /// A diagnosis uses it to compute a cost above the image's budget.
+    /// A diagnosis needs such a header to compute a cost above the image's budget.
     pub fn with_budget(&self, budget: u32) -> Self
         requires some { 1 ≤ budget }
         requires limit { budget ≤ 65536 }
@@ -130,7 +130,7 @@ impl Head {
         ]
     }
 
-    /// Returns the version of its format.
+    /// Returns the version of the image's format.
     pub fn version(&self) -> ImageVersion
         ensures { result ≡ self.now.version }
     {

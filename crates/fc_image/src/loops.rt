@@ -14,8 +14,8 @@ use fc_isa::{AluOp, Insn, Jump, Operand, Reg, Relation, Target, Width};
 
 /// A counted loop.
 ///
-/// Its body is the slots from `head` to `last`. It counts in a register, by a step, while the
-/// register is below a bound.
+/// Its body is the slots from `head` to `last`. Each iteration adds `step` to the register
+/// `counter`, and the back jump at `last` is taken while the register is below `bound`.
 #[derive(Clone, Copy)]
 pub struct Loop {
     pub head: usize,
@@ -27,7 +27,8 @@ pub struct Loop {
 
 /// Returns whether an instruction is the back jump of a counted loop.
 ///
-/// The loop must be undisturbed. `spans` has the sources of the jumps to each slot.
+/// Returns `false` if an instruction of the program disturbs the loop. `spans` has the sources of
+/// the jumps to each slot.
 pub(crate) fn is_counted(
     code: &[Insn],
     spans: &[Option<Span>; MOST_SLOTS],
@@ -47,8 +48,8 @@ pub(crate) fn is_counted(
 
 /// Returns the loop of which an instruction would be the back jump, or `None`.
 ///
-/// The result depends only on the instruction and the one before it. Other instructions may still
-/// disturb the loop.
+/// There is a loop if the jump has a bound and leads to an earlier slot, and the instruction before
+/// the jump has a step. Other instructions may still disturb the loop.
 pub(crate) fn loop_at(code: &[Insn], slot: usize, insn: &Insn) -> Option<Loop>
     requires count { length code.now ≤ 1024 }
     requires slot { slot < length code.now }
@@ -67,7 +68,7 @@ pub(crate) fn loop_at(code: &[Insn], slot: usize, insn: &Insn) -> Option<Loop>
 
 /// Returns the loop that a jump ends with this bound and this step.
 ///
-/// Returns `None` if one of them is missing, or if the jump doesn't lead to an earlier slot.
+/// Returns `None` if the bound or the step is missing, or if the jump leads to no earlier slot.
 fn loop_by(slot: usize, jump: &Jump, bound: Option<u32>, step: Option<u32>) -> Option<Loop>
     requires { slot < 1024 }
     ensures { result ≡ loop_by slot jump.now bound step }
@@ -85,9 +86,9 @@ fn loop_by(slot: usize, jump: &Jump, bound: Option<u32>, step: Option<u32>) -> O
     }
 }
 
-/// Returns the bound of a loop's back jump, or `None` if it can't be one.
+/// Returns the bound of a back jump, or `None` if the jump can't be a back jump.
 ///
-/// Such a jump is taken if a whole register is below an immediate of 1 to 1,024, the bound.
+/// A back jump is taken if a whole register is below the bound, an immediate of 1 to 1,024.
 pub(crate) fn bound_of(jump: &Jump) -> Option<u32>
     ensures { result ≡ bound_of jump.now.width jump.now.relation jump.now.right }
 {
@@ -101,7 +102,8 @@ pub(crate) fn bound_of(jump: &Jump) -> Option<u32>
 
 /// Returns the step by which an instruction counts a register up, or `None`.
 ///
-/// The instruction is an `add64` of an immediate of 1 or more to the register `counter`.
+/// The step is the immediate of an `add64` to the register `counter`, if it is 1 or more. For any
+/// other instruction the result is `None`.
 pub(crate) fn step_of(insn: &Insn, counter: Reg) -> Option<u32>
     ensures { result ≡ step_of (Some insn.now) counter }
 {
@@ -118,7 +120,8 @@ pub(crate) fn step_of(insn: &Insn, counter: Reg) -> Option<u32>
 
 /// Returns whether no instruction of a program disturbs a loop.
 ///
-/// It checks the instructions of the body, and the sources of the jumps to them, which `spans` has.
+/// The function checks only the body's instructions, and the sources of the jumps to them. `spans`
+/// has these sources.
 fn is_undisturbed(code: &[Insn], spans: &[Option<Span>; MOST_SLOTS], counted: &Loop) -> bool
     requires count { length code.now ≤ 1024 }
     requires spans { AreSpans code.now (length code.now) spans.now }
@@ -134,7 +137,7 @@ fn is_undisturbed(code: &[Insn], spans: &[Option<Span>; MOST_SLOTS], counted: &L
     true
 }
 
-/// Returns whether a slot's instruction, or a jump to the slot, disturbs its loop.
+/// Returns whether an instruction of the body, or a jump to it, disturbs a loop.
 ///
 /// `span` has the sources of the jumps to the slot.
 fn is_disturbed(counted: &Loop, slot: usize, insn: &Insn, span: &Option<Span>) -> bool
@@ -146,8 +149,8 @@ fn is_disturbed(counted: &Loop, slot: usize, insn: &Insn, span: &Option<Span>) -
 
 /// Returns whether a jump leads to this slot from outside the body.
 ///
-/// A jump to the loop's back jump counts too. `span` has the sources of the jumps to the slot;
-/// without any, returns `false`.
+/// Returns `true` for any jump to the loop's back jump. `span` has the sources of the jumps to the
+/// slot; if there are none, returns `false`.
 fn is_jumped_into(counted: &Loop, slot: usize, span: &Option<Span>) -> bool
     ensures { result ≡ is_jumped_into counted.now slot span.now }
 {
@@ -189,9 +192,9 @@ fn is_that(dst: Option<Target>, register: usize) -> bool
     }
 }
 
-/// Returns the register that an instruction computes, or `None`.
+/// Returns the register that an instruction computes, or `None` if there is none.
 ///
-/// Calls compute none, though they write R0 to R5.
+/// Calls compute no register, though they write R0 to R5.
 pub fn computes(insn: &Insn) -> Option<Target>
     ensures { result ≡ computes insn.now }
 {

@@ -13,7 +13,7 @@ pub(crate) struct Span {
     pub(crate) greatest: u16,
 }
 
-/// Returns for each slot the span of the jumps to it, or `None` without any.
+/// Returns for each slot the span of the jumps to it, or `None` if there are none.
 pub(crate) fn spans(code: &[Insn]) -> [Option<Span>; MOST_SLOTS]
     requires { length code.now ≤ 1024 }
     ensures { AreSpans code.now (length code.now) result }
@@ -25,9 +25,9 @@ pub(crate) fn spans(code: &[Insn]) -> [Option<Span>; MOST_SLOTS]
     spans
 }
 
-/// Returns the slot to which an instruction jumps, or `None`.
+/// Returns the slot to which an instruction jumps, or `None` without one.
 ///
-/// It is `None` if the instruction isn't a jump, or if the target is below slot 0.
+/// Returns `None` if the instruction isn't a jump, or if the target is below slot 0.
 fn jumps_to(slot: usize, insn: &Insn) -> Option<usize>
     requires { slot < 1024 }
     ensures { result ≡ jumps_to slot insn.now }
@@ -40,8 +40,8 @@ fn jumps_to(slot: usize, insn: &Insn) -> Option<usize>
 
 /// Widens the span of `place`, the target of the jump at `slot`.
 ///
-/// The jump's slot is later than those of the jumps that are in the spans already. Without a target
-/// in the table, nothing changes.
+/// `slot` becomes the last slot of the span: the slots are visited in their order. If `place` is
+/// `None` or isn't in the table, nothing changes.
 fn widen(spans: &mut [Option<Span>; MOST_SLOTS], slot: usize, place: Option<usize>)
     requires { slot < 1024 }
     ensures { spans.new ≡ widened spans.old slot place }
@@ -52,7 +52,7 @@ fn widen(spans: &mut [Option<Span>; MOST_SLOTS], slot: usize, place: Option<usiz
     }
 }
 
-/// Returns a span extended to the later slot `slot`, or else that of `slot` alone.
+/// Returns a span extended to `slot`, or the span of `slot` alone for `None`.
 fn span_with(span: &Option<Span>, slot: usize) -> Span
     requires { slot < 1024 }
     ensures { result ≡ span_with span.now slot }

@@ -15,7 +15,7 @@ pub const MOST_SLOTS: usize = 1024;
 /// Facts about a whole program, for the checks of its slots.
 #[derive(Drop)]
 pub(crate) struct Tables {
-    /// Which slots start a function.
+    /// For each slot, whether a function starts there.
     pub(crate) starts: [bool; MOST_SLOTS],
     /// The number of functions that start at or before each slot.
     pub(crate) counts: [u16; MOST_SLOTS],

@@ -14,7 +14,7 @@ use fc_isa::{ImageVersion, Insn, Jump, Operand, Relation, Width};
 /// The reason why an instruction isn't the back jump of a counted loop.
 #[derive(Clone, Copy)]
 pub enum Uncounted {
-    /// Programs of the image's version have no loops.
+    /// The image's version doesn't allow loops.
     NoLoops,
     /// The instruction isn't `jlt` with a register and an immediate, in 64 bits.
     Jump,
@@ -24,7 +24,7 @@ pub enum Uncounted {
     Step,
     /// The target isn't an earlier slot.
     Target,
-    /// This slot's instruction disturbs the loop that the jump would end.
+    /// The instruction `insn` at `slot` disturbs the loop that the jump would end.
     Disturbed {
         counted: Loop,
         slot: usize,
@@ -36,21 +36,21 @@ pub enum Uncounted {
 /// The way in which an instruction disturbs a loop.
 #[derive(Clone, Copy)]
 pub enum Disturbance {
-    /// It writes the counter in the body, and isn't the addition.
+    /// The instruction writes the counter in the body, and isn't the addition.
     Write,
-    /// It is an exit in the body.
+    /// The instruction is an exit in the body.
     Exit,
-    /// It jumps out of the body.
+    /// The instruction jumps out of the body.
     Leave,
-    /// It jumps into the body from outside.
+    /// The instruction jumps into the body from outside.
     Enter,
-    /// It jumps past the addition, to the jump back.
+    /// The instruction jumps past the addition, to the back jump.
     Skip,
 }
 
 /// Returns why a slot's instruction isn't a counted loop's back jump.
 ///
-/// Returns `None` if it is one. The explanation of a refused jump has the reason.
+/// Returns `None` if it is one. The explanation of a refused jump prints the reason.
 pub fn why_uncounted(
     version: ImageVersion,
     code: &[Insn],
@@ -72,7 +72,7 @@ pub fn why_uncounted(
 
 /// Returns the missing part of an instruction that can't be a loop's back jump.
 ///
-/// Apart from the instruction itself, only the one before it matters.
+/// The result depends only on this instruction and the one before it.
 fn unformed(code: &[Insn], slot: usize, insn: &Insn) -> Uncounted
     requires count { length code.now ≤ 1024 }
     requires slot { slot < length code.now }
@@ -114,7 +114,7 @@ fn is_below(jump: &Jump) -> bool
     )
 }
 
-/// Returns an instruction of a program that disturbs a loop, and how, or `None`.
+/// Returns an instruction that disturbs a loop, and how, or `None` if none does.
 fn disturbed(code: &[Insn], counted: &Loop) -> Option<Uncounted>
     requires { length code.now ≤ 1024 }
     ensures { IsDisturbed code.now counted.now result }
@@ -151,9 +151,10 @@ pub(crate) fn how_disturbed(counted: &Loop, slot: usize, insn: &Insn) -> Option<
     }
 }
 
-/// Returns how a jump from a slot to a place crosses a loop, or `None`.
+/// Returns how a jump from a slot to a place crosses a loop.
 ///
-/// Without a place, the jump leads below slot 0 and crosses no loop.
+/// Returns `None` if the jump doesn't cross the loop. Without a place, the jump leads below slot 0
+/// and crosses no loop.
 fn crossing(counted: &Loop, slot: usize, place: Option<usize>) -> Option<Disturbance>
     ensures { IsCrossing counted.now slot place result }
 {

@@ -112,7 +112,7 @@ zeros s f h =
 same : (f : Fields) (o d s k i : ℕ) → o ≡ f.opcode → d ≡ f.dst → s ≡ f.src → k ≡ f.offset → i ≡ f.imm → record { opcode = o; dst = d; src = s; offset = k; imm = i } ≡ f
 same f o d s k i eo ed es ek ei = rw (eo, ed, es, ek, ei) refl
 
--- arithmetic uses either the source or the immediate
+-- of the fields src and imm, the one that arithmetic with this source doesn't use is zero
 record OneOf (source : SourceOperand) (f : Fields) : Type 0 where
   src : (uses (AluShape Mov W32 source)).src ≡ false → f.src ≡ 0
   imm : (uses (AluShape Mov W32 source)).imm ≡ false → f.imm ≡ 0
@@ -120,7 +120,8 @@ record OneOf (source : SourceOperand) (f : Fields) : Type 0 where
 one_of : (op : AluOp) (width : Width) (source : SourceOperand) (f : Fields) → Zeros (AluShape op width source) f → OneOf source f
 one_of op width source f z = record { src = z.src; imm = z.imm }
 
--- arithmetic with the operation's own offset
+-- if arithmetic has the offset of its operation, the decoded instruction has the fields from which
+-- it was decoded
 plain_fields : (op : AluOp) (width : Width) (source : SourceOperand) (f : Fields) → opcode_of (AluShape op width source) ≡ f.opcode → sign_offset op ≡ f.offset → OneOf source f → Fit f
     → fields_of (Alu op width f.dst (operand_of source f)) ≡ f
 plain_fields op width K f o k z fit = same f _ _ _ _ _ o refl (sym (z.src refl)) k (of_z-to_z w32 f.imm fit.imm)
@@ -135,7 +136,7 @@ insn_if : (b : Bool) (x y : Insn) (f : Fields) → (b ≡ true → fields_of x �
 insn_if true x y f p q = p refl
 insn_if false x y f p q = q refl
 
--- the second of two values, if it isn't the first
+-- a number that is a or b, and isn't a, is b
 other : (n a b : ℕ) → ((n == a) || (n == b)) ≡ true → (n == a) ≡ false → b ≡ n
 other n a b h e = elim (either (n == a) (n == b) h) [ inl t ↦ absurd (cc (t, e)) | inr t ↦ sym (eqb-true n b t) ]
 
@@ -228,7 +229,8 @@ if_is : (P : Insn → Type 0) (b : Bool) (x y : Insn) → P x → P y → P (if 
 if_is P true x y p q = p
 if_is P false x y p q = q
 
--- a property of a move and of every sign extension holds for a slot's move
+-- a property of a plain move and of every sign extension is a property of the move that a slot's
+-- fields encode
 moved_is : (P : Insn → Type 0) (width : Width) (f : Fields) → P (Alu Mov width f.dst (Reg f.src)) → ((e : SignExtension) → P (SignExtend e f.dst f.src)) → P (move_insn width f)
 moved_is P width f p q =
     let word = SignExtend Word f.dst f.src in
@@ -270,13 +272,13 @@ narrow : (op : AluOp) (width : Width) (source : SourceOperand) (f : Fields) → 
 narrow Mov width X f = moved_is (λ i. (is_wide_load i ≡ false) × (is_wide_second i ≡ false)) width f (refl, refl) (λ e. (refl, refl))
 narrow op width source f = (refl, refl)
 
--- a form's instruction is a wide load if the form is one
+-- the instruction of a form is a wide load exactly if the form is that of wide loads
 pub is_wide_insn : (s : Shape) (f : Fields) (high : ℕ) → is_wide_load (insn_with s f high) ≡ is_wide s
 is_wide_insn (AluShape op width source) f high = (narrow op width source f).0
 is_wide_insn CallShape f high = called_is (λ i. is_wide_load i ≡ false) f refl refl
 is_wide_insn s f high = refl
 
--- it is never a second half
+-- the instruction of a form is never a second half
 pub is_own_insn : (s : Shape) (f : Fields) (high : ℕ) → is_wide_second (insn_with s f high) ≡ false
 is_own_insn (AluShape op width source) f high = (narrow op width source f).1
 is_own_insn CallShape f high = called_is (λ i. is_wide_second i ≡ false) f refl refl
@@ -298,7 +300,7 @@ wide_shape : (s : Shape) → is_wide s ≡ true → s ≡ LoadWideShape
 wide_shape LoadWideShape h = refl
 wide_shape s h = absurd (cc h)
 
--- there is a slot after a wide load without a fault
+-- a slot follows a wide load that has no fault, and is its second half
 pub record HasHalf (f : Fields) (next : Option Fields) : Type 0 where
   pub half : Fields
   pub is : next ≡ Some half

@@ -1,4 +1,4 @@
--- The first of some places that has a value.
+-- The first place at which a function has a value: as a relation, and as the function `first_some`.
 use Rattle.std.proofs.Common.{◌≡◌, ◌⊎◌, inl, inr, ℕ, zero, suc, ◌+◌, ◌*◌, ◌/◌, ◌<◌, ◌≤◌, Option, Some, None, List, length, refl, sym, ap, ◌∙◌, arith}
 use Rattle.std.proofs.lemmas.Bool.{cases_lt, cases_eq}
 use Rattle.std.proofs.lemmas.Option.{some_pair_parts}
@@ -21,7 +21,7 @@ pub first_some_none : {A : Type 0} (f : ℕ → Option A) (n : ℕ) → ((k : �
 first_some_none f zero h = refl
 first_some_none f (suc n) h = rw (first_some_none f n (λ k l. h k (omega arith)), h n (omega arith)) refl
 
--- the first place that has a value
+-- k is the first place at which f has a value, and a is that value
 pub record IsFirst {A : Type 0} (f : ℕ → Option A) (k : ℕ) (a : A) : Type 0 where
   pub found : f k ≡ Some a
   pub before : (j : ℕ) → j < k → f j ≡ None

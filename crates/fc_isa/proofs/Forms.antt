@@ -22,7 +22,8 @@ use Rattle.fc_isa.specs.Shapes.{opcode_of, shape_of, known_shapes, or_unknown, i
 
 -- ---- the form of a form's opcode
 
--- signed division and modulo have the opcodes of the unsigned
+-- the unsigned operation with the same opcode for signed division and modulo; any other operation
+-- itself
 abbrev pub unsigned : AluOp → AluOp
 unsigned Sdiv = Div
 unsigned Smod = Mod
@@ -89,7 +90,7 @@ unfolding shape_of known_shapes
 end_form Little = refl
 end_form order = refl
 
--- the form is in the list by itself
+-- the form is the one that is found by its own opcode
 pub record HasForm (shape : Shape) : Type 0 where
   pub form : shape_of (opcode_of shape) ≡ shape
 
@@ -115,13 +116,13 @@ exit_form = record { form = refl }
 
 -- ---- the opcode of an opcode's form
 
--- the form of an opcode is never that of signed division or modulo
+-- the form isn't that of signed division or modulo; the form of an opcode never is
 abbrev pub is_plain : Shape → Bool
 is_plain (Alu Sdiv width source) = false
 is_plain (Alu Smod width source) = false
 is_plain shape = true
 
--- the first element of a list that passes
+-- the element that a search for p finds passes p, and it passes q, as all elements of the list do
 pub record IsFound {A : Type 0} (p q : A → Bool) (x : A) : Type 0 where
   pub passes : p x ≡ true
   pub also : q x ≡ true
@@ -140,7 +141,7 @@ all_plain : list_all is_plain known_shapes ≡ true
 unfolding known_shapes
 all_plain = refl
 
--- the form of an opcode
+-- the form has this opcode, and is neither signed division nor signed modulo
 pub record IsForm (opcode : ℕ) (shape : Shape) : Type 0 where
   pub opcode_is : opcode_of shape ≡ opcode
   pub plain : is_plain shape ≡ true
@@ -155,7 +156,7 @@ pub form_is : (opcode : ℕ) (shape : Shape) → shape_of opcode ≡ shape → i
 unfolding shape_of
 form_is opcode shape h k = form_found opcode shape (find (λ s. opcode_of s == opcode) known_shapes) refl h k
 
--- a form whose opcode is not another's is the form of its opcode
+-- a known form other than signed division and modulo is the form that its opcode has
 pub form_back : (shape : Shape) → is_known shape ≡ true → is_plain shape ≡ true → shape_of (opcode_of shape) ≡ shape
 form_back (Alu Sdiv width source) k p = absurd (cc p)
 form_back (Alu Smod width source) k p = absurd (cc p)

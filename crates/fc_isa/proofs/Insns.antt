@@ -90,11 +90,11 @@ no_fault f next s e k d r w v n =
     let rs : nat_lt 10 f.src ≡ false = le-ltb 10 f.src (omega arith) in
     rw (e, k, rd, rs, w, v, n) refl
 
--- an opcode without a form is the first fault
+-- fields with an opcode without a form break the opcode rule first
 pub unknown_fault : (f : Fields) (next : Option Fields) → is_known (shape_of f.opcode) ≡ false → slot_fault f next ≡ Some Opcode
 unknown_fault f next k = rw k refl
 
--- an instruction has fields of its own, and a wide load is followed by a second half
+-- the instruction isn't a second half, and the second half of a wide load is the next slot
 abbrev pub IsOwn : Insn → Option Fields → Type 0
 IsOwn (LoadWide dst value) next = (is_second_half next ≡ true) × (imm_after next ≡ value / 2 ^ 32)
 IsOwn WideSecond next = ⊥

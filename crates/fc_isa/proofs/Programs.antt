@@ -10,8 +10,8 @@ abbrev pub same : Bool → Bool → Bool
 same true b = b
 same false b = not b
 
--- whether a second half must follow after a list, if one had to before it; none if one is missing
--- or is elsewhere
+-- whether a second half must follow the list; `due` says whether one must be its first element.
+-- `None` if a second half is missing, or is in the wrong place.
 abbrev pub after : Bool → List Insn → Option Bool
 after due [] = Some due
 after due (insn ∷ program) = cond (same due (is_wide_second insn)) (after (is_wide_load insn) program) None
@@ -66,7 +66,8 @@ after_push due (j ∷ program) insn t h e =
     let p = cond_some (same due (is_wide_second j)) (after (is_wide_load j) program) t h in
     rw p.0 (after_push (is_wide_load j) program insn t p.1 e)
 
--- the slots read so far decide the rest
+-- if the next element is a second half that isn't due, or isn't the one that is due, no rest makes
+-- the list a program
 pub after_stuck : (due : Bool) (program rest : List Insn) (insn : Insn) (t : Bool) → after due program ≡ Some t → (is_wide_second insn ≡ t → ⊥) → after due (program ++ insn ∷ rest) ≡ None
 after_stuck due [] rest insn t h e =
     let s : due ≡ t = cc in
@@ -75,7 +76,8 @@ after_stuck due (j ∷ program) rest insn t h e =
     let p = cond_some (same due (is_wide_second j)) (after (is_wide_load j) program) t h in
     rw p.0 (after_stuck (is_wide_load j) program rest insn t p.1 e)
 
--- the steps of `is_program`: one more slot, and a slot after which none may follow
+-- one more iteration of `is_program`. If the slot is a second half exactly when one is due, the new
+-- state says whether the slot is a wide load.
 pub step_more : (slots : List Insn) (k : ℕ) (d : Insn) (due : Bool) → k < length slots → after false (take k slots) ≡ Some due → is_wide_second (get_or slots k d) ≡ due
     → after false (take (k + 1) slots) ≡ Some (is_wide_load (get_or slots k d))
 step_more slots k d due l h e = ap (after false) (take_more slots k d l) ∙ after_push false (take k slots) (get_or slots k d) due h e

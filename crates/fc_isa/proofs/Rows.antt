@@ -9,11 +9,11 @@ use Rattle.fc_isa.proofs.Forms.{is_plain, form_back}
 use Rattle.fc_isa.specs.Shapes.{opcode_of, shape_of, known_shapes, is_known, uses}
 use Rattle.fc_isa.specs.OpcodeFields.{opcode_uses_dst, opcode_uses_src, opcode_uses_offset, opcode_uses_imm}
 
--- a row has the opcode's form: a known one with its opcode, or the unknown one if there is none
+-- a row has the opcode's form: a known form with this opcode, or `Unknown` if no form has it
 abbrev row_test : ℕ → Shape → Bool
 row_test opcode row = cond (is_known row) ((opcode_of row == opcode) && is_plain row) (not (is_known (shape_of opcode)))
 
--- each row from an opcode on
+-- each row of a list has its opcode's form, if the list's first row is that of opcode k
 abbrev rows_test : ℕ → List Shape → Bool
 rows_test k [] = true
 rows_test k (row ∷ rows) = row_test k row && rows_test (suc k) rows
@@ -56,7 +56,7 @@ row_is opcode h =
 pub known_rows : count_by is_known SHAPES ≡ 117
 known_rows = refl
 
--- a test of a form that the opcode also decides
+-- the opcode has a known form, and that form uses the field
 abbrev told : (Shape → Bool) → ℕ → Bool
 told uses opcode = is_known (shape_of opcode) && uses (shape_of opcode)
 

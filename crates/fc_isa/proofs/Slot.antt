@@ -7,11 +7,11 @@ use Rattle.std.proofs.lemmas.Nat.{le_bytes_2, le_bytes_4, from_le_bytes-to_le_by
 use Rattle.fc_isa.specs.Encoding.{Fields, bytes_of_fields, read_fields, fields_at}
 use Rattle.fc_isa.proofs.Insns.{Fit}
 
--- bytes are below 256
+-- each byte is below 256
 pub record AreBytes (bs : List ℕ) : Type 0 where
   pub each : (i : ℕ) → get_or bs i 0 < 256
 
--- the bound that the type of a slice of `u8` gives
+-- the elements of a slice of `u8` are bytes
 pub are_bytes : (bs : List ℕ) → ((i : ℕ) → Fits w8 (get_or bs i 0)) → AreBytes bs
 are_bytes bs h = record { each = λ i. let f = h i in omega arith }
 
@@ -22,7 +22,7 @@ byte_of_part bs n m i b (inr h) = rw (get_or_past (take m (drop n bs)) i 0 (omeg
 pub part_bytes : (bs : List ℕ) (n m : ℕ) → AreBytes bs → AreBytes (take m (drop n bs))
 part_bytes bs n m b = record { each = λ i. byte_of_part bs n m i b (cases_lt i m) }
 
--- reading the bytes of written fields
+-- writing fields that are within their ranges, and reading the bytes, gives the same fields
 pub read-bytes_of_fields : (f : Fields) → Fit f → read_fields (bytes_of_fields f) ≡ f
 read-bytes_of_fields f fit =
     let d : (16 * f.src + f.dst) % 16 ≡ f.dst = omega (arith, fit.dst) in
@@ -46,7 +46,7 @@ two_bytes a b p q zero = p
 two_bytes a b p q (suc zero) = q
 two_bytes a b p q (suc (suc i)) = lit< tt
 
--- writing the fields that were read from eight bytes
+-- writing the fields that were read from eight bytes gives the same eight bytes
 pub bytes_of_fields-read_fields : (bs : List ℕ) → length bs ≡ 8 → AreBytes bs → bytes_of_fields (read_fields bs) ≡ bs
 bytes_of_fields-read_fields (a ∷ b ∷ c ∷ d ∷ e ∷ f ∷ g ∷ h ∷ []) l small =
     let regs : 16 * (b / 16) + b % 16 ≡ b = omega arith in
@@ -63,7 +63,7 @@ slot_bytes bytes k b l =
 pub slot_fit : (bytes : List ℕ) (k : ℕ) → AreBytes bytes → Fit (fields_at bytes k)
 slot_fit bytes k b = read_fit (take 8 (drop (8 * k) bytes)) (part_bytes bytes (8 * k) 8 b)
 
--- a slot that begins with the bytes of fields
+-- slot k of the bytes has the fields f, and `tail` follows that slot
 pub record IsSlot (bytes : List ℕ) (k : ℕ) (f : Fields) (tail : List ℕ) : Type 0 where
   pub whole : 8 * k + 8 ≤ length bytes
   pub fields : fields_at bytes k ≡ f

@@ -22,22 +22,22 @@ use Rattle.fc_isa.proofs.Programs.{after, same, same_true, cond_some, after_push
 pub slot_at_whole : (bytes : List ℕ) (k : ℕ) → 8 * k + 8 ≤ length bytes → whole_fields_at bytes k ≡ Some (fields_at bytes k)
 slot_at_whole bytes k h = rw (le-leb (8 * k + 8) (length bytes) h) refl
 
--- a second half has no fault
+-- a slot that is a second half has no fault
 pub fault_at_second : (bytes : List ℕ) (k : ℕ) → 8 * k + 8 ≤ length bytes → is_second bytes k ≡ true → fault_at bytes k ≡ None
 unfolding fault_at
 fault_at_second bytes k h s = rw (le-leb (8 * k + 8) (length bytes) h, s) refl
 
--- every other whole slot has the fault of its fields
+-- a whole slot that isn't a second half has the fault of its own fields
 pub fault_at_own : (bytes : List ℕ) (k : ℕ) → 8 * k + 8 ≤ length bytes → is_second bytes k ≡ false → fault_at bytes k ≡ slot_fault (fields_at bytes k) (whole_fields_at bytes (k + 1))
 unfolding fault_at
 fault_at_own bytes k h s = rw (le-leb (8 * k + 8) (length bytes) h, s) refl
 
--- a partial slot at the end is a wide load that is cut off
+-- a partial slot at the end breaks rule 10
 pub fault_at_rest : (bytes : List ℕ) (k : ℕ) → length bytes < 8 * k + 8 → 8 * k < length bytes → fault_at bytes k ≡ Some WideLoad
 unfolding fault_at
 fault_at_rest bytes k h l = rw (lt-leb (8 * k + 8) (length bytes) h, lt-ltb (8 * k) (length bytes) l) refl
 
--- past the end there is no fault
+-- a slot after the end of the bytes has no fault
 pub fault_at_past : (bytes : List ℕ) (k : ℕ) → length bytes ≤ 8 * k → fault_at bytes k ≡ None
 unfolding fault_at
 fault_at_past bytes k h = rw (lt-leb (8 * k + 8) (length bytes) (omega arith), le-ltb (8 * k) (length bytes) h) refl
@@ -56,7 +56,7 @@ and_true : (a : Bool) → (a && true) ≡ a
 and_true true = refl
 and_true false = refl
 
--- a second half must follow a slot if its instruction is a wide load
+-- the next slot is a second half exactly if this slot's instruction is a wide load
 pub second_after : (bytes : List ℕ) (k : ℕ) (s : Bool) → is_second bytes k ≡ s → is_second bytes (suc k) ≡ is_wide_load (insn_at bytes k)
 second_after bytes k true s = rw s (and_false (is_wide (shape_of (fields_at bytes k).opcode)))
 second_after bytes k false s =
@@ -64,7 +64,7 @@ second_after bytes k false s =
 
 -- ---- bytes of slots without a fault
 
--- one more slot if a second half must follow
+-- the number of slots that must still follow: 1 if a second half is due, else 0
 abbrev pub due : Bool → ℕ
 due true = 1
 due false = 0
@@ -76,17 +76,18 @@ encoded-append (i ∷ p) q = ap (λ bs. flat_map bytes_of_fields (insn_slots i) 
 encoded-push : (p : List Insn) (i : Insn) → encoded (p ++ i ∷ []) ≡ encoded p ++ flat_map bytes_of_fields (insn_slots i)
 encoded-push p i = encoded-append p (i ∷ []) ∙ ap (λ bs. encoded p ++ bs) (append-nil (flat_map bytes_of_fields (insn_slots i)))
 
--- eight more bytes
+-- the first n slots and the next eight bytes are the first n + 1 slots
 take_eight : (bytes : List ℕ) (n : ℕ) → take (8 * n) bytes ++ take 8 (drop (8 * n) bytes) ≡ take (8 * suc n) bytes
 take_eight bytes n = sym (take-add (8 * n) 8 bytes) ∙ ap (λ m. take m bytes) (omega arith)
 
--- an instruction of one slot
+-- an instruction that is neither a wide load nor a second half has one slot
 slots_plain : (i : Insn) → is_wide_load i ≡ false → is_wide_second i ≡ false → insn_slots i ≡ fields_of i ∷ []
 slots_plain (LoadWide dst value) w s = absurd (cc w)
 slots_plain WideSecond w s = absurd (cc s)
 slots_plain i w s = refl
 
--- the instruction of a slot, with its bytes
+-- slot n has no fault, and its bytes encode its instruction; `s` says whether it is a second half,
+-- and `t` whether the next one is
 pub record IsRead (bytes : List ℕ) (n : ℕ) (s : Bool) (t : Bool) : Type 0 where
   pub second : is_second bytes (suc n) ≡ t
   pub whole : 8 * (suc n + due t) ≤ length bytes
@@ -125,7 +126,7 @@ read_plain bytes n i b l s e f k o w =
       wide = ap is_wide_load e ∙ w;
     }
 
--- the value of a wide load has the halves from which it was made
+-- the value of a wide load has the high half from which it was made
 halves : (high low : ℕ) → low < 2 ^ 32 → (high * 2 ^ 32 + low) / 2 ^ 32 ≡ high
 halves high low h = omega arith
 
@@ -136,7 +137,7 @@ some_whole bytes k g e (inl h) = let n : whole_fields_at bytes k ≡ None = rw (
 bits_of_two : (f g : Fields) → flat_map bytes_of_fields (f ∷ g ∷ []) ≡ bytes_of_fields f ++ bytes_of_fields g
 bits_of_two f g = ap (λ bs. bytes_of_fields f ++ bs) (append-nil (bytes_of_fields g))
 
--- a wide load's two slots
+-- the bytes of n slots, followed by the bytes of a wide load's two slots, are those of n + 2 slots
 wide_spelled : (bytes : List ℕ) (n : ℕ) (f g : Fields) → bytes_of_fields f ≡ take 8 (drop (8 * n) bytes) → bytes_of_fields g ≡ take 8 (drop (8 * suc n) bytes)
     → take (8 * n) bytes ++ flat_map bytes_of_fields (f ∷ g ∷ []) ≡ take (8 * suc (suc n)) bytes
 wide_spelled bytes n f g p q =
@@ -173,7 +174,7 @@ read_wide bytes n g b l s h e w =
       wide = ap is_wide_load at;
     }
 
--- the imm of the slot after, if there is one
+-- the imm of the next slot is below 2 ^ 32, and is 0 if there is no next slot
 after_small : (bytes : List ℕ) (k : ℕ) (next : Option Fields) → AreBytes bytes → whole_fields_at bytes k ≡ next → imm_after next < 2 ^ 32
 after_small bytes k (Some g) b e = let w = some_whole bytes k g e (cases_lt (length bytes) (8 * k + 8)) in let g_fit : Fit g = subst Fit w.1 (slot_fit bytes k b) in g_fit.imm
 after_small bytes k None b e = lit< tt
@@ -190,7 +191,7 @@ read_own bytes n false b l s h w =
     read_plain bytes n (insn_of f next) b l s (insn_at_own bytes n s) (fields_of-insn_of f next fit h) (IsInsn-insn_of f next fit (after_small bytes (n + 1) next b refl) h)
     (is_own_insn (shape_of f.opcode) f (imm_after next)) (is_wide_insn (shape_of f.opcode) f (imm_after next) ∙ w)
 
--- a second half must follow or not
+-- slot n has no fault, and `follows` says whether a second half must follow it
 pub record IsReadOn (bytes : List ℕ) (n : ℕ) (s : Bool) : Type 0 where
   pub follows : Bool
   pub read : IsRead bytes n s follows
@@ -200,7 +201,8 @@ read_slot bytes n true b l s h = record { follows = false; read = read_second by
 read_slot bytes n false b l s h =
     record { follows = is_wide (shape_of (fields_at bytes n).opcode); read = read_own bytes n (is_wide (shape_of (fields_at bytes n).opcode)) b l s (sym (fault_at_own bytes n l s) ∙ h) refl }
 
--- the slots before `n`, if none of them breaks a rule
+-- the slots before `n` break no rule, and their bytes encode their instructions; `s` says whether
+-- slot n is a second half
 pub record IsReadBelow (bytes : List ℕ) (n : ℕ) (s : Bool) : Type 0 where
   pub second : is_second bytes n ≡ s
   pub whole : 8 * (n + due s) ≤ length bytes
@@ -231,7 +233,7 @@ read_below bytes (suc n) b l h =
     let r = read_slot bytes n p.due_then b (omega arith) p.below.second (h n (omega arith)) in
     read_more bytes n p.due_then r.follows p.below r.read
 
--- if the slots are all the bytes, no second half must follow
+-- if n slots without a fault are all the bytes, the bytes encode their instructions
 spell_all : (bytes : List ℕ) (n : ℕ) (s : Bool) → 8 * n ≡ length bytes → IsReadBelow bytes n s → Spells bytes (insns_below bytes n)
 spell_all bytes n true l p = absurd (let w = p.whole in omega arith)
 spell_all bytes n false l p = record {
@@ -243,12 +245,12 @@ spell_all bytes n false l p = record {
 pub below_spell : (bytes : List ℕ) (n : ℕ) → AreBytes bytes → 8 * n ≡ length bytes → ((k : ℕ) → k < n → fault_at bytes k ≡ None) → Spells bytes (insns_below bytes n)
 below_spell bytes n b l h = let p = read_below bytes n b (omega arith) h in spell_all bytes n p.due_then l p.below
 
--- a partial slot is a fault
+-- bytes without a fault have no partial slot
 no_rest : (bytes : List ℕ) → ((k : ℕ) → fault_at bytes k ≡ None) → (8 * (length bytes / 8) ≡ length bytes) ⊎ (8 * (length bytes / 8) < length bytes) → 8 * (length bytes / 8) ≡ length bytes
 no_rest bytes h (inl e) = e
 no_rest bytes h (inr l) = absurd (cc (fault_at_rest bytes (length bytes / 8) (omega arith) l, h (length bytes / 8)))
 
--- the bytes of slots without a fault, and without a partial one, encode a program
+-- bytes without a fault encode the program that is decoded from them
 pub faultless_spell : (bytes : List ℕ) → AreBytes bytes → ((k : ℕ) → fault_at bytes k ≡ None) → Spells bytes (decoded_program bytes)
 unfolding decoded_program
 faultless_spell bytes b h = below_spell bytes (length bytes / 8) b (no_rest bytes h (grind arith)) (λ k lt. h k)
@@ -259,7 +261,8 @@ length-insns_below bytes (suc n) = length_push (insns_below bytes n) (insn_at by
 
 -- ---- the bytes of an encoded program
 
--- a suffix of a program, with its bytes from a slot on
+-- the bytes from slot n on encode the suffix q of a program; `s` says whether slot n is a second
+-- half
 pub record IsRest (bytes : List ℕ) (n : ℕ) (s : Bool) (q : List Insn) : Type 0 where
   pub second : is_second bytes n ≡ s
   pub whole : 8 * (n + due s) ≤ length bytes
@@ -267,7 +270,7 @@ pub record IsRest (bytes : List ℕ) (n : ℕ) (s : Bool) (q : List Insn) : Type
   pub state : after s q ≡ Some false
   pub insns : All IsInsn q
 
--- its first instruction is that of the slot
+-- slot n has the instruction i and no fault, and the bytes after it encode the suffix q
 pub record IsNext (bytes : List ℕ) (n : ℕ) (i : Insn) (q : List Insn) : Type 0 where
   pub fault : fault_at bytes n ≡ None
   pub insn : insn_at bytes n ≡ i
@@ -343,7 +346,7 @@ next_wide bytes n dst value q r =
       };
     }
 
--- a second half follows exactly if it must
+-- the first instruction of a suffix of a program is a second half exactly if one is due
 not_due : (i : Insn) (s : Bool) (q : List Insn) → after s (i ∷ q) ≡ Some false → (is_wide_second i ≡ s) × (after (is_wide_load i) q ≡ Some false)
 not_due i s q h = let p = cond_some (same s (is_wide_second i)) (after (is_wide_load i) q) false h in (same_true s (is_wide_second i) p.0, p.1)
 
@@ -355,7 +358,7 @@ next_of bytes n true (LoadWide dst value) q r e a = absurd (cc e)
 next_of bytes n false i q r e a = next_plain bytes n i q r refl refl (λ next. tt) a
 next_of bytes n true i q r e a = absurd (cc e)
 
--- reading the suffix
+-- the slots from n on have no fault, and decoding them gives the suffix q
 pub record IsReadRest (bytes : List ℕ) (n : ℕ) (q : List Insn) : Type 0 where
   pub count : length bytes ≡ 8 * (n + length q)
   pub faultless : (k : ℕ) → n ≤ k → fault_at bytes k ≡ None
@@ -395,7 +398,7 @@ read_rest bytes n s (i ∷ q) r =
     let p = next_of bytes n s i q r d.0 d.1 in
     read_on bytes n i q p (read_rest bytes (suc n) (is_wide_load i) q p.rest)
 
--- reading all bytes of a program
+-- decoding all bytes of a program gives the program
 pub read_all : (bytes : List ℕ) (p : List Insn) → Spells bytes p → IsReadRest bytes 0 p
 read_all bytes p s = read_rest bytes 0 false p (record { second = refl; whole = omega arith; rest = s.bytes_are; state = program_ends p s.whole; insns = s.insns })
 
@@ -403,7 +406,7 @@ read_all bytes p s = read_rest bytes 0 false p (record { second = refl; whole = 
 pub spelled_faultless : (bytes : List ℕ) (p : List Insn) → Spells bytes p → (k : ℕ) → fault_at bytes k ≡ None
 spelled_faultless bytes p s k = (read_all bytes p s).faultless k (omega arith)
 
--- they encode no other program
+-- bytes that encode a program encode no other program
 pub spelled_once : (bytes : List ℕ) (p : List Insn) → Spells bytes p → p ≡ decoded_program bytes
 unfolding decoded_program
 spelled_once bytes p s =

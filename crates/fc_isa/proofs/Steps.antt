@@ -13,7 +13,7 @@ use Rattle.fc_isa.proofs.First.{faultless_none}
 pub fields_are : (bytes : List ℕ) (k : ℕ) (f : Fields) → f ≡ read_fields (take (8 * k + 8 - 8 * k) (drop (8 * k) bytes)) → f ≡ fields_at bytes k
 fields_are bytes k f h = let e : 8 * k + 8 - 8 * k ≡ 8 = omega arith in h ∙ ap (λ n. read_fields (take n (drop (8 * k) bytes))) e
 
--- the fault of a slot's fields is the slot's fault
+-- the fault of a whole slot's fields is the slot's fault, unless the slot is a second half
 pub own_fault : (bytes : List ℕ) (k : ℕ) (f : Fields) (next : Option Fields) (r : Option Rule) → 8 * k + 8 ≤ length bytes → is_second bytes k ≡ false → f ≡ fields_at bytes k
     → next ≡ whole_fields_at bytes (k + 1) → r ≡ slot_fault f next → fault_at bytes k ≡ r
 own_fault bytes k f next r l s ef en h =
@@ -39,11 +39,11 @@ faultless_more bytes k h before = below_more (λ j. fault_at bytes j ≡ None) k
 pub insns_more : (bytes : List ℕ) (k : ℕ) (items : List Insn) (insn : Insn) → items ≡ insns_below bytes k → insn ≡ insn_at bytes k → items ++ insn ∷ [] ≡ insns_below bytes (k + 1)
 insns_more bytes k items insn e i = rw (add-one k, e, i) refl
 
--- whether the next slot is a second half
+-- the next slot is a second half exactly if this slot's instruction is a wide load
 pub second_more : (bytes : List ℕ) (k : ℕ) (insn : Insn) → insn ≡ insn_at bytes k → is_wide_load insn ≡ is_second bytes (k + 1)
 second_more bytes k insn i = ap is_wide_load i ∙ sym (second_after bytes k (is_second bytes k) refl) ∙ ap (is_second bytes) (sym (add-one k))
 
--- the relation of decoded bytes and their program
+-- the bytes encode the program, which is the one that is decoded from them, and have no fault
 pub record IsDecoded (bytes : List ℕ) (program : List Insn) : Type 0 where
   pub spells : Spells bytes program
   pub program_is : program ≡ decoded_program bytes

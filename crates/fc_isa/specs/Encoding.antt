@@ -26,7 +26,7 @@ use Rattle.fc_isa.specs.declared.decoder.DecodeError.TheVariants.{Fault, NoMemor
 use Rattle.fc_isa.specs.Shapes.{opcode_of, shape_of, is_known, is_wide, uses, writes_dst}
 use Rattle.fc_isa.specs.Program.{IsInsn, is_program}
 
--- the fields of a slot (3.1); offset and imm by their bits.
+-- the fields of a slot (3.1); offset and imm are unsigned numbers.
 pub record Fields : Type 0 where
   pub opcode : ℕ
   pub dst : ℕ
@@ -34,14 +34,14 @@ pub record Fields : Type 0 where
   pub offset : ℕ
   pub imm : ℕ
 
--- the opcode; a byte of two registers, the destination in its low four bits; the offset; the
--- immediate.
+-- the eight bytes of a slot: the opcode; a byte of two registers, the destination in its low four
+-- bits; the offset; the immediate.
 abbrev pub bytes_of_fields : Fields → List ℕ
 bytes_of_fields f = f.opcode ∷ (16 * f.src + f.dst) ∷ (to_le_bytes w16 f.offset ++ to_le_bytes w32 f.imm)
 
 -- ---- the encoding of a program
 
--- an operand is the immediate (K) or the source register (X).
+-- the source of an operand: the immediate (K) or the source register (X).
 abbrev pub source_of : Operand → SourceOperand
 source_of (Imm k) = K
 source_of (Reg r) = X
@@ -54,7 +54,7 @@ abbrev pub imm_of : Operand → ℕ
 imm_of (Imm k) = cast_unsigned w32 k
 imm_of (Reg r) = 0
 
--- signed division and modulo have offset 1 (4.1).
+-- the offset of an operation: 1 for signed division and modulo (4.1), else 0.
 abbrev pub sign_offset : AluOp → ℕ
 sign_offset Sdiv = 1
 sign_offset Smod = 1
@@ -71,7 +71,7 @@ extended_width (Byte width) = width
 extended_width (HalfWord width) = width
 extended_width Word = W64
 
--- a byte-order change has the number of bits in imm (4.2).
+-- the imm of a byte-order change: the number of bits (4.2).
 abbrev pub swap_bits : SwapWidth → ℕ
 swap_bits S16 = 16
 swap_bits S32 = 32
@@ -80,8 +80,8 @@ swap_bits S64 = 64
 abbrev pub fields : Shape → ℕ → ℕ → ℕ → ℕ → Fields
 fields shape dst src offset imm = record { opcode = opcode_of shape; dst = dst; src = src; offset = offset; imm = imm }
 
--- the fields of an instruction's own slot: opcode, dst, src, offset, imm; a second half has no
--- fields of its own.
+-- the fields of an instruction's first slot, in the order opcode, dst, src, offset, imm. A second
+-- half has zeros here: `second_half` has its fields.
 abbrev pub fields_of : Insn → Fields
 fields_of (Alu op width dst operand) = fields (shapes.Alu op width (source_of operand)) dst (src_of operand) (sign_offset op) (imm_of operand)
 fields_of (Neg width dst) = fields (shapes.Neg width) dst 0 0 0
@@ -104,7 +104,7 @@ fields_of Exit = fields shapes.Exit 0 0 0 0
 abbrev pub second_half : ℕ → Fields
 second_half high = record { opcode = 0; dst = 0; src = 0; offset = 0; imm = high }
 
--- the slots of an instruction: two for a wide load, so that the second half has none.
+-- the slots of an instruction. A wide load has both its slots, and the second half therefore none.
 abbrev pub insn_slots : Insn → List Fields
 insn_slots (LoadWide dst value) = fields_of (LoadWide dst value) ∷ second_half (value / 2 ^ 32) ∷ []
 insn_slots WideSecond = []
@@ -115,7 +115,7 @@ abbrev pub encoded : List Insn → List ℕ
 encoded [] = []
 encoded (insn ∷ program) = flat_map bytes_of_fields (insn_slots insn) ++ encoded program
 
--- the bytes encode the program.
+-- the bytes are the encoding of a program.
 pub record Spells (bytes : List ℕ) (program : List Insn) : Type 0 where
   pub bytes_are : bytes ≡ encoded program
   pub insns : All IsInsn program
@@ -173,7 +173,7 @@ abbrev pub is_second_half : Option Fields → Bool
 is_second_half (Some f) = ((f.opcode == 0) && (f.dst == 0)) && ((f.src == 0) && (f.offset == 0))
 is_second_half None = false
 
--- a slot's fields break a rule; the next slot's fields matter only for a wide load.
+-- the fields `f` of a slot break the rule. Only a wide load depends on the next slot's fields.
 abbrev pub breaks : Fields → Option Fields → Rule → Bool
 breaks f next Opcode = not (is_known (shape_of f.opcode))
 breaks f next Register = nat_lt 10 f.dst || nat_lt 10 f.src
@@ -190,7 +190,7 @@ slot_rules = Opcode ∷ Register ∷ FramePointer ∷ Field ∷ WideLoad ∷ []
 abbrev pub slot_fault : Fields → Option Fields → Option Rule
 slot_fault f next = find (breaks f next) slot_rules
 
--- slots with this opcode break the opcode rule first, whatever other fields they have.
+-- every slot with this opcode breaks the opcode rule first, whatever its other fields are.
 abbrev pub BreaksOpcodeFirst : ℕ → Type 0
 BreaksOpcodeFirst opcode = (f : Fields) (next : Option Fields) → f.opcode ≡ opcode → slot_fault f next ≡ Some Opcode
 
@@ -199,8 +199,8 @@ abbrev pub is_second : List ℕ → ℕ → Bool
 is_second bytes zero = false
 is_second bytes (suc slot) = is_wide (shape_of (fields_at bytes slot).opcode) && not (is_second bytes slot)
 
--- the least rule that a slot breaks: none for a second half, since the rules of the wide load cover
--- it; fewer than eight bytes at the end are no slot.
+-- the least rule that a slot breaks. A second half breaks none, since the wide load before it is
+-- checked with it. Fewer than eight bytes at the end break rule 10.
 unfoldable pub fault_at : List ℕ → ℕ → Option Rule
 fault_at bytes slot =
     if is_whole bytes slot
@@ -216,17 +216,18 @@ abbrev pub IsDecodeError : List ℕ → DecodeError → Type 0
 IsDecodeError bytes (Fault f) = IsFirstFault bytes f.rule f.slot
 IsDecodeError bytes NoMemory = Unit {0}
 
--- the same as functions: the first of n places that has a value, with that value.
+-- the place that was found already, or else place n if it has a value.
 abbrev pub or_at : {A : Type 0} → Option (ℕ × A) → ℕ → Option A → Option (ℕ × A)
 or_at (Some x) n a = Some x
 or_at None n None = None
 or_at None n (Some a) = Some (n, a)
 
+-- the first place below n at which f has a value, with that value.
 abbrev pub first_some : {A : Type 0} → (ℕ → Option A) → ℕ → Option (ℕ × A)
 first_some f zero = None
 first_some f (suc n) = or_at (first_some f n) n (f n)
 
--- the first slot that breaks a rule, and that rule.
+-- the first slot that breaks a rule, with the least rule that it breaks.
 unfoldable pub first_fault : List ℕ → Option (ℕ × Rule)
 first_fault bytes = first_some (fault_at bytes) (length bytes / 8 + 1)
 
@@ -236,7 +237,7 @@ abbrev pub operand_of : SourceOperand → Fields → Operand
 operand_of K f = Imm (cast_signed w32 f.imm)
 operand_of X f = Reg f.src
 
--- division and modulo are signed if the offset isn't zero.
+-- the operation with this offset: division and modulo are signed if the offset isn't zero.
 abbrev pub signed_by : ℕ → AluOp → AluOp
 signed_by offset Div = if offset == 0 then Div else Sdiv
 signed_by offset Mod = if offset == 0 then Mod else Smod
@@ -282,7 +283,7 @@ abbrev pub imm_after : Option Fields → ℕ
 imm_after (Some f) = f.imm
 imm_after None = 0
 
--- the instruction that fields without a fault encode, with the slot after them.
+-- the instruction that fields without a fault encode; `next` has the fields of the following slot.
 abbrev pub insn_of : Fields → Option Fields → Insn
 insn_of f next = insn_with (shape_of f.opcode) f (imm_after next)
 

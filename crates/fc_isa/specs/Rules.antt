@@ -32,6 +32,6 @@ number_of PointerStep = 26
 number_of HelperArgument = 27
 number_of LoopState = 28
 
--- `V`, the number in two digits, ` slot ` and the slot.
+-- the text of a fault: `V`, the rule's number in two digits, ` slot `, and the slot.
 abbrev pub fault_text : ℕ → ℕ → List ℕ
 fault_text number slot = codes "V" ++ (decimal (number / 10) ++ (decimal (number % 10) ++ (codes " slot " ++ decimal slot)))

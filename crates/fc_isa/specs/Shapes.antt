@@ -144,7 +144,7 @@ abbrev pub or_unknown : Option Shape → Shape
 or_unknown (Some shape) = shape
 or_unknown None = Unknown
 
--- the form with this opcode.
+-- the form with this opcode, or `Unknown` if no form has it.
 unfoldable pub shape_of : ℕ → Shape
 shape_of opcode = or_unknown (find (λ shape. opcode_of shape == opcode) known_shapes)
 
@@ -173,7 +173,8 @@ alu_uses_offset op source = false
 abbrev pub used : Bool → Bool → Bool → Bool → Uses
 used dst src offset imm = record { dst = dst; src = src; offset = offset; imm = imm }
 
--- dst, src, offset and imm, row by row; an operand that isn't a register is an immediate.
+-- the use of dst, src, offset and imm by each form. If the second operand isn't a register, it is
+-- the immediate.
 abbrev pub uses : Shape → Uses
 uses (Alu op width source) = used true (is_register source) (alu_uses_offset op source) (not (is_register source))
 uses (Neg width) = used true false false false
@@ -197,5 +198,3 @@ writes_dst (End order) = true
 writes_dst LoadWide = true
 writes_dst (Load loaded) = true
 writes_dst shape = false
-
--- ---- the same from an opcode's bits (3.1 and 3.3): class, code and source bit

@@ -22,6 +22,6 @@ abbrev pub is_that : Option ℕ → ℕ → Bool
 is_that None r = false
 is_that (Some dst) r = dst == r
 
--- a call writes R0 to R5.
+-- an instruction writes register r. A call writes R0 to R5.
 abbrev pub writes : Insn → ℕ → Bool
 writes insn r = is_that (computes insn) r || (is_call insn && nat_le r 5)

@@ -12,7 +12,7 @@ use std::alloc::{AllocError, Global};
 /// The reason why bytes weren't decoded.
 #[derive(Clone, Copy, Debug, PartialEq, Eq)]
 pub enum DecodeError {
-    /// The first slot that encodes no instruction, with the least rule that it breaks.
+    /// The first faulty slot, with the least rule that the slot breaks.
     Fault(Fault),
     /// Memory for the program can't be allocated.
     NoMemory,
@@ -31,8 +31,8 @@ impl From<AllocError> for DecodeError {
 /// Decodes a program from its slots, eight bytes each.
 ///
 /// # Errors
-/// Returns the fault of the first slot that encodes no instruction; a rest of fewer than eight
-/// bytes breaks rule 10. Returns `NoMemory` if memory can't be allocated.
+/// Returns the fault of the first slot that encodes no instruction. Fewer than eight bytes at the
+/// end break rule 10. Returns `NoMemory` if memory can't be allocated.
 pub fn decode(alloc: Global, bytes: &[u8]) -> Result<Vec<Insn>, DecodeError>
     ensures program { IfOk result (λ v. Spells bytes.now v.items) }
     ensures spelled { (p : List Insn) → Spells bytes.now p → MatchResult result (λ v. v.items ≡ p) (λ e. e ≡ DecodeError.NoMemory) }
@@ -65,8 +65,8 @@ pub fn decode(alloc: Global, bytes: &[u8]) -> Result<Vec<Insn>, DecodeError>
 
 /// Returns the instruction of a slot, or the least rule that it breaks.
 ///
-/// If `second` is `true`, the slot is the second half of a wide load. It then breaks no rule: it
-/// was checked together with the load.
+/// If `second` is `true`, the slot is the second half of a wide load, and the result is
+/// `WideSecond`. Such a slot breaks no rule: it was checked together with the load.
 fn decode_slot(bytes: &[u8], slot: usize, second: bool) -> Result<Insn, Rule>
     requires whole { 8 * slot + 8 ≤ length bytes.now }
     requires second { second ≡ is_second bytes.now slot }
@@ -84,9 +84,9 @@ fn decode_slot(bytes: &[u8], slot: usize, second: bool) -> Result<Insn, Rule>
     }
 }
 
-/// Returns the fields of a slot, or `None` if it isn't wholly within the bytes.
+/// Returns the fields of a slot, or `None` if the bytes end before the slot's end.
 ///
-/// The slot is the one after a slot that is decoded: it may be a wide load's second half.
+/// The slot follows one that is decoded, so it may be a wide load's second half.
 fn fields_at(bytes: &[u8], slot: usize) -> Option<Fields>
     requires { 8 * slot ≤ length bytes.now }
     ensures { result ≡ whole_fields_at bytes.now slot }

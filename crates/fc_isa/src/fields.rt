@@ -23,7 +23,7 @@ const WORD: u64 = 1 << 32;
 
 /// The fields of a slot (RFC 9669, section 3.1).
 ///
-/// The offset and the immediate are stored by their bits.
+/// The offset and the immediate are stored as unsigned numbers with the same bits.
 #[derive(Clone, Copy)]
 pub(crate) struct Fields {
     opcode: u8,
@@ -61,9 +61,9 @@ impl Fields {
         }
     }
 
-    /// Returns the fields of an instruction's slot; of a wide load, the first slot's.
+    /// Returns the fields of an instruction's slot, or of a wide load's first slot.
     ///
-    /// For a second half all fields are zero; the encoder doesn't write a second half by itself.
+    /// All fields of `WideSecond` are zero; the encoder uses `second_half_of` instead.
     pub(crate) fn of(insn: &Insn) -> Self
         ensures { result ≡ fields_of insn.now }
     {
@@ -189,7 +189,7 @@ impl Fields {
         }
     }
 
-    /// Returns fields that are all zero, from which those of a form are made.
+    /// Returns fields that are all zero; `form` sets the opcode in them.
     fn zeros() -> Self
         ensures { result ≡ fields_of Insn.WideSecond }
     {
@@ -202,7 +202,7 @@ impl Fields {
         }
     }
 
-    /// Returns these fields with other registers and a signed offset, for an access.
+    /// Returns these fields with the registers and the offset of a load or store.
     fn between(self, dst: u8, src: u8, offset: i16) -> Self
         requires dst { dst < 16 }
         requires src { src < 16 }
@@ -211,14 +211,14 @@ impl Fields {
         self.dst(dst).src(src).offset(offset.cast_unsigned())
     }
 
-    /// Returns these fields with the bits of a signed immediate.
+    /// Returns these fields with the signed immediate `imm`.
     fn signed_imm(self, imm: i32) -> Self
         ensures { result ≡ record self { imm = cast_unsigned w32 imm } }
     {
         self.imm(imm.cast_unsigned())
     }
 
-    /// Returns these fields with another destination register.
+    /// Returns these fields with the destination register `dst`.
     fn dst(self, dst: u8) -> Self
         requires { dst < 16 }
         ensures { result ≡ record self { dst = dst } }
@@ -226,7 +226,7 @@ impl Fields {
         Fields { dst, ..self }
     }
 
-    /// Returns these fields with another source register.
+    /// Returns these fields with the source register `src`.
     fn src(self, src: u8) -> Self
         requires { src < 16 }
         ensures { result ≡ record self { src = src } }
@@ -234,14 +234,14 @@ impl Fields {
         Fields { src, ..self }
     }
 
-    /// Returns these fields with another offset, given by its bits.
+    /// Returns these fields with the offset whose bits are `offset`.
     fn offset(self, offset: u16) -> Self
         ensures { result ≡ record self { offset = offset } }
     {
         Fields { offset, ..self }
     }
 
-    /// Returns these fields with another immediate, given by its bits.
+    /// Returns these fields with the immediate whose bits are `imm`.
     fn imm(self, imm: u32) -> Self
         ensures { result ≡ record self { imm = imm } }
     {
@@ -275,9 +275,9 @@ impl Fields {
         ]
     }
 
-    /// Builds the instruction from fields that passed all checks.
+    /// Returns the instruction that fields without a fault encode.
     ///
-    /// `next` has the fields of the following slot, which only a wide load uses.
+    /// `next` has the fields of the following slot. Only a wide load uses them.
     pub(crate) fn insn(self, next: &Option<Self>) -> Insn
         requires { slot_fault self next.now ≡ None }
         ensures { result ≡ insn_of self next.now }
@@ -291,8 +291,8 @@ impl Fields {
 
     /// Returns the instruction of a form with these fields.
     ///
-    /// `high` is the immediate of the slot after them, which only a wide load uses. `Unknown`,
-    /// which the checks refuse, gives an exit.
+    /// `high` is the immediate of the next slot; only a wide load uses it. `Unknown`, which the
+    /// checks refuse, gives `Exit`.
     fn with_shape(self, shape: Shape, high: u32) -> Insn
         requires dst { self.dst < 11 }
         requires src { self.src < 11 }
@@ -321,7 +321,8 @@ impl Fields {
 
     /// Returns the arithmetic instruction with these fields.
     ///
-    /// The offset selects a signed division or modulo, and a move with sign extension.
+    /// With an offset other than 0, a division or modulo is signed, and a move of a register
+    /// sign-extends.
     fn arithmetic(self, op: AluOp, width: Width, source: SourceOperand) -> Insn
         requires target { self.dst < 10 }
         requires src { self.src < 11 }
@@ -340,7 +341,8 @@ impl Fields {
 
     /// Returns the move of a register.
     ///
-    /// It sign-extends the low bits whose number is the offset, unless the offset is 0.
+    /// With offset 0 it is a plain move. Otherwise the offset is the number of low bits that the
+    /// move sign-extends.
     fn move_of(self, width: Width) -> Insn
         requires target { self.dst < 10 }
         requires src { self.src < 11 }
@@ -385,7 +387,7 @@ impl Fields {
         Insn::Neg { width, dst }
     }
 
-    /// Returns the byte-order change of as many bits as the immediate gives.
+    /// Returns the byte-order change; the immediate is the number of bits.
     fn end(self, order: ByteOrder) -> Insn
         requires { self.dst < 10 }
         ensures { result ≡ Insn.End order (swap_width self.imm) self.dst }
@@ -469,7 +471,8 @@ impl Fields {
 
     /// Returns the conditional jump.
     ///
-    /// It compares the destination register with the immediate or the source register, by `source`.
+    /// The jump compares the destination register with the immediate or the source register;
+    /// `source` says with which.
     fn jump_if(self, width: Width, relation: Relation, source: SourceOperand) -> Insn
         requires dst { self.dst < 11 }
         requires src { self.src < 11 }
@@ -498,7 +501,7 @@ impl Fields {
 
     /// Returns the least rule that the fields break, or `None` if they break none.
     ///
-    /// `next` has the fields of the following slot, or is `None` if there is no whole one.
+    /// `next` has the fields of the following slot, or is `None` if no whole slot follows.
     pub(crate) fn fault(self, next: &Option<Self>) -> Option<Rule>
         ensures { result ≡ slot_fault self next.now }
     {
@@ -543,7 +546,8 @@ impl Fields {
 
     /// Returns whether the operation allows the offset, if it uses the offset.
     ///
-    /// For an operation that doesn't use it, returns `true`: `unused_are_zero` checks its offset.
+    /// Returns `true` for an operation that doesn't use the offset: `unused_are_zero` checks that
+    /// offset.
     fn is_alu_offset(self, op: AluOp, width: Width, source: SourceOperand) -> bool
         ensures { result ≡ alu_values_allowed op width source self.offset }
     {
@@ -618,7 +622,8 @@ fn extended_bits(extension: SignExtension) -> u16
 
 /// Returns the width of a byte-order change with this immediate.
 ///
-/// It is 64 bits for any immediate other than 16 and 32; of those, the checks allow only 64.
+/// Any immediate other than 16 and 32 gives 64 bits; the checks refuse any such immediate except
+/// 64.
 fn swap_width(imm: u32) -> SwapWidth
     ensures { result ≡ swap_width imm }
 {
@@ -640,7 +645,7 @@ fn swap_bits(width: SwapWidth) -> u32
     }
 }
 
-/// Returns the source of an operand: the immediate or a register.
+/// Returns the source bit for an operand: `K` for an immediate, `X` for a register.
 fn source_of(operand: &Operand) -> SourceOperand
     ensures { result ≡ source_of operand.now }
 {
@@ -679,7 +684,7 @@ fn low_half(value: u64) -> u32
 
 /// Returns whether the slot after a wide load is its second half.
 ///
-/// There must be a slot, with zeros in all fields but the immediate.
+/// Returns `false` for `None`, or if a field other than the immediate isn't zero.
 fn is_second_half(next: &Option<Fields>) -> bool
     ensures { result ≡ is_second_half next.now }
 {

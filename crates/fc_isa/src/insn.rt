@@ -3,7 +3,7 @@ ghost use Rattle.std.specs.Prelude.{◌≡◌, ◌<◌, ℕ};
 
 use std::marker::Model;
 
-/// A register, R0 to R10. In contracts it is its number.
+/// A register, R0 to R10. In contracts a register is its number.
 #[derive(Clone, Copy, PartialEq, Eq)]
 pub struct Reg {
     number: u8,
@@ -29,7 +29,7 @@ impl Reg {
         Reg { number }
     }
 
-    /// Returns the register's number, as an index into an array of eleven.
+    /// Returns the register's number as an index into an array of eleven registers.
     #[inline(always)]
     pub fn index(self) -> usize
         ensures number { result ≡ self }
@@ -48,7 +48,7 @@ impl Reg {
     }
 }
 
-/// A writable register, R0 to R9. In contracts it is its number.
+/// A writable register, R0 to R9. In contracts a register is its number.
 #[derive(Clone, Copy, PartialEq, Eq)]
 pub struct Target {
     number: u8,
@@ -74,7 +74,7 @@ impl Target {
         Target { number }
     }
 
-    /// Returns the register's number, as an index into an array of eleven.
+    /// Returns the register's number as an index into an array of eleven registers.
     #[inline(always)]
     pub fn index(self) -> usize
         ensures number { result ≡ self }
@@ -126,7 +126,7 @@ pub enum AluOp {
     Smod,
 }
 
-/// The source width of `movsx`, and the width to which it is extended.
+/// The source width of `movsx`, and the width to which the source is extended.
 ///
 /// A word is extended to 64 bits only.
 #[derive(Clone, Copy, Debug, PartialEq, Eq)]
@@ -172,7 +172,7 @@ pub enum LoadType {
     SignedWord,
 }
 
-/// The condition of a jump on its two operands (RFC 9669, section 4.3).
+/// The relation that a conditional jump tests (RFC 9669, section 4.3).
 #[derive(Clone, Copy, Debug, PartialEq, Eq)]
 pub enum Relation {
     /// Equal.
@@ -181,7 +181,7 @@ pub enum Relation {
     Gt,
     /// Above or equal, unsigned.
     Ge,
-    /// A bit in common.
+    /// The operands have a bit in common.
     Set,
     /// Not equal.
     Ne,
@@ -241,7 +241,7 @@ pub enum Insn {
         dst: Target,
         value: u64,
     },
-    /// The second slot of the wide load before it.
+    /// The second half of the wide load in the slot before.
     WideSecond,
     /// `ldxw dst, base, offset`, `ldsxw dst, base, offset`.
     Load {

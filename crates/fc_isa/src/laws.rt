@@ -1,6 +1,6 @@
 //! Laws about programs, their bytes, and the table of forms.
 //!
-//! They are for the crates above. Each law is the contract of an empty function.
+//! The crates above use these laws. Each law is the contract of an empty function.
 ghost use Rattle.std.specs.Prelude.{All, List, None, Some, [], count_by, false, length, map, slice_index_or, true, ℕ, ◌*◌, ◌/◌, ◌<◌, ◌≡◌, ◌∷◌};
 ghost use Rattle.fc_isa.specs.Encoding.{BreaksOpcodeFirst, IsFirstFault, Spells, encoded, fault_at, first_fault, decoded_program, slot_rules};
 ghost use Rattle.fc_isa.specs.Program.{IsInsn, is_program};
@@ -15,7 +15,9 @@ use crate::rule::Rule;
 use crate::shape::Shape;
 use crate::table::SHAPES;
 
-/// Bytes without a fault encode a program, eight bytes for each instruction.
+/// Bytes without a fault encode the program that `decode` returns.
+///
+/// That program has one element for each eight bytes.
 pub fn faultless_bytes_spell(bytes: &[u8])
     ensures spells { first_fault bytes.now ≡ None → Spells bytes.now (decoded_program bytes.now) }
     ensures count { length (decoded_program bytes.now) ≡ length bytes.now / 8 }
@@ -29,7 +31,8 @@ pub fn spelled_bytes_are_faultless(bytes: &[u8])
 
 /// The fault of bytes is that of the first slot that has a fault.
 ///
-/// Its rule is the least that the slot breaks, and has a number below 20.
+/// The fault's rule is the least that this slot breaks. Each rule that a slot can break here has a
+/// number below 20.
 pub fn first_fault_is_first(bytes: &[u8])
     ensures is_first { (rule : Rule) (slot : ℕ) → first_fault bytes.now ≡ Some (slot, rule) → IsFirstFault bytes.now rule slot }
     ensures only_first { (rule : Rule) (slot : ℕ) → IsFirstFault bytes.now rule slot → first_fault bytes.now ≡ Some (slot, rule) }
@@ -37,6 +40,8 @@ pub fn first_fault_is_first(bytes: &[u8])
 {}
 
 /// Encoding and then decoding a program gives that program.
+///
+/// The encoding has eight bytes for each element of the program.
 pub fn written_programs_are_read(program: &[Insn])
     ensures spells { All IsInsn program.now → is_program program.now ≡ true → Spells (encoded program.now) program.now }
     ensures read { All IsInsn program.now → is_program program.now ≡ true → decoded_program (encoded program.now) ≡ program.now }
@@ -54,9 +59,10 @@ pub fn known_forms_are_117()
     ensures { count_by is_known SHAPES ≡ 117 }
 {}
 
-/// The form in an opcode's row has this opcode.
+/// The table's row of an opcode has the opcode's form.
 ///
-/// It uses the fields that the opcode's bits require.
+/// A known form in the row has this opcode. The form uses exactly the fields that the opcode's bits
+/// determine.
 #[tactic(none)]
 pub fn rows_fix_the_used_fields(opcode: u8)
     ensures row { slice_index_or SHAPES opcode Shape.Unknown ≡ shape_of opcode }
@@ -67,14 +73,14 @@ pub fn rows_fix_the_used_fields(opcode: u8)
     ensures imm { is_known (shape_of opcode) ≡ true → (uses (shape_of opcode)).imm ≡ opcode_uses_imm opcode }
 {}
 
-/// The rules of a slot are checked in the order of their numbers.
+/// The rules of a slot, 6 to 10, are checked in the order of their numbers.
 pub fn slot_rules_come_by_number()
     ensures { map number_of slot_rules ≡ 6 ∷ 7 ∷ 8 ∷ 9 ∷ 10 ∷ [] }
 {}
 
 /// A slot whose opcode has no known form breaks the opcode rule.
 ///
-/// This rule comes first, whatever other fields the slot has.
+/// The opcode rule is reported first, whatever the other fields of the slot are.
 pub fn unknown_opcodes_are_refused(opcode: u8)
     ensures { is_known (shape_of opcode) ≡ false → BreaksOpcodeFirst opcode }
 {}

@@ -16,8 +16,8 @@
 //! - For all 117 opcodes: a decoded program is the one that the bytes encode, and every encoded
 //!   program is decoded. A fault is that of the first faulty slot, with the least rule that it
 //!   breaks.
-//! - A program is written in its one encoding.
-//! - The table of opcodes has 117 known rows, and a row determines the used fields.
+//! - `encode` returns the only bytes that encode a program.
+//! - The table of opcodes has 117 known rows, and each of them determines the fields that are used.
 //!
 //! By the contracts of `decode`, `encode`, `is_program`, `SHAPES`, `laws`.
 #![tactic(auto)]

@@ -6,8 +6,8 @@ use crate::insn::Insn;
 
 /// Returns whether each wide load is followed by its second half.
 ///
-/// Returns `false` if a second half is elsewhere. The empty list is a program. `encode` requires
-/// this of its program, and `decode` returns only such lists.
+/// Returns `false` if a second half is anywhere else. The empty list is a program. `encode`
+/// requires `true` of its program, and each list that `decode` returns gives `true`.
 pub fn is_program(slots: &[Insn]) -> bool
     ensures { result ≡ programs.is_program slots.now }
 {
@@ -21,7 +21,7 @@ pub fn is_program(slots: &[Insn]) -> bool
     !second
 }
 
-/// Returns whether a slot is a wide load: its second half must follow.
+/// Returns whether a slot is a wide load, which its second half must follow.
 pub(crate) fn is_wide_load(insn: &Insn) -> bool
     ensures { result ≡ programs.is_wide_load insn.now }
 {

@@ -9,21 +9,23 @@ use std::fmt;
 /// Its number is 1 to 17 or 20 to 28, and a refusal prints it as `V` and two digits.
 #[derive(Clone, Copy, Debug, PartialEq, Eq)]
 pub enum Rule {
-    /// 1: under 16 bytes, another magic, or a length other than header and slots.
+    /// 1: fewer than 16 bytes, an unknown magic, or a length that isn't as stated.
+    ///
+    /// The header states the number of slots, of eight bytes each, that follow it.
     Format,
-    /// 2: the count of slots.
+    /// 2: no slots, or more than the image's version allows.
     SlotCount,
-    /// 3: the size of the variables.
+    /// 3: more than 256 bytes of variables, or a size that isn't a multiple of 8.
     VarsSize,
-    /// 4: the budget.
+    /// 4: a budget other than 1 to 65,536.
     Budget,
-    /// 5: a reserved byte of the header isn't zero.
+    /// 5: a reserved byte of the header that isn't zero.
     Reserved,
-    /// 6: an unknown opcode.
+    /// 6: an opcode that no instruction has.
     Opcode,
-    /// 7: a register nibble above 10.
+    /// 7: a register number above 10.
     Register,
-    /// 8: R10 is written.
+    /// 8: an instruction that writes R10.
     FramePointer,
     /// 9: an unused field that isn't zero, or a field with a value that isn't allowed.
     Field,
@@ -33,35 +35,35 @@ pub enum Rule {
     WideLoad,
     /// 11: a jump or call to a place outside the program or inside a wide load.
     JumpTarget,
-    /// 12: a jump to a slot that isn't later, other than that of a counted loop.
+    /// 12: a jump to a slot that isn't later, except the back jump of a counted loop.
     BackwardJump,
     /// 13: a jump out of its function, or a function that doesn't end with `exit`.
     Boundary,
     /// 14: a local call of a function that isn't later in the program.
     BackwardCall,
-    /// 15: more than four stack frames, or more than eight in the second version.
+    /// 15: more than four stack frames, or more than eight in version 2 of the format.
     FrameDepth,
-    /// 16: the greatest number of steps is above the budget.
+    /// 16: a path with more steps than the budget.
     Cost,
-    /// 17: a helper that doesn't exist.
+    /// 17: a call of a helper that doesn't exist.
     Helper,
-    /// 20: an unset register is read.
+    /// 20: a read of an unset register.
     UnsetRegister,
-    /// 21: a pointer in place of a number, or the reverse.
+    /// 21: a pointer in place of a number, or a number in place of a pointer.
     OperandKind,
     /// 22: an access outside its region.
     Access,
-    /// 23: a store to the request.
+    /// 23: a store to the request or the readings.
     RequestStore,
-    /// 24: a pointer is stored.
+    /// 24: a store of a pointer.
     PointerStore,
     /// 25: an exit without a number in R0.
     ExitValue,
-    /// 26: a pointer moves outside the allowed range.
+    /// 26: a step of a pointer out of the allowed range.
     PointerStep,
-    /// 27: a helper's argument has the wrong kind or range.
+    /// 27: an argument of a helper with the wrong kind or range.
     HelperArgument,
-    /// 28: a loop's counter may start too high, or its body may compute a pointer.
+    /// 28: a loop whose counter may start too high, or that may compute a pointer.
     ///
     /// The counter must start below the bound, and each register that an instruction of the body
     /// computes must be a number.

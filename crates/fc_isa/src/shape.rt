@@ -42,7 +42,7 @@ const MEM: u8 = 3;
 
 const MEMSX: u8 = 4;
 
-/// [`SHAPES`] in memory, once: a constant is copied at each place that indexes it.
+/// [`SHAPES`], stored once: each place that indexes a constant would copy it.
 static FORMS: [Shape; 256] = SHAPES;
 
 /// The source of the second operand (RFC 9669, section 4).
@@ -56,8 +56,8 @@ pub enum SourceOperand {
 
 /// An opcode's form.
 ///
-/// Other fields of the slot decide the rest. Signed division is a division with offset 1, and
-/// `movsx` is a move of a register with an offset other than 0. A call's source distinguishes a
+/// Other fields of the slot complete the instruction. Signed division is a division with offset 1,
+/// and `movsx` is a move of a register with an offset other than 0. A call's source distinguishes a
 /// helper from a function of the program.
 #[derive(Clone, Copy, PartialEq, Eq)]
 pub enum Shape {
@@ -97,7 +97,7 @@ pub enum Shape {
 
 /// The fields that a slot uses; the other fields are zero.
 ///
-/// They are the destination, the source, the offset and the immediate.
+/// The four fields are the destination, the source, the offset and the immediate.
 #[derive(Clone, Copy, PartialEq, Eq)]
 pub struct Uses {
     pub dst: bool,
@@ -115,7 +115,7 @@ impl Shape {
         FORMS[opcode as usize]
     }
 
-    /// Returns the opcode of a form; that of `Unknown` is 255.
+    /// Returns the opcode of a form, or 255 for `Unknown`.
     pub(crate) fn opcode(self) -> u8
         ensures { result ≡ opcode_of self }
     {
@@ -140,7 +140,7 @@ impl Shape {
         }
     }
 
-    /// Returns whether an instruction has this form: it isn't `Unknown`.
+    /// Returns whether an instruction has this form: `false` for `Unknown`.
     pub(crate) fn is_known(self) -> bool
         ensures { result ≡ is_known self }
     {
@@ -172,8 +172,8 @@ impl Shape {
 
     /// Returns the fields that the form uses; `Unknown` uses none.
     ///
-    /// The code follows the instruction table row by row: an operand that isn't a register is an
-    /// immediate.
+    /// The code follows the rows of the instruction table. If the second operand isn't a register,
+    /// it is the immediate.
     pub fn uses(self) -> Uses
         ensures { result ≡ uses self }
     {
@@ -203,7 +203,7 @@ impl Shape {
     }
 }
 
-/// Returns a row of the table in `uses`: whether each of four fields is used.
+/// Returns a row of the table in `uses`: a field is `true` if the form uses it.
 fn used(dst: bool, src: bool, offset: bool, imm: bool) -> Uses
     ensures { result ≡ used dst src offset imm }
 {
@@ -217,7 +217,7 @@ fn used(dst: bool, src: bool, offset: bool, imm: bool) -> Uses
 
 /// Returns whether an arithmetic operation uses the offset.
 ///
-/// Division and modulo do, and so does a move of a register.
+/// Division, modulo and a move of a register use it.
 fn alu_uses_offset(op: AluOp, source: SourceOperand) -> bool
     ensures { result ≡ alu_uses_offset op source }
 {

@@ -1,4 +1,4 @@
--- Each move keeps the rule.
+-- Each move keeps the rule of the channel.
 use Rattle.std.proofs.Common.{◌≡◌, ◌≢◌, ◌⊎◌, ℕ, zero, suc, ◌+◌, ◌<◌, ◌≤◌, true, false, true≢false, cond, ◌==◌, List, [], ◌∷◌, ◌++◌, length, set, drop, Some, refl, sym, ap, ◌∙◌, subst, ⊎_elim, inl, inr, length-append, arith}
 use Rattle.std.specs.Prelude.{slice_get, nat_lt}
 use Rattle.std.proofs.lemmas.Bool.Decides.{nat_tests}
@@ -18,14 +18,14 @@ get_front [] ys k i e = absurd (cc)
 get_front (x ∷ xs) ys zero i e = e
 get_front (x ∷ xs) ys (suc k) i e = get_front xs ys k i e
 
--- items of a list with one more item.
+-- an item of a list with one more item is one of the list, or the additional item.
 get_snoc : (xs : List Numbered) (y : Numbered) (k : ℕ) (i : Numbered) → slice_get (xs ++ y ∷ []) k ≡ Some i → (slice_get xs k ≡ Some i) ⊎ ((k ≡ length xs) × (y ≡ i))
 get_snoc [] y zero i e = inr (refl, cc)
 get_snoc [] y (suc k) i e = absurd (cc)
 get_snoc (x ∷ xs) y zero i e = inl e
 get_snoc (x ∷ xs) y (suc k) i e = ⊎_elim (λ t. inl t) (λ (t : (k ≡ length xs) × (y ≡ i)). inr (ap suc t.0, t.1)) (get_snoc xs y k i e)
 
--- first item of the rest after some.
+-- the first item of a list without its first n items is the item at position n.
 get_drop : (xs : List Numbered) (n : ℕ) (y : Numbered) (ys : List Numbered) → y ∷ ys ≡ drop n xs → (slice_get xs n ≡ Some y) × (ys ≡ drop (suc n) xs) × (n < length xs)
 get_drop [] zero y ys e = absurd (cc)
 get_drop [] (suc n) y ys e = absurd (cc)
@@ -58,7 +58,7 @@ in_all_snoc : (x : ℕ) (views : List Hand) (w : Hand) → w.got ≡ [] → in_a
 in_all_snoc x [] w e = let h : times x w.got ≡ 0 = ap (times x) e in omega arith
 in_all_snoc x (u ∷ us) w e = let rest = in_all_snoc x us w e in omega arith
 
--- if no list has an item, none of them has it.
+-- if no list of received jobs has a number, the list of one worker doesn't have it.
 not_yet : (x : ℕ) (views : List Hand) (by : ℕ) (v : Hand) → get_elem? views by ≡ some v → in_all x views ≡ 0 → times x v.got ≡ 0
 not_yet x [] by v at e = absurd (some-ne-none v (sym at))
 not_yet x (u ∷ us) zero v at e = let same : times x u.got ≡ times x v.got = ap (λ (y : Hand). times x y.got) (some-injective u v at) in omega arith

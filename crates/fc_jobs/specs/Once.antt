@@ -1,28 +1,29 @@
--- The jobs that were sent, and the worker that received each.
+-- The jobs that were sent, and the worker that received each of them.
 use Rattle.std.specs.Prelude.{◌≡◌, ℕ, ◌+◌, ◌≤◌, ◌==◌, nat_lt, true, false, cond, List, [], ◌∷◌, length, drop, slice_get, Some}
 use mathlib.Core.Option.{some}
 use lib.ListN.{get_elem?}
 use Rattle.fc_jobs.specs.declared.protocol.Hand.{Hand}
 use Rattle.fc_jobs.specs.declared.protocol.Numbered.{Numbered}
 
--- the sender's view, and a worker's.
+-- the view of the sender, after it sent these jobs.
 abbrev pub sends_view : List Numbered → Hand
 sends_view sent = record { sends = true; sent = sent; got = [] }
 
+-- the view of a worker that received these jobs.
 abbrev pub gets_view : List Numbered → Hand
 gets_view got = record { sends = false; sent = []; got = got }
 
--- number of occurrences of a number in the list.
+-- the number of occurrences of a number in a list of jobs.
 abbrev pub times : ℕ → List Numbered → ℕ
 times x [] = 0
 times x (i ∷ is) = cond (i.number == x) 1 0 + times x is
 
--- number of occurrences of a number in all lists of received jobs.
+-- the number of occurrences of a number in all lists of received jobs.
 abbrev pub in_all : ℕ → List Hand → ℕ
 in_all x [] = 0
 in_all x (v ∷ vs) = times x v.got + in_all x vs
 
--- the item is in the log under its number.
+-- the numbered job is in the log, at the position of its number.
 abbrev pub StandsIn : List Numbered → Numbered → Type 0
 StandsIn log i = slice_get log i.number ≡ Some i
 
@@ -30,8 +31,8 @@ abbrev pub AllStandIn : List Numbered → List Numbered → Type 0
 AllStandIn log [] = Unit {0}
 AllStandIn log (i ∷ is) = StandsIn log i × AllStandIn log is
 
--- the first jobs of the log were received, each number once over all views, and the rest is in the
--- channel in order.
+-- the first jobs of the log were received, each number once in all views. The rest of the log is in
+-- the channel, in order.
 pub record Once (items : List Numbered) (views : List Hand) : Type 0 where
   pub log : List Numbered
   pub taken : ℕ

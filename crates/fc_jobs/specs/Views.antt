@@ -1,4 +1,4 @@
--- The channel that a pass and an end belong to.
+-- The channel that a pass, or an end, belongs to.
 use Rattle.crossbeam_channel.specs.Claims.{Pass}
 use Rattle.crossbeam_channel.specs.declared.flavors.array.Rows.{Rows}
 use Rattle.crossbeam_channel.specs.declared.flavors.array.Key.{Key}

@@ -6,9 +6,10 @@ use std::sync::OnceLock;
 
 /// The end from which the workers receive their jobs.
 ///
-/// It also stores whether a worker has asked for a job, once that is known. This is `true` from the
-/// first request on. It is `false` if no worker will ever ask, for example because memory to start
-/// the workers couldn't be allocated. A clause sees which channel it is.
+/// It also stores whether a worker has asked for a job, once this is known. The stored value is
+/// `true` from the first request on. It is `false` if no worker will ever ask, for example because
+/// memory to start the workers couldn't be allocated. In contracts a `Jobs` is the identity of its
+/// channel.
 #[derive(Drop)]
 pub struct Jobs {
     pub(crate) receiver: RuledReceiver<Numbered, Hand, OnceEach>,

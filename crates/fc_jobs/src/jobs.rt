@@ -41,9 +41,9 @@ impl Jobs {
 
     /// Sends a job under the next number, from 0 on, or returns it.
     ///
-    /// It waits while the channel is full. The numbers end at 2^61, from which on each job is
-    /// returned. If a job is returned, `sent` is unchanged; the dispatcher then runs the job
-    /// itself.
+    /// Returns `None` if the job was sent. The call waits while the channel is full. The numbers
+    /// end at 2^61, from which on each job is returned. If a job is returned, `sent` is unchanged;
+    /// the dispatcher then runs the job itself.
     pub fn send<R: Wait>(&self, rt: &R, job: Job, sent: &mut Sent) -> Option<Job>
         requires { sent.old.channel ≡ self.now }
         ensures sent { MatchOption result (sent.new ≡ with_sent sent.old job)
@@ -59,8 +59,9 @@ impl Jobs {
 
     /// Receives the next job with its number, which is new to the worker.
     ///
-    /// Returns `None` if the sender is gone and no job is left; then `got` is unchanged. It waits
-    /// while the channel is empty. It records that a worker has asked: see [`Jobs::is_served`].
+    /// Returns `None` if the sender is gone and no job is left; then `got` is unchanged. The call
+    /// waits while the channel is empty. It records that a worker has asked for a job: see
+    /// [`Jobs::is_served`].
     pub fn next<R: Wait>(&self, rt: &R, got: &mut Got) -> Option<(u64, Job)>
         requires { got.old.channel ≡ self.now }
         ensures got { MatchOption result (got.new ≡ got.old) (λ r. got.new ≡ with_got got.old r.0 r.1) }
@@ -79,30 +80,32 @@ impl Jobs {
 impl Jobs {
     /// Returns whether a worker has asked for a job yet.
     ///
-    /// If no worker has, perhaps none ever will: the thread that was to start them may have been
-    /// refused memory. A caller that sends no job before a worker has asked doesn't wait for ever.
+    /// If no worker has asked, perhaps none ever will: the thread that was to start the workers may
+    /// have been refused memory. A caller that sends no job before a worker has asked doesn't wait
+    /// for ever.
     pub fn is_served(&self) -> bool {
         self.served.get() == Some(&true)
     }
 
     /// Waits until a worker has asked for a job, or it is known that none will.
     ///
-    /// Returns whether a worker has asked.
+    /// Returns whether a worker has asked for a job.
     pub fn await_worker<R: Wait>(&self, rt: &R) -> bool {
         *self.served.wait(rt)
     }
 
     /// Declares that no worker will ask for a job any more.
     ///
-    /// A caller that waits for a worker continues. If a worker has asked, this has no effect.
+    /// A caller that waits for a worker continues. If a worker has asked before, this call has no
+    /// effect.
     pub fn dismiss<R: Wait>(&self, rt: &R) {
         let _ = self.served.set(rt, false);
     }
 }
 
 impl Sent {
-    // Sends a job that has its number, or returns it if the channel can't take it. If the job is
-    // returned, the next job gets its number.
+    // Sends a numbered job, or returns the job if the channel can't take it. If the job is
+    // returned, the next job gets the same number.
     fn send<R: Wait>(&mut self, rt: &R, numbered: Numbered) -> Option<Job>
         requires { (numbered.number ≡ length self.old.sent) × (numbered.number < 2 ^ 61) }
         ensures { MatchOption result (self.new ≡ with_sent self.old numbered.job)
@@ -128,7 +131,7 @@ impl Sent {
     }
 }
 
-// Makes a place for each worker.
+// Makes a place for each worker. Returns an error if memory can't be allocated.
 fn hire(alloc: Global, sent: &mut Sent, workers: usize) -> Result<Vec<Got>, AllocError>
     ensures same { sent.new ≡ sent.old }
     ensures got { IfOk result (λ v. v.items ≡ replicate workers (nothing_got sent.old.channel)) }

@@ -3,7 +3,7 @@
 //! The channel has 256 places. The sender has the `Sent`, and each worker has a `Got`. A job gets
 //! the next number when it is sent, from 0 on. When a call returns, the `Sent` lists all jobs that
 //! were sent, and a `Got` all jobs that its worker received. The channel's rule (`specs/Once.antt`)
-//! holds under every schedule: a job that a worker receives was sent under that number, and no
+//! holds under every schedule. A job that a worker receives was sent under its number, and no
 //! number is received twice, by one worker or by two. The contracts don't say that a call returns.
 //!
 //! ```rust
@@ -28,8 +28,8 @@
 //!
 //! - A job is sent under the next number, from 0 on, or returned. A job that a worker receives is
 //!   listed with its number, which is new to that worker.
-//! - The channel's rule, which every send and receive keeps: a job that was received was sent under
-//!   that number, and no number is received twice. It is not claimed that a call returns.
+//! - Every send and receive keeps the channel's rule: a job that was received was sent under its
+//!   number, and no number is received twice. The contracts don't say that a call returns.
 //!
 //! By the contracts of `Jobs::new`, `send`, `next`.
 #![tactic(auto)]

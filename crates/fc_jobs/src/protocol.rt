@@ -10,9 +10,9 @@ pub struct Numbered {
     pub job: Job,
 }
 
-/// The view of a pass: for the sender all jobs sent, for a worker all received.
+/// The view of a pass: the jobs that the sender sent, or that a worker received.
 ///
-/// No value of it is made.
+/// Only contracts use this type; no value of it is made.
 pub struct Hand {
     pub sends: bool,
     pub sent: LinkedList<Numbered>,
@@ -63,7 +63,7 @@ impl Lesson<Numbered, Hand> for Takes {
     ghost fact = { λ _ _. ⊤ };
 }
 
-/// Another worker's pass, split from the sender's: nothing is received yet.
+/// Another worker's pass, split from the sender's; it has received nothing yet.
 pub(crate) struct Hires;
 
 impl Split<Hand> for Hires {

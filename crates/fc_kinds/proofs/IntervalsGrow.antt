@@ -1,4 +1,4 @@
--- A wider interval of operands has a wider interval of results.
+-- Wider intervals of the operands have a wider interval of results.
 use Rattle.std.proofs.Common.{◌≡◌, inl, inr, ℕ, zero, suc, ◌-◌, ◌*◌, ◌/◌, ◌%◌, ◌^◌, ◌<◌, ◌≤◌, ◌==◌, ◌&&◌, Bool, true, false, nat_lt, if◌then◌else◌, max, refl, subst, arith}
 use Rattle.std.proofs.lemmas.Bool.Decides.{nat_tests}
 use Rattle.std.proofs.lemmas.Bool.{cases_lt}
@@ -53,7 +53,7 @@ moded_grows w a b a' b' p q h i = grind (arith, nat_tests, p, q, h, i)
 masked_grows : (w : ℕ) (a b a' b' : Interval) → IsInterval w a → IsInterval w b → IntervalWithin a a' → IntervalWithin b b' → IntervalWithin (masked a b) (masked a' b')
 masked_grows w a b a' b' p q h i = grind (arith, nat_tests, p, q, h, i)
 
--- the number of bits of a number
+-- a number has at most the bits that `bits_needed` gives
 pub needed_enough : (w n : ℕ) → n < 2 ^ w → n < 2 ^ bits_needed w n
 needed_enough zero n h = h
 needed_enough (suc k) n h = go (nat_lt n (2 ^ k)) refl (needed_enough k n)

@@ -16,8 +16,7 @@ pub record Leaves (o : Option (Interval × Interval)) (x y : ℕ) : Type 0 where
   pub left : Inside x pair.0
   pub right : Inside y pair.1
 
--- a refinement of two intervals with numbers in them is within the refinement of wider ones, if
--- there is one
+-- the refinement exists, and its intervals contain p and q
 pub record Narrower (o : Option (Interval × Interval)) (p q : Interval) : Type 0 where
   pub pair : Interval × Interval
   pub is : o ≡ Some pair
@@ -46,7 +45,7 @@ equal_left a b x y t h i = left_both _ _ _ x y (grind (arith, nat_tests, t, h, i
 unequal_left : (a b : Interval) (x y : ℕ) → not (x == y) ≡ true → Inside x a → Inside y b → Leaves (unequal a b) x y
 unequal_left a b x y t h i = left_both _ _ _ x y (grind (arith, nat_tests, t, h, i)) (grind (arith, nat_tests, t, h, i)) i
 
--- the numbers for which the relation holds stay
+-- two numbers for which the relation holds are in the refined intervals
 pub refined_leaves : (r : Relation) (a b : Interval) (x y : ℕ) → holds 64 r x y ≡ true → Inside x a → Inside y b → Leaves (refined r a b) x y
 unfolding refined holds
 refined_leaves Eq a b x y t h i = equal_left a b x y t h i
@@ -99,7 +98,7 @@ unequal_narrower a b a' b' p q m n e h i = narrower_both _ _ _ _ _ _ p q e (λ t
 unrefined : (a b a' b' p q : Interval) → both true a b ≡ Some (p, q) → IntervalWithin a a' → IntervalWithin b b' → Narrower (both true a' b') p q
 unrefined a b a' b' p q e h i = narrower_both true true a b a' b' p q e (λ t. t) (λ t. h) (λ t. i)
 
--- intervals with numbers in them are refined within the refinement of wider ones
+-- the refinement of two intervals that contain numbers is within that of wider intervals
 pub refined_narrower : (r : Relation) (a b a' b' p q : Interval) → a.lo ≤ a.hi → b.lo ≤ b.hi → refined r a b ≡ Some (p, q) → IntervalWithin a a' → IntervalWithin b b' → Narrower (refined r a' b') p q
 unfolding refined
 refined_narrower Eq a b a' b' p q m n e h i = equal_narrower a b a' b' p q e h i

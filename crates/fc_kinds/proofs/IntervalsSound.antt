@@ -112,7 +112,7 @@ shifted_right_in w x y a b h i = go (b.lo == b.hi) refl
         let same : b.lo ≡ y = omega (arith, one, i) in
         rw (← same) (div_grows a.lo x (2 ^ (b.lo % w)) (2 ^ (b.lo % w)) h.0 (pow_pos (b.lo % w)) (omega arith), div_grows x a.hi (2 ^ (b.lo % w)) (2 ^ (b.lo % w)) h.1 (pow_pos (b.lo % w)) (omega arith))
 
--- in the lower half nothing is negative
+-- a number in the lower half of its width, read as signed, isn't negative
 low_signed : (w n : ℕ) → n < 2 ^ (w - 1) → signed w n ≡ pos n
 low_signed w n h = grind (arith, nat_tests, h)
 
@@ -129,7 +129,7 @@ shifted_signed_in w x y a b p h i = go ((b.lo == b.hi) && nat_lt a.hi (2 ^ (w - 
         let is : unsigned w (floor_halved (signed w x) (y % w)) ≡ x / 2 ^ (y % w) = ap (λ z. unsigned w (floor_halved z (y % w))) (low_signed w x (omega (arith, h, low))) ∙ mod-eq_of_lt (omega (arith, less, p)) in
         rw (is, ← same) (div_grows a.lo x (2 ^ (b.lo % w)) (2 ^ (b.lo % w)) h.0 (pow_pos (b.lo % w)) (omega arith), div_grows x a.hi (2 ^ (b.lo % w)) (2 ^ (b.lo % w)) h.1 (pow_pos (b.lo % w)) (omega arith))
 
--- signed division and modulo, and their results for a zero divisor
+-- a signed quotient, also by zero, is a number of the width
 sdiv_in : (w y : ℕ) (z : ℤ) → Inside (if y == 0 then 0 else unsigned w z) (all w)
 sdiv_in w y z = let r = unsigned_below w z in let p = pow_pos w in grind (arith, nat_tests, r, p)
 
@@ -153,14 +153,15 @@ span_sound w Arsh x y a b p q h i m n = shifted_signed_in w x y a b m h i
 span_sound w Sdiv x y a b p q h i m n = sdiv_in w y _
 span_sound w Smod x y a b p q h i m n = smod_in w x y _ m
 
--- the low bits are in the clipped range
+-- the low bits of a number in an interval are in the clipped interval
 pub clipped_in : (w x : ℕ) (a : Interval) → Inside x a → Inside (x % 2 ^ w) (clipped w a)
 clipped_in w x a h =
     let r : x % 2 ^ w < 2 ^ w = mod_below x (2 ^ w) (pow_pos w) in
     let small : x < 2 ^ w → x % 2 ^ w ≡ x = λ lt. mod-eq_of_lt lt in
     grind (arith, nat_tests, h, r, small)
 
--- the result of an operation on numbers in two intervals is in its interval
+-- the result of an operation on numbers in two intervals is in the interval that `alu_interval`
+-- gives
 pub alu_interval_sound : (op : AluOp) (width : Width) (x y : ℕ) (a b : Interval) → Inside x a → Inside y b → Inside (computed_at op width x y) (alu_interval op width a b)
 unfolding alu_interval computed_at
 alu_interval_sound op width x y a b h i =

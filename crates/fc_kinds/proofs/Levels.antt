@@ -30,7 +30,7 @@ use Rattle.fc_kinds.proofs.JoinLaws.{joined_at}
 
 -- ---- one abstract value
 
--- an abstract value, if there is one, has a low level
+-- an abstract value, if there is one, has a level of at most `top`
 abbrev IsLow : ℕ → Option Kind → Type 0
 IsLow top None = Unit {0}
 IsLow top (Some k) = IsShallow top k

@@ -55,7 +55,7 @@ one = 1 ∷ 0 ∷ 0 ∷ 0 ∷ 0 ∷ 0 ∷ 0 ∷ 0 ∷ []
 abbrev none : List ℕ
 none = 0 ∷ 0 ∷ 0 ∷ 0 ∷ 0 ∷ 0 ∷ 0 ∷ 0 ∷ []
 
--- counts the requests in the first word, and sets the notify flag
+-- a program that counts the requests in the first word, and sets the notify flag
 abbrev count : List Insn
 count = set 1 (pos 0) ∷ CallHelper (pos 3) ∷ Alu Add W64 0 (Imm (pos 1)) ∷ copy 2 0 ∷ set 1 (pos 0) ∷ CallHelper (pos 4) ∷ CallHelper (pos 7) ∷ set 0 (pos 0) ∷ Exit ∷ []
 
@@ -63,7 +63,7 @@ counts : means count [] none ≡ record { code = 68; reply = []; vars = one; not
 unfolding meant step act helped result_of computed_at computed
 counts = refl
 
--- byte i of the payload is the code; past the payload's end the code is 5.00
+-- a program whose code is byte i of the payload; past the payload's end the code is 5.00
 abbrev byte_of : ℤ → List Insn
 byte_of i = set 1 i ∷ CallHelper (pos 2) ∷ Exit ∷ []
 
@@ -71,7 +71,7 @@ bytes_are_read : (means (byte_of (pos 1)) (7 ∷ 128 ∷ []) none ≡ record { c
 unfolding meant step act helped result_of computed_at computed
 bytes_are_read = (refl, refl)
 
--- bytes of the variables and one more are the reply
+-- a program that replies with two bytes of the variables and one more byte
 abbrev replies : List Insn
 replies = copy 1 2 ∷ set 2 (pos 2) ∷ CallHelper (pos 5) ∷ set 1 (pos 321) ∷ CallHelper (pos 6) ∷ set 0 (pos 0) ∷ Exit ∷ []
 
@@ -79,7 +79,7 @@ bytes_are_added : means replies [] one ≡ result 7 (1 ∷ 0 ∷ 65 ∷ []) one
 unfolding meant step act helped result_of computed_at computed
 bytes_are_added = refl
 
--- a word past the end isn't written
+-- a program that tries to write a word past the end of the variables
 abbrev past : List Insn
 past = set 1 (pos 1) ∷ set 2 (pos 9) ∷ CallHelper (pos 4) ∷ Exit ∷ []
 
@@ -87,8 +87,8 @@ past_the_end : means past [] one ≡ result 4 [] one
 unfolding meant step act helped result_of computed_at computed
 past_the_end = refl
 
--- R6 and R10 are saved over a local call, and its frame is fresh: the byte that its caller stores
--- is zero in it
+-- a program with a local call: R6 and R10 are saved, and the callee's frame is fresh. The byte that
+-- the caller stored in its own frame is zero in that of the callee
 abbrev called : List Insn
 called =
     StoreImm Byte 10 (negsuc 0) (pos 5) ∷ set 6 (pos 0) ∷ CallLocal (pos 4) ∷ Load (Unsigned Byte) 1 10 (negsuc 0) ∷ CallHelper (pos 6) ∷ copy 0 6 ∷ Exit
@@ -107,8 +107,8 @@ method_not_allowed_is_no_answer = refl
 
 -- ---- loads and stores
 
--- a store of -1 in eight bytes, and signed loads of its parts, are all ones, so that the sum with
--- 129 is 128
+-- the meaning of programs that store -1 in eight bytes, load a part of it with its sign, and add
+-- 129. The part is all ones, so the sum is 128
 abbrev refused : Meaning
 refused = record { code = 128; reply = []; vars = none; notice = false; steps = 4 }
 
@@ -126,7 +126,8 @@ ends_of_loaded_numbers : (loaded_number SignedByte (127 ∷ []) ≡ 127) × (loa
     × (loaded_number (Unsigned DoubleWord) (1 ∷ 1 ∷ 1 ∷ 1 ∷ 1 ∷ 1 ∷ 1 ∷ 128 ∷ []) ≡ 9223654615654924545)
 ends_of_loaded_numbers = (refl, refl, refl, refl, refl, refl, refl, refl, refl, refl)
 
--- the reply is ten zeros of the frame, with an instruction's store at the second
+-- a program whose reply is ten zeros of the frame, with an instruction's store at the second of
+-- them
 abbrev storing : Insn → List Insn
 storing store =
     LoadWide 6 1234605616436508552 ∷ WideSecond ∷ store ∷ copy 1 10 ∷ Alu Add W64 1 (Imm (negsuc 9)) ∷ set 2 (pos 10) ∷ CallHelper (pos 5) ∷ set 0 (pos 0) ∷ Exit ∷ []
@@ -142,8 +143,8 @@ stores_write_their_bytes : (frame_after (Store Byte 10 (negsuc 8) 6) ≡ 0 ∷ 1
 unfolding meant step act helped result_of computed_at computed
 stores_write_their_bytes = (refl, refl, refl, refl, refl, refl, refl, refl, refl)
 
--- the result of a load from the second of eight bytes and a zero in the frame, stored in the
--- variables
+-- a program that loads from the second of eight bytes and a zero in the frame, and stores the
+-- result in the variables
 abbrev loading : LoadType → List Insn
 loading l = LoadWide 6 1234605616436508552 ∷ WideSecond ∷ Store DoubleWord 10 (negsuc 8) 6 ∷ Load l 7 10 (negsuc 7) ∷ Store DoubleWord 2 (pos 0) 7 ∷ set 0 (pos 0) ∷ Exit ∷ []
 
@@ -211,7 +212,7 @@ helpers_ask_for_arguments : (answer PayloadByte Unset Unset ≡ None) × (answer
 unfolding helped region_of
 helpers_ask_for_arguments = (refl, refl, refl, refl, refl, refl, refl, refl, refl, refl, refl, refl, refl, refl)
 
--- the result, and the bytes appended to those of before
+-- the value of R0, and the bytes that were appended to the reply
 abbrev added_in : ℕ → Option Config → Option (Value × List ℕ)
 added_in added None = None
 added_in added (Some c) = Some (value_at c.regs 0, drop added c.reply)
@@ -304,7 +305,7 @@ accesses_stay_in_their_regions : (goes (Load (Unsigned DoubleWord) 6 1 (pos 0)) 
 unfolding act region_of
 accesses_stay_in_their_regions = (refl, refl, refl, refl, refl, refl, refl, refl, refl, refl, refl, refl, refl, refl, refl, refl, refl, refl, refl, refl, refl, refl, refl, refl, refl, refl, refl, refl, refl, refl, refl, refl, refl, refl, refl, refl)
 
--- an exit from a called function
+-- an exit from a called function, with this value in R0
 abbrev leaving : Value → Option Config
 leaving a = act Exit (record (before Post 0 Unset Unset) { regs = a ∷ []; callers = record { place = 3; kept = [] } ∷ [] })
 
@@ -312,7 +313,7 @@ exits_answer_a_number : (is_some (leaving (Number 3)) ≡ true) × (is_some (lea
 unfolding act
 exits_answer_a_number = (refl, refl, refl)
 
--- eight frames at most
+-- a local call with this number of callers: there are at most eight frames
 abbrev calling_from : ℕ → Option Config
 calling_from callers = act (CallLocal (pos 0)) (record (before Post 0 Unset Unset) { callers = replicate callers (record { place = 3; kept = [] }) })
 
@@ -331,7 +332,7 @@ readings_are_read = (refl, refl, refl, refl, refl, refl)
 fourth_register : (value_at (start One (input_with (request_with Get 0 None [] []) [] [])).regs 4 ≡ Unset) × (value_at (start Two (input_with (request_with Get 0 None [] []) [] [])).regs 4 ≡ Pointer Readings (pos 0))
 fourth_register = (refl, refl)
 
--- two bytes of the readings are the reply
+-- a program that replies with two bytes of the readings
 abbrev reads : List Insn
 reads = copy 1 4 ∷ set 2 (pos 2) ∷ CallHelper (pos 5) ∷ set 0 (pos 0) ∷ Exit ∷ []
 

@@ -1,5 +1,5 @@
--- An instruction that is allowed in a wider state is allowed in a narrower one, and its effect and
--- its branches are narrower.
+-- An instruction that is allowed in a wider state is allowed in a narrower one. The state after it
+-- and the states on its branches are then narrower.
 use Rattle.std.proofs.Common.{◌≡◌, ℕ, ◌≤◌, ◌&&◌, Bool, true, false, nat_le, if◌then◌else◌, ℤ, pos, negsuc, ◌+ℤ◌, ◌-ℤ◌, ◌≤ℤ◌, int_le, Option, Some, None, List, refl, subst, arith}
 use Rattle.std.proofs.lemmas.Int.{ints}
 use Rattle.std.proofs.lemmas.Bool.Decides.{nat_tests}
@@ -26,7 +26,8 @@ use Rattle.fc_kinds.specs.declared.kind.Kind.TheVariants.{Unset, Num, Stack, Req
 use Rattle.fc_kinds.specs.Kinds.{KindWithin, Within}
 use Rattle.fc_kinds.specs.Transfer.{num, by_form, no_pointer, where_number, is_number, operand_kind, small, distance, near, numbers, forth, back, set, alu_kind, ordered_interval, inside, may_read, may_write}
 
--- if the wider has a result, the narrower has one too, and it is narrower
+-- if the wider operands have an abstract value as a result, the narrower have one too, which is
+-- narrower
 abbrev pub KindFollows : Option Kind → Option Kind → Type 0
 KindFollows narrow None = Unit {0}
 KindFollows None (Some wide) = ⊥
@@ -80,7 +81,8 @@ numbers_follow : (op : AluOp) (width : Width) (b b' : Kind) → IsKind b → Kin
 numbers_follow op width b b' p w s s' q v = on_number_follows b b' (λ t. Some (num (alu_interval op width s t))) (λ t. Some (num (alu_interval op width s' t))) p w
     (λ t t' r u. (alu_interval_grows op width s t s' t' q.0 r.0 v u, low width (alu_interval op width s t) (alu_interval_proper op width s t q.0 r.0)))
 
--- the distances by which pointers are moved
+-- if the wider operand has distances by which a pointer is moved, the narrower has them too, and
+-- they are within those
 abbrev FarFollows : Option (ℤ × ℤ) → Option (ℤ × ℤ) → Type 0
 FarFollows narrow None = Unit {0}
 FarFollows None (Some wide) = ⊥
@@ -160,7 +162,7 @@ alu_follows Arsh width o a b a' b' p q v w = plain_follows Arsh width a b a' b' 
 alu_follows Sdiv width o a b a' b' p q v w = plain_follows Sdiv width a b a' b' p q v w
 alu_follows Smod width o a b a' b' p q v w = plain_follows Smod width a b a' b' p q v w
 
--- ---- tests: if the wider passes, the narrower does
+-- ---- tests: if the wider abstract value passes, the narrower one does
 
 ends_follow : (least most lo hi lo' hi' : ℤ) → lo' ≤ℤ lo → hi ≤ℤ hi' → (int_le least lo' && int_le hi' most) ≡ true → (int_le least lo && int_le hi most) ≡ true
 ends_follow least most lo hi lo' hi' p q e = grind (arith, ints, e, p, q)
@@ -181,7 +183,7 @@ inside_fewer : (region n m : ℕ) (lo hi lo' hi' : ℤ) → lo' ≤ℤ lo → hi
 inside_fewer region n m lo hi lo' hi' p q r e =
     ends_follow (pos 0) (pos region) (lo +ℤ pos 0) (hi +ℤ pos 0 +ℤ pos n) (lo' +ℤ pos 0) (hi' +ℤ pos 0 +ℤ pos m) (omega (arith, ints, p)) (omega (arith, ints, q, r)) e
 
--- and so are fewer bytes from a pointer on
+-- if m bytes from a wider pointer on may be read, so may fewer bytes from a narrower one
 pub fewer_follow : (vars n m : ℕ) (k k' : Kind) → KindWithin k k' → n ≤ m → may_read vars m (pos 0) k' ≡ true → may_read vars n (pos 0) k ≡ true
 fewer_follow vars n m k Unset w r e = absurd (cc e)
 fewer_follow vars n m k (Num lo' hi') w r e = absurd (cc e)

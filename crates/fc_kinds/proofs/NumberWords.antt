@@ -19,7 +19,7 @@ needed_below (suc w) n = go (nat_lt n (2 ^ w)) (needed_below w n)
     go true h = omega (arith, h)
     go false h = omega arith
 
--- no smaller power of two is above the number
+-- the power of two that `bits_needed` gives isn't greater than twice the number plus one
 needed_tight : (w n : ℕ) → 2 ^ bits_needed w n ≤ 2 * n + 1
 needed_tight zero n = omega arith
 needed_tight (suc w) n = go (nat_lt n (2 ^ w)) refl (needed_tight w n)
@@ -34,7 +34,7 @@ leading_needed w n le h =
     let same = leading_unique 64 n (64 - bits_needed w n) (bits_needed w n) (omega (arith, b, le)) (needed_enough w n h) (needed_tight w n) in
     omega (arith, same, b, le)
 
--- the low m bits of 64 ones
+-- 64 ones, shifted to the right until m bits are left, are m ones
 pub ones_shifted : (r m : ℕ) → r + m ≡ 64 → (2 ^ 64 - 1) / 2 ^ r ≡ 2 ^ m - 1
 ones_shifted r m e =
     let p = pow_pos r in
@@ -47,7 +47,7 @@ ones_shifted r m e =
     split zero b h i = absurd (omega (arith, h))
     split (suc a) b h i = let e : suc a * b ≡ a * b + b = suc-mul a b in let f : suc a - 1 ≡ a = omega arith in rw (e, f) (omega (arith, i))
 
--- a shift to the left that stays below a power of two
+-- a number of at most (m - 1) / 2 ^ k, shifted to the left by k bits, stays below m
 pub fits_shifted : (a k m : ℕ) → 0 < m → a ≤ (m - 1) / 2 ^ k → a * 2 ^ k < m
 fits_shifted a k m p h =
     let up : a * 2 ^ k ≤ (m - 1) / 2 ^ k * 2 ^ k = mul-le-mul_right (2 ^ k) h in
@@ -57,7 +57,8 @@ fits_shifted a k m p h =
 pub shifted_fits : (a k m : ℕ) → a * 2 ^ k < m → a ≤ (m - 1) / 2 ^ k
 shifted_fits a k m h = le-div a (m - 1) (2 ^ k) (pow_pos k) (omega (arith, h))
 
--- an interval that is shifted out of the width
+-- if the greatest number of an interval is shifted out of the width, the result is all numbers of
+-- the width
 pub shifted_out : (w by : ℕ) (a b : Interval) → by ≡ b.lo % w → (2 ^ w - 1) / 2 ^ by < a.hi → shifted_left w a b ≡ all w
 shifted_out w by a b e h =
     let no : a.hi * 2 ^ by < 2 ^ w → ⊥ = λ lt. let f = shifted_fits a.hi by (2 ^ w) lt in omega (arith, f, h) in
@@ -66,7 +67,7 @@ shifted_out w by a b e h =
 pub shifted_several : (w : ℕ) (a b : Interval) → (b.lo ≡ b.hi → ⊥) → shifted_left w a b ≡ all w
 shifted_several w a b h = grind (arith, nat_tests, h)
 
--- all ones, shifted by the leading zeros of a number
+-- 64 ones, shifted by the leading zeros of n, are as many ones as n needs bits
 pub ones_needed : (w n : ℕ) (o : Option ℕ) → w ≤ 64 → n < 2 ^ w → SomeIff o (count_leading_zeros 64 n < 64) ((2 ^ 64 - 1) / 2 ^ count_leading_zeros 64 n) → unwrap_or o 0 ≡ 2 ^ bits_needed w n - 1
 ones_needed w n (Some x) le h s = let e = leading_needed w n le h in s.1 ∙ ones_shifted (count_leading_zeros 64 n) (bits_needed w n) e
 ones_needed w n None le h s =

@@ -1,4 +1,5 @@
--- The abstract value after an operation contains its result, which exists.
+-- An operation whose preconditions hold has a result, and the abstract value after it contains the
+-- result.
 use Rattle.std.proofs.Common.{◌≡◌, ℕ, ◌≤◌, ◌&&◌, Bool, true, false, nat_le, if◌then◌else◌, ℤ, pos, negsuc, ◌+ℤ◌, ◌-ℤ◌, ◌≤ℤ◌, int_le, Option, Some, None, refl, sym, subst, arith}
 use Rattle.std.specs.Prelude.{FitsSigned}
 use Rattle.std.specs.Int.{w32, w64, cast_signed, cast_unsigned}
@@ -21,7 +22,7 @@ use Rattle.fc_kinds.specs.Values.{Region, Frame, Asked, Variables, Readings, Val
 use Rattle.fc_kinds.specs.Transfer.{immediate, num, by_form, no_pointer, where_number, small, distance, near, numbers, forth, back, moved, alu_kind}
 use Rattle.fc_kinds.specs.Operations.{by_value, no_step, computed_with, moved_forth, moved_back, copied, result_of}
 
--- if there is an abstract value there is a value, and it is contained
+-- if there is an abstract value, there is a value, and the abstract value contains it
 abbrev pub Gives : ℕ → Option Kind → Option Value → Type 0
 Gives depth None v = Unit {0}
 Gives depth (Some k) None = ⊥
@@ -55,12 +56,13 @@ numbers_give depth op width b y c s x h = by_form_gives depth b y (λ t. Some (n
 plain_gives : (depth : ℕ) (op : AluOp) (width : Width) (a b : Kind) (x y : Value) → Contains depth a x → Contains depth b y → Gives depth (where_number a (numbers op width b)) (by_value x (computed_with op width y) no_step)
 plain_gives depth op width a b x y c d = by_form_gives depth a x (numbers op width b) no_pointer (computed_with op width y) no_step c (numbers_give depth op width b y d) (no_pointers_give depth)
 
--- the operand's abstract value and value: an immediate is a single value
+-- the value y is that of the operand, if the operand is an immediate
 abbrev pub IsOwn : Width → Operand → Value → Type 0
 IsOwn width (Imm k) y = FitsSigned w32 k × (y ≡ Number (immediate width k))
 IsOwn width (Reg r) y = Unit {0}
 
--- the distance by which the operand moves a pointer
+-- if there are distances by which an operand moves a pointer, the operand's value is a number
+-- between them
 abbrev FarGives : Option (ℤ × ℤ) → Value → Type 0
 FarGives None y = Unit {0}
 FarGives (Some d) (Number n) = (d.0 ≤ℤ cast_signed w64 n) × (cast_signed w64 n ≤ℤ d.1)

@@ -21,7 +21,7 @@ use Rattle.fc_kinds.proofs.KindLaws.{within_put}
 use Rattle.fc_kinds.proofs.Monotone.{operand_within}
 use Rattle.fc_kinds.proofs.TransferLaws.{kinds_put, operand_is}
 
--- a branch of the narrower state is one of the wider
+-- a branch that is possible in the narrower state is possible in the wider one, with a wider state
 abbrev pub WayFollows : Option (List Kind) → Option (List Kind) → Type 0
 WayFollows None wide = Unit {0}
 WayFollows (Some narrow) None = ⊥

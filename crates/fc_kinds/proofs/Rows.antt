@@ -26,8 +26,8 @@ use Rattle.fc_kinds.specs.Lattice.{join_kind}
 use Rattle.fc_kinds.specs.Transfer.{alu_kind, enter, transfer}
 use Rattle.fc_kinds.specs.Refinement.{when}
 
--- the abstract value of R0 after an instruction, with these ones in R0 and R1 before it, in a
--- program with 8 bytes of variables
+-- the abstract value of R0 after an instruction, from those of R0 and R1 before it, in a program
+-- with 8 bytes of variables
 abbrev first_of : Option (List Kind) → Option Kind
 first_of None = None
 first_of (Some kinds) = Some (kind_at kinds 0)
@@ -69,7 +69,8 @@ rows_shift : (both Lsh W64 (Num 1 3) (Num 66 66) ≡ Some (Num 4 12)) × (both L
 unfolding transfer alu_kind alu_interval interval_of
 rows_shift = (refl, refl, refl, refl, refl, refl)
 
--- a count of 2 ^ 32 + 1 isn't a single count of a 32-bit shift; an immediate has 32 bits for it
+-- a count of 2 ^ 32 + 1 isn't a known count for a 32-bit shift; a 32-bit move of an immediate gives
+-- 32 bits
 rows_narrow : (both Rsh W32 (Num 8 64) (Num 4294967297 4294967297) ≡ Some (Num 0 64)) × (leaves (Alu Mov W32 0 (Imm (negsuc 0))) Unset Unset ≡ Some (Num 4294967295 4294967295)) × (leaves (Alu Mov W64 0 (Imm (negsuc 0))) Unset Unset ≡ Some (Num 18446744073709551615 18446744073709551615))
     × (both Mov W32 Unset (Num 1 4294967296) ≡ Some all32)
 unfolding transfer alu_kind alu_interval interval_of
@@ -144,7 +145,7 @@ rows_helpers : (helps (pos 1) Unset Unset ≡ Some (Num 0 1024)) × (helps (pos 
 unfolding transfer
 rows_helpers = (refl, refl, refl, refl, refl, refl, refl, refl, refl, refl, refl, refl)
 
--- the readings: 64 bytes that can be read and not written
+-- the readings are 64 bytes, which a program can read but not write
 rows_readings : (leaves (Load (Unsigned DoubleWord) 0 1 (pos 56)) Unset (Dev (pos 0) (pos 0)) ≡ Some all64) × (leaves (Load (Unsigned DoubleWord) 0 1 (pos 57)) Unset (Dev (pos 0) (pos 0)) ≡ None)
     × (is_met (leaves (StoreImm Byte 1 (pos 0) (pos 1)) Unset (Dev (pos 0) (pos 0))) ≡ 0) × (is_met (leaves (Store Byte 1 (pos 0) 0) (Num 1 1) (Dev (pos 0) (pos 0))) ≡ 0)
     × (helps (pos 5) (Dev (pos 0) (pos 0)) (Num 0 64) ≡ Some (Num 0 1)) × (helps (pos 5) (Dev (pos 1) (pos 1)) (Num 0 64) ≡ None)
@@ -152,7 +153,7 @@ rows_readings : (leaves (Load (Unsigned DoubleWord) 0 1 (pos 56)) Unset (Dev (po
 unfolding transfer alu_kind
 rows_readings = (refl, refl, refl, refl, refl, refl, refl, refl, refl)
 
--- no bytes may begin at a region's end
+-- an access of zero bytes may begin at a region's end
 rows_reply_put : (helps (pos 5) (Vars (pos 8) (pos 8)) (Num 0 0) ≡ Some (Num 0 1)) × (helps (pos 5) (Vars (pos 8) (pos 8)) (Num 0 1) ≡ None) × (helps (pos 5) (Req (pos 80) (pos 80)) (Num 0 1024) ≡ Some (Num 0 1))
     × (helps (pos 5) (Req (pos 80) (pos 81)) (Num 0 1024) ≡ None) × (helps (pos 5) (Stack 1 (pos 0) (pos 0)) (Num 0 256) ≡ Some (Num 0 1)) × (helps (pos 5) (Stack 0 (negsuc 0) (pos 0)) (Num 0 1) ≡ None)
     × (helps (pos 5) (Num 0 0) (Num 0 0) ≡ None) × (helps (pos 5) (Req (pos 0) (pos 0)) (Req (pos 0) (pos 0)) ≡ None) × (helps (pos 5) (Req (pos 0) (pos 0)) Unset ≡ None)
@@ -162,7 +163,7 @@ rows_reply_put = (refl, refl, refl, refl, refl, refl, refl, refl, refl)
 abbrev regs : List Kind
 regs = Num 0 0 ∷ Num 1 1 ∷ Stack 0 (pos 1) (pos 2) ∷ Req (pos 3) (pos 3) ∷ Num 4 4 ∷ Stack 2 (pos 5) (pos 5) ∷ Num 6 6 ∷ Stack 1 (pos 7) (pos 7) ∷ Num 8 8 ∷ Num 9 9 ∷ Stack 0 (pos 256) (pos 256) ∷ []
 
--- R0 is the result, R1 to R5 are unset, R6 to R10 are saved
+-- after a call, R0 is the result, R1 to R5 are unset, and R6 to R10 are saved
 calls_answer : (transfer 8 (CallHelper (pos 7)) regs ≡ Some (Num 0 0 ∷ Unset ∷ Unset ∷ Unset ∷ Unset ∷ Unset ∷ Num 6 6 ∷ Stack 1 (pos 7) (pos 7) ∷ Num 8 8 ∷ Num 9 9 ∷ Stack 0 (pos 256) (pos 256) ∷ []))
     × (transfer 8 (CallLocal (pos 0)) regs ≡ Some (all64 ∷ Unset ∷ Unset ∷ Unset ∷ Unset ∷ Unset ∷ Num 6 6 ∷ Stack 1 (pos 7) (pos 7) ∷ Num 8 8 ∷ Num 9 9 ∷ Stack 0 (pos 256) (pos 256) ∷ []))
 unfolding transfer
@@ -176,7 +177,7 @@ call_hands_on = refl
 abbrev pub operations : List AluOp
 operations = Add ∷ Sub ∷ Mul ∷ Div ∷ Or ∷ And ∷ Lsh ∷ Rsh ∷ Mod ∷ Xor ∷ Mov ∷ Arsh ∷ Sdiv ∷ Smod ∷ []
 
--- the result of each operation on 6 to 12 and these numbers
+-- the abstract value after each operation on a number from 6 to 12 and on b
 abbrev of_each : Width → Kind → List (Option Kind)
 of_each width b = map (λ op. both op width (Num 6 12) b) operations
 
@@ -232,7 +233,7 @@ ends_of_shifts : (both Lsh W64 (Num 1 1) (Num 63 63) ≡ Some (Num 9223372036854
 unfolding transfer alu_kind alu_interval interval_of
 ends_of_shifts = (refl, refl, refl, refl, refl, refl, refl, refl, refl, refl, refl, refl, refl, refl, refl, refl, refl, refl)
 
--- a number that may have more than 32 bits is any number if its low half is read
+-- if a number may have more than 32 bits, its low half may be any number of 32 bits
 low_halves : (both Mov W32 Unset (Num 1 4294967295) ≡ Some (Num 1 4294967295)) × (both Mov W32 Unset (Num 4294967296 4294967296) ≡ Some all32) × (both Mov W64 Unset (Num 1 18446744073709551615) ≡ Some (Num 1 18446744073709551615))
     × (both Rsh W32 (Num 16 4294967295) (Num 4 4) ≡ Some (Num 1 268435455)) × (both Rsh W32 (Num 4294967296 4294967296) (Num 4 4) ≡ Some (Num 0 268435455)) × (both Div W32 (Num 16 16) (Num 1 4294967296) ≡ Some (Num 0 16))
     × (both Div W64 (Num 16 16) (Num 1 4294967296) ≡ Some (Num 0 16)) × (both And W32 (Num 1 4294967296) (Num 7 4294967295) ≡ Some all32) × (both Sub W32 (Num 4294967305 4294967305) (Num 1 2) ≡ Some all32)
@@ -338,7 +339,8 @@ is_open (Some kinds) = 1
 abbrev every_relation : List Relation
 every_relation = Eq ∷ Gt ∷ Ge ∷ Set ∷ Ne ∷ Sgt ∷ Sge ∷ Lt ∷ Le ∷ Slt ∷ Sle ∷ []
 
--- how many relations can compare these two, with a register and with an immediate
+-- the number of relations that can compare these two abstract values, in a register and as an
+-- immediate
 abbrev asked : Width → Kind → Kind → ℕ × ℕ
 asked width a b =
     (sum (map (λ relation. is_open (transfer 8 (asks relation width (Reg 1)) (a ∷ b ∷ []))) every_relation), sum (map (λ relation. is_open (transfer 8 (asks relation width (Imm (pos 1))) (a ∷ b ∷ []))) every_relation))
@@ -383,7 +385,7 @@ ends_of_ways_equal : (taken Eq W64 (Num 0 4) (Num 4 20) ≡ two (Num 4 4) (Num 4
 unfolding when refined
 ends_of_ways_equal = (refl, refl, refl, refl, refl, refl, refl, refl, refl, refl, refl, refl, refl, refl, refl, refl, refl, refl, refl, refl, refl, refl, refl, refl, refl, refl)
 
--- R0 compared with a sign-extended immediate
+-- the state on a branch of a comparison of R0 with a sign-extended immediate
 abbrev beside : Bool → Relation → ℤ → Kind → Option (List Kind)
 beside is_taken relation k a = when (record { width = W64; relation = relation; left = 0; right = Imm k; offset = pos 0 }) is_taken (a ∷ Num 7 7 ∷ [])
 

@@ -25,7 +25,8 @@ use Rattle.fc_kinds.specs.Refinement.{put_right, put_both, relation_of, refines_
 use Rattle.fc_kinds.specs.Operations.{operand_value}
 use Rattle.fc_kinds.proofs.KindLaws.{set_past}
 
--- the opposite of one of the six relations holds if the relation doesn't
+-- if a relation doesn't hold for two numbers, the intervals refined by the opposite relation
+-- contain the numbers
 opposite_leaves : (r : Relation) (a b : Interval) (x y : ℕ) → holds 64 r x y ≡ false → Inside x a → Inside y b → Leaves (refined (opposite r) a b) x y
 unfolding holds refined
 opposite_leaves Eq a b x y t h i = refined_leaves Ne a b x y (rw t refl) h i
@@ -44,7 +45,7 @@ way_leaves : (j : Jump) (taken : Bool) (a b : Interval) (x y : ℕ) → holds 64
 way_leaves j true a b x y t h i = refined_leaves j.relation a b x y t h i
 way_leaves j false a b x y t h i = opposite_leaves j.relation a b x y t h i
 
--- a register's abstract value can be narrowed
+-- a register's abstract value can be narrowed to one that still contains the register's value
 holds_known : (depth : ℕ) (ks : List Kind) (vs : List Value) (r : ℕ) (k : Kind) → Contains depth k (value_at vs r) → Holds depth ks vs → Holds depth (slice_set ks r k) vs
 holds_known depth ks vs r k c h = record {
   each = λ j. elim (cases_lt r (length ks)) [
@@ -56,7 +57,7 @@ holds_known depth ks vs r k c h = record {
   ];
 }
 
--- the state on a branch, which contains the values
+-- the branch has a state, and this state contains the values
 pub record Keeps (depth : ℕ) (o : Option (List Kind)) (vs : List Value) : Type 0 where
   pub kinds : List Kind
   pub is : o ≡ Some kinds
@@ -101,7 +102,7 @@ refines_width W64 same e = refl
 refines_width W32 true e = absurd (cc e)
 refines_width W32 false e = absurd (cc e)
 
--- the branch that two numbers take has a state, which contains all values
+-- the branch that two numbers take has a state, and this state contains all registers' values
 pub when_keeps : (depth : ℕ) (j : Jump) (taken : Bool) (ks : List Kind) (vs : List Value) (x y : ℕ) → x < 2 ^ 64 → y < 2 ^ 64 → value_at vs j.left ≡ Number x → operand_value j.width j.right vs ≡ Number y → compared j.relation j.width x y ≡ taken → Holds depth ks vs → Keeps depth (when j taken ks) vs
 unfolding when
 when_keeps depth j taken ks vs x y p q e f t h = go (refines j) refl

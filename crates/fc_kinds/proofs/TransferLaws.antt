@@ -1,5 +1,5 @@
--- If the preconditions hold in the wider state, they hold in the narrower, and its effect is
--- narrower.
+-- If an instruction's preconditions hold in a wider state, they hold in a narrower one, and the
+-- state after the instruction is narrower.
 use Rattle.std.proofs.Common.{◌≡◌, ℕ, zero, suc, ◌+◌, ◌^◌, ◌<◌, ◌&&◌, Bool, true, false, Option, Some, None, List, [], ◌∷◌, length, refl, sym, ap, subst, arith, length-set, inl, inr, get_or-set_same, get_or-set_other}
 use Rattle.std.specs.Prelude.{slice_set}
 use Rattle.std.proofs.lemmas.Bool.{cases_eq, and_parts, and_from}
@@ -37,7 +37,7 @@ kinds_put ks r k lt i h = record {
   ];
 }
 
--- if the preconditions hold in the wider, they hold in the narrower, and the result is narrower
+-- the narrower state after an instruction exists, and is within the wider one
 pub record Meets (narrow wide : Option (List Kind)) (after' : List Kind) : Type 0 where
   pub after : List Kind
   pub is : narrow ≡ Some after

@@ -1,4 +1,4 @@
--- Both operands of a conditional jump are numbers.
+-- If a conditional jump's preconditions hold, both its operands are numbers.
 use Rattle.std.proofs.Common.{◌≡◌, ℕ, Bool, true, false, Some, List, refl, subst}
 use Rattle.std.proofs.lemmas.Bool.{and_parts}
 use Rattle.fc_isa.specs.declared.insn.Insn.{Insn}
@@ -19,7 +19,7 @@ pub met_is : (t : Bool) (ks after : List Kind) → where_met t ks ≡ Some after
 met_is true ks after e = (refl, cc e)
 met_is false ks after e = absurd (cc e)
 
--- an immediate is a number at each width
+-- an operand that is a number at one width is a number at 64 bits
 number_at : (w : Width) (o : Operand) (ks : List Kind) → is_number (operand_kind w o ks) ≡ true → is_number (operand_kind W64 o ks) ≡ true
 number_at w (Imm k) ks e = refl
 number_at w (Reg r) ks e = e

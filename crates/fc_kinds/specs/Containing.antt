@@ -18,7 +18,7 @@ IntervalWithin a b = (b.lo ≤ a.lo) × (a.hi ≤ b.hi)
 abbrev pub IsInterval : ℕ → Interval → Type 0
 IsInterval w s = (s.lo ≤ s.hi) × (s.hi < 2 ^ w)
 
--- an abstract value contains a value, if the current stack frame has the index `depth`.
+-- an abstract value contains a value, where the current stack frame has the index `depth`.
 abbrev pub Contains : ℕ → Kind → Value → Type 0
 Contains depth Unset v = Unit {0}
 Contains depth (Num lo hi) (Number n) = (lo ≤ n) × (n ≤ hi)
@@ -28,11 +28,11 @@ Contains depth (Vars lo hi) (Pointer Variables o) = (lo ≤ℤ o) × (o ≤ℤ h
 Contains depth (Dev lo hi) (Pointer Readings o) = (lo ≤ℤ o) × (o ≤ℤ hi)
 Contains depth _ _ = ⊥
 
--- the registers' abstract values contain their values.
+-- each register's abstract value contains the register's value.
 pub record Holds (depth : ℕ) (kinds : List Kind) (values : List Value) : Type 0 where
   pub each : (r : ℕ) → Contains depth (kind_at kinds r) (value_at values r)
 
--- a pointer's ends are within 65,536 on both sides.
+-- a pointer's least and greatest offsets are from -65,536 to 65,536.
 abbrev pub IsNear : ℤ → ℤ → Type 0
 IsNear lo hi = (lo ≤ℤ hi) × (negsuc 65535 ≤ℤ lo) × (hi ≤ℤ pos 65536)
 
@@ -55,8 +55,8 @@ abbrev pub IsShallow : ℕ → Kind → Type 0
 IsShallow top (Stack level lo hi) = level ≤ top
 IsShallow top kind = Unit {0}
 
--- each register's stack frame, if it points into one, is at most `top` levels above the current
--- one.
+-- each register that points into a stack frame points into one that is at most `top` levels above
+-- the current one.
 pub record AreShallow (top : ℕ) (kinds : List Kind) : Type 0 where
   pub each : (r : ℕ) → IsShallow top (kind_at kinds r)
 

@@ -17,7 +17,7 @@ interval lo hi = record { lo = lo; hi = hi }
 abbrev pub all : ℕ → Interval
 all w = interval 0 (2 ^ w - 1)
 
--- the interval of the low w bits.
+-- an interval of the low w bits of the numbers in an interval.
 abbrev pub clipped : ℕ → Interval → Interval
 clipped w s = if nat_lt s.hi (2 ^ w) then s else all w
 
@@ -79,11 +79,11 @@ interval_of w Arsh a b = shifted_signed w a b
 interval_of w Sdiv a b = all w
 interval_of w Smod a b = all w
 
--- the same for two registers, or for their low halves.
+-- the interval of the results of an operation on two registers, or on their low halves.
 unfoldable pub alu_interval : AluOp → Width → Interval → Interval → Interval
 alu_interval op width a b = interval_of (bits_of width) op (clipped (bits_of width) a) (clipped (bits_of width) b)
 
--- the low v bits, sign-extended to w bits.
+-- an interval of the low v bits, sign-extended to w bits.
 abbrev pub extended_interval : ℕ → ℕ → Interval → Interval
 extended_interval v w b = if nat_lt b.hi (2 ^ (v - 1)) then b else all w
 
@@ -94,12 +94,12 @@ extended_values Word b = extended_interval 32 64 b
 
 -- ---- refinement: the intervals of two numbers in a relation; `None` if no two numbers are in it
 
--- two intervals, if each contains a number.
+-- both intervals if the test is true, else `None`.
 abbrev pub both : Bool → Interval → Interval → Option (Interval × Interval)
 both true a b = Some (a, b)
 both false a b = None
 
--- the refinement if the first number is above the second.
+-- the refinement of two intervals if the first number is above the second.
 abbrev pub above : Interval → Interval → Option (Interval × Interval)
 above a b = both (nat_lt b.lo a.hi) (interval (max a.lo (b.lo + 1)) a.hi) (interval b.lo (min b.hi (a.hi - 1)))
 

@@ -14,7 +14,7 @@ join_kind (Vars lo hi) (Vars lo' hi') = Vars (int_min lo lo') (int_max hi hi')
 join_kind (Dev lo hi) (Dev lo' hi') = Dev (int_min lo lo') (int_max hi hi')
 join_kind a b = Unset
 
--- register by register.
+-- the join of two states, register by register.
 abbrev pub joined : List Kind → List Kind → List Kind
 joined (k ∷ kinds) (l ∷ others) = join_kind k l ∷ joined kinds others
 joined kinds others = []

@@ -18,12 +18,13 @@ use Rattle.fc_kinds.specs.Ways.{ways_after}
 use Rattle.fc_kinds.specs.Execution.{Caller, Config, act, depth}
 use Rattle.fc_kinds.specs.Soundness.{IsConfig, StaysInFunction, StepsAlong, Waits, IsEntered, IsLeft, StepsTo}
 
--- the narrower state exists, and is within the other.
+-- the narrower state exists, and is within the wider one.
 abbrev pub IsNarrowerState : Option (List Kind) → List Kind → Type 0
 IsNarrowerState None wider = ⊥
 IsNarrowerState (Some kinds) wider = Within kinds wider × AreKinds kinds
 
--- if the narrower branch is possible, so is the wider one, whose state contains the narrower one's.
+-- if the narrower state's branch is possible, so is the wider state's branch, whose state contains
+-- the other's.
 abbrev pub IsNarrowerWay : Option (List Kind) → Option (List Kind) → Type 0
 IsNarrowerWay None wider = Unit {0}
 IsNarrowerWay (Some kinds) None = ⊥
@@ -48,14 +49,14 @@ ComparesNumbers j kinds = (is_number (kind_at kinds j.left) ≡ true) × (is_num
 -- ---- the laws
 
 -- if an instruction's preconditions hold in a wider state, they hold in a narrower one, and the
--- state after it is narrower.
+-- state after the instruction is narrower.
 abbrev pub EffectsAreMonotone : Type 0
 EffectsAreMonotone =
     (vars : ℕ) (insn : Insn) (ks wider after : List Kind) → IsInsn insn → AreKinds ks → Within ks wider
     → transfer vars insn wider ≡ Some after → IsNarrowerState (transfer vars insn ks) after
 
--- a branch that is possible in a narrower state is possible in a wider one, and the state on it is
--- wider too.
+-- a branch that is possible in a narrower state is possible in a wider one, and has a wider state
+-- there.
 abbrev pub RefinementIsMonotone : Type 0
 RefinementIsMonotone =
     (j : Jump) (taken : Bool) (ks wider : List Kind) → IsInsn (JumpIf j) → AreKinds ks → Within ks wider
@@ -88,8 +89,8 @@ ExitsContainTheStep =
     → IsConfig vars c → Holds (depth c) ks c.regs → transfer vars Exit ks ≡ Some after → Waits (length callers) handed w.kept
     → StepsTo (IsLeft vars w callers handed c) (act Exit c)
 
--- if the state contains the values, the branch that a conditional jump takes is possible, and its
--- state contains the values.
+-- if the state contains the values, the branch that a conditional jump takes is possible, and the
+-- branch's state contains the values.
 abbrev pub RefinementKeepsWhatTakesTheWay : Type 0
 RefinementKeepsWhatTakesTheWay =
     (j : Jump) (depth : ℕ) (ks : List Kind) (values : List Value) (x y : ℕ) → TakesNumbers j values x y

@@ -14,26 +14,27 @@ use Rattle.fc_kinds.specs.Values.{with_some}
 use Rattle.fc_kinds.specs.Kinds.{kind_at}
 use Rattle.fc_kinds.specs.Transfer.{num, operand_kind}
 
--- sets the interval of an operand that is a register.
+-- the state with this interval for an operand that is a register.
 abbrev pub put_right : Operand → List Kind → Interval → List Kind
 put_right (Imm k) kinds s = kinds
 put_right (Reg r) kinds s = slice_set kinds r (num s)
 
--- sets the intervals of both operands; an immediate isn't in a register.
+-- the state with these intervals for both operands; an immediate isn't in a register.
 abbrev pub put_both : Jump → List Kind → Interval × Interval → List Kind
 put_both j kinds pair = put_right j.right (slice_set kinds j.left (num pair.0)) pair.1
 
--- a register is compared with itself.
+-- the operand is the register r: a register is compared with itself.
 abbrev pub is_same : Operand → ℕ → Bool
 is_same (Imm k) r = false
 is_same (Reg q) r = q == r
 
--- the branch not taken has the opposite relation.
+-- the relation of a branch: the branch not taken has the opposite relation.
 abbrev pub relation_of : Bool → Jump → Relation
 relation_of true j = j.relation
 relation_of false j = opposite j.relation
 
--- relations of all 64 bits refine two different registers, or a register and an immediate.
+-- a jump refines if it compares all 64 bits of two different registers, or of a register and an
+-- immediate.
 abbrev pub refines_at : Width → Bool → Bool
 refines_at W64 false = true
 refines_at width same = false

@@ -32,7 +32,8 @@ use Rattle.fc_kinds.specs.Kinds.{kind_at}
 abbrev pub num : Interval → Kind
 num s = Num s.lo s.hi
 
--- by the form of an abstract value: a number's interval, a pointer's form and ends, or `None`.
+-- a choice by the form of an abstract value: from a number's interval, from a pointer's form and
+-- ends, or `None`.
 abbrev pub by_form : {A : Type 0} → Kind → (Interval → Option A) → ((ℤ → ℤ → Kind) → ℤ → ℤ → Option A) → Option A
 by_form Unset number pointer = None
 by_form (Num lo hi) number pointer = number (interval lo hi)
@@ -56,20 +57,22 @@ abbrev pub immediate : Width → ℤ → ℕ
 immediate W32 k = cast_unsigned w32 k
 immediate W64 k = cast_unsigned w64 k
 
--- an immediate is a single value.
+-- the abstract value of an operand; that of an immediate is a single number.
 abbrev pub operand_kind : Width → Operand → List Kind → Kind
 operand_kind width (Imm k) kinds = Num (immediate width k) (immediate width k)
 operand_kind width (Reg r) kinds = kind_at kinds r
 
--- the distance by which a pointer is moved: an immediate, or a small number.
+-- the ends of an interval as distances, if they are at most 65,536.
 abbrev pub small : Interval → Option (ℤ × ℤ)
 small s = if nat_le s.hi 65536 then Some (pos s.lo, pos s.hi) else None
 
+-- the least and the greatest distance by which an operand moves a pointer: an immediate, or a small
+-- number.
 abbrev pub distance : Operand → Kind → Option (ℤ × ℤ)
 distance (Imm k) kind = Some (k, k)
 distance (Reg r) kind = where_number kind small
 
--- offsets stay within 65536 on both sides.
+-- the pointer with these ends, if they are from -65,536 to 65,536.
 abbrev pub near : (ℤ → ℤ → Kind) → ℤ → ℤ → Option Kind
 near form lo hi = if int_le (negsuc 65535) lo && int_le hi (pos 65536) then Some (form lo hi) else None
 
@@ -152,7 +155,7 @@ after_call answer kinds =
     answer ∷ Unset ∷ Unset ∷ Unset ∷ Unset ∷ Unset
     ∷ kind_at kinds 6 ∷ kind_at kinds 7 ∷ kind_at kinds 8 ∷ kind_at kinds 9 ∷ kind_at kinds 10 ∷ []
 
--- a local call returns any number.
+-- the state after a local call, which returns any number.
 abbrev pub returned : List Kind → List Kind
 returned kinds = after_call (num (all 64)) kinds
 
@@ -173,7 +176,8 @@ abbrev pub helped_kinds : ℕ → List Kind → Helper → Option (List Kind)
 helped_kinds vars kinds helper =
     where_met (are_arguments vars (signature_of helper).arguments kinds) (after_call (Num 0 (signature_of helper).most) kinds)
 
--- in a called function the level of a pointer into a stack frame is one greater.
+-- the abstract value that a called function has: the level of a pointer into a stack frame is one
+-- greater.
 abbrev pub raised : Kind → Kind
 raised (Stack level lo hi) = Stack (level + 1) lo hi
 raised kind = kind

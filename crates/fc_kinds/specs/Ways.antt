@@ -15,7 +15,7 @@ pub record Way : Type 0 where
 abbrev pub way : ℕ → List Kind → List Way
 way target kinds = record { target = target; kinds = kinds } ∷ []
 
--- the branch with this state, or none if no values take it.
+-- the branch with this state, or no branch if no values take it.
 abbrev pub way_where : ℕ → Option (List Kind) → List Way
 way_where target None = []
 way_where target (Some kinds) = way target kinds

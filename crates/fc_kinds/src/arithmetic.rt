@@ -12,7 +12,7 @@ use fc_isa::{AluOp, ByteOrder, Operand, Rule, SwapWidth, Width};
 
 /// Returns the abstract value after an operation on two numbers.
 ///
-/// The first is in the interval `a`, and `b` is the abstract value of the second.
+/// The first number is in the interval `a`, and `b` is the abstract value of the second.
 ///
 /// # Errors
 /// Returns the broken rule if `b` isn't a number.
@@ -30,7 +30,7 @@ fn numbers(op: AluOp, width: Width, a: Interval, b: Kind) -> Result<Kind, Rule>
     }
 }
 
-/// Returns the sum of numbers, or a pointer moved forwards.
+/// Returns the abstract value of a sum, or of a pointer moved forwards.
 ///
 /// `a` is the destination's abstract value, and `b` that of `operand`.
 ///
@@ -86,7 +86,7 @@ fn added(operand: Operand, a: Kind, b: Kind) -> Result<Kind, Rule>
     }
 }
 
-/// Returns the difference of numbers, or a pointer moved backwards.
+/// Returns the abstract value of a difference, or of a pointer moved backwards.
 ///
 /// `a` is the destination's abstract value, and `b` that of `operand`.
 ///
@@ -171,7 +171,7 @@ fn moved(width: Width, b: Kind) -> Result<Kind, Rule>
 
 /// Returns the destination's abstract value after an operation.
 ///
-/// It was `a` before, and `b` is the abstract value of `operand`.
+/// The destination's abstract value before is `a`, and `b` is that of `operand`.
 ///
 /// # Errors
 /// Returns the broken rule if an operand is unset or of the wrong kind, or if a pointer is moved
@@ -195,7 +195,7 @@ fn alu_kind(op: AluOp, width: Width, operand: Operand, a: Kind, b: Kind) -> Resu
     }
 }
 
-/// Returns the destination's abstract value after an operation; it was `a` before.
+/// Returns the destination's abstract value after an operation; `a` is that before.
 ///
 /// # Errors
 /// Returns the broken rule if an operand is unset or of the wrong kind, or if a pointer is moved
@@ -216,7 +216,7 @@ pub(crate) fn alu_after(
     alu_kind(op, width, *operand, a, operand_kind(width, *operand, regs))
 }
 
-/// Returns the range of numbers in `s` after a byte-order change.
+/// Returns an interval of the results of a byte-order change of numbers in `s`.
 pub(crate) fn ordered_interval(order: ByteOrder, width: SwapWidth, s: Interval) -> Interval
     ensures { result ≡ ordered_interval order width s }
 {

@@ -15,7 +15,8 @@ use fc_isa::{Insn, Rule, Width};
 /// Returns the abstract state at the start of a function after a local call.
 ///
 /// `regs` is the caller's state. R1 to R5 are passed; the level of a pointer into a stack frame
-/// becomes one greater. R10 is at the end of a fresh frame. Levels must be below 1,024.
+/// becomes one greater. R10 points to the end of a fresh frame, and all other registers are unset.
+/// Levels must be below 1,024.
 pub fn enter(regs: &Regs) -> Regs
     requires { AreShallow 1023 regs.now }
     ensures { result ≡ enter regs.now }
@@ -135,7 +136,7 @@ fn are_arguments(vars_size: u16, arguments: Arguments, regs: &Regs) -> bool
 
 /// Returns whether the `count` bytes from `pointer` on are in its region.
 ///
-/// The greatest value of `count` decides. Returns `false` if `count` isn't a number of at most
+/// The greatest value of `count` is checked. Returns `false` if `count` isn't a number of at most
 /// 65,535.
 fn are_bytes(vars_size: u16, pointer: Kind, count: Kind) -> bool
     requires { IsKind pointer }
@@ -147,9 +148,9 @@ fn are_bytes(vars_size: u16, pointer: Kind, count: Kind) -> bool
     }
 }
 
-/// Returns the rule that refused arguments break: an unset register first.
+/// Returns the rule that refused arguments break.
 ///
-/// The contract says only that the rule is one from 20 to 27.
+/// An unset register is reported first. The contract says only that the rule is one from 20 to 27.
 fn argument_fault(arguments: Arguments, regs: &Regs) -> Rule
     ensures { (20 ≤ number_of result) × (number_of result ≤ 27) }
 {

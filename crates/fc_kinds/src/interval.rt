@@ -35,7 +35,7 @@ pub fn all(width: Width) -> Interval
 
 /// Returns an interval that contains the low bits of the numbers in `s`.
 ///
-/// It is `s` itself if its numbers have this width, and otherwise all numbers of the width.
+/// It is `s` itself if all numbers in `s` have this width, and otherwise all numbers of the width.
 fn clipped(width: Width, s: Interval) -> Interval
     requires { s.lo ≤ s.hi }
     ensures is { result ≡ clipped (bits_of width) s }
@@ -44,7 +44,7 @@ fn clipped(width: Width, s: Interval) -> Interval
     if s.hi <= limit(width) { s } else { all(width) }
 }
 
-/// Returns an interval of sums; all numbers if a sum may overflow the width.
+/// Returns the interval of sums, or all numbers if a sum may overflow the width.
 fn added(width: Width, a: Interval, b: Interval) -> Interval
     requires left { IsInterval (bits_of width) a }
     requires right { IsInterval (bits_of width) b }
@@ -59,7 +59,7 @@ fn added(width: Width, a: Interval, b: Interval) -> Interval
     }
 }
 
-/// Returns an interval of differences; all numbers if a difference may be below 0.
+/// Returns the interval of differences, or all numbers if one may be below 0.
 fn subtracted(width: Width, a: Interval, b: Interval) -> Interval
     requires left { IsInterval (bits_of width) a }
     requires right { IsInterval (bits_of width) b }
@@ -75,7 +75,7 @@ fn subtracted(width: Width, a: Interval, b: Interval) -> Interval
     }
 }
 
-/// Returns an interval of products; all numbers if one may overflow the width.
+/// Returns the interval of products, or all numbers if one may overflow the width.
 fn multiplied(width: Width, a: Interval, b: Interval) -> Interval
     requires left { IsInterval (bits_of width) a }
     requires right { IsInterval (bits_of width) b }
@@ -90,7 +90,7 @@ fn multiplied(width: Width, a: Interval, b: Interval) -> Interval
     }
 }
 
-/// Returns an interval of quotients; division by 0 gives 0.
+/// Returns an interval of quotients; a quotient by 0 is 0.
 fn divided(a: Interval, b: Interval) -> Interval
     requires { b.lo ≤ b.hi }
     ensures { result ≡ divided a b }
@@ -135,7 +135,7 @@ fn merged(width: Width, a: Interval, b: Interval) -> Interval
     }
 }
 
-/// Returns an interval of the results of `and`: up to the lesser upper end.
+/// Returns an interval of the results of `and`: from 0 to the lesser upper end.
 fn masked(a: Interval, b: Interval) -> Interval
     ensures { result ≡ masked a b }
 {
@@ -145,7 +145,7 @@ fn masked(a: Interval, b: Interval) -> Interval
     }
 }
 
-/// Returns the number of bits by which a shift of this width by `n` shifts.
+/// Returns `n` modulo the width, the number of bits by which a count of `n` shifts.
 fn count(width: Width, n: u64) -> u32
     ensures { result ≡ n % bits_of width }
 {
@@ -262,8 +262,8 @@ pub fn extended_values(extension: SignExtension, b: Interval) -> Interval
 /// Narrows two intervals to numbers for which the relation may hold.
 ///
 /// `a` is on the relation's left and `b` on its right, and the relation is of all 64 bits. Returns
-/// `None` if the relation holds for no two numbers in them. A signed comparison or a test of bits
-/// doesn't narrow them.
+/// `None` if an unsigned relation, or one of equality, holds for no two numbers in the intervals.
+/// For a signed comparison or a test of bits, returns both intervals unchanged.
 #[tactic(auto, unfolding(crate::specs::Intervals::refined))]
 pub fn refined(relation: Relation, a: Interval, b: Interval) -> Option<(Interval, Interval)>
     requires left { a.lo ≤ a.hi }
@@ -283,7 +283,7 @@ pub fn refined(relation: Relation, a: Interval, b: Interval) -> Option<(Interval
     }
 }
 
-/// Returns a refinement with its intervals exchanged, or `None` if there is none.
+/// Returns a refinement with its intervals exchanged; `None` stays `None`.
 ///
 /// `a < b` is thus refined as `b > a`.
 fn exchanged(pair: Option<(Interval, Interval)>) -> Option<(Interval, Interval)>
@@ -295,7 +295,9 @@ fn exchanged(pair: Option<(Interval, Interval)>) -> Option<(Interval, Interval)>
     }
 }
 
-/// Refines two intervals by `a > b`; `None` if it holds for no two numbers.
+/// Refines two intervals by `a > b`.
+///
+/// Returns `None` if the relation holds for no two numbers in the intervals.
 fn above(a: Interval, b: Interval) -> Option<(Interval, Interval)>
     ensures { result ≡ above a b }
 {
@@ -314,7 +316,9 @@ fn above(a: Interval, b: Interval) -> Option<(Interval, Interval)>
     }
 }
 
-/// Refines two intervals by `a >= b`; `None` if it holds for no two numbers.
+/// Refines two intervals by `a >= b`.
+///
+/// Returns `None` if the relation holds for no two numbers in the intervals.
 fn above_equal(a: Interval, b: Interval) -> Option<(Interval, Interval)>
     ensures { result ≡ above_equal a b }
 {
@@ -333,9 +337,10 @@ fn above_equal(a: Interval, b: Interval) -> Option<(Interval, Interval)>
     }
 }
 
-/// Refines two intervals by `a == b`; `None` if it holds for no two numbers.
+/// Refines two intervals by `a == b`.
 ///
-/// Both results are the numbers that the two have in common.
+/// Returns `None` if the intervals have no number in common. Otherwise both intervals of the result
+/// are the numbers that `a` and `b` have in common.
 fn equal(a: Interval, b: Interval) -> Option<(Interval, Interval)>
     ensures { result ≡ equal a b }
 {
@@ -350,9 +355,10 @@ fn equal(a: Interval, b: Interval) -> Option<(Interval, Interval)>
     }
 }
 
-/// Refines two intervals by `a != b`; `None` if it holds for no two numbers.
+/// Refines two intervals by `a != b`.
 ///
-/// Only `a` changes, and only if `b` is a single number at one of its ends.
+/// Returns `None` if the relation holds for no two numbers in the intervals. Only `a` changes, and
+/// only if `b` is a single number at one of the ends of `a`.
 fn unequal(a: Interval, b: Interval) -> Option<(Interval, Interval)>
     requires left { a.lo ≤ a.hi }
     requires right { b.lo ≤ b.hi }

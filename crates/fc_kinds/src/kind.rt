@@ -13,7 +13,7 @@ pub enum Kind {
     Num { lo: u64, hi: u64 },
     /// A pointer into a stack frame, at an offset from `lo` to `hi`.
     ///
-    /// The frame is `level` above the current one.
+    /// The frame is `level` frames above the current one, towards the first.
     Stack { level: u32, lo: i64, hi: i64 },
     /// A pointer into the request.
     Req { lo: i64, hi: i64 },
@@ -28,8 +28,9 @@ pub type Regs = [Kind; 11];
 
 /// Returns the abstract state at the entry of a program of this version.
 ///
-/// R1 points to the request, R2 to the variables, R3 is the payload's length, and R10 points to the
-/// end of the stack frame of 256 bytes. In the second version R4 points to the readings.
+/// R1 points to the request, and R2 to the variables. R3 is the payload's length, and R10 points to
+/// the end of the stack frame of 256 bytes. In version 2 R4 points to the readings. All other
+/// registers are unset.
 pub fn entry(version: ImageVersion) -> Regs
     ensures { result ≡ entry version }
 {

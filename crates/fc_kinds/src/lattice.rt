@@ -6,7 +6,7 @@ use crate::kind::{Kind, Regs};
 
 /// Returns the least abstract value that contains both.
 ///
-/// It is `Unset` unless both are numbers, or pointers into the same region and the same frame.
+/// It is `Unset` unless both are numbers, or both are pointers into the same region or stack frame.
 fn join_kind(a: Kind, b: Kind) -> Kind
     ensures { result ≡ join_kind a b }
 {
@@ -53,8 +53,8 @@ fn join_kind(a: Kind, b: Kind) -> Kind
 
 /// Joins another abstract state to `state`, register by register.
 ///
-/// The result has the least abstract values that contain both. The verifier joins the states of the
-/// paths that meet at a slot.
+/// Each abstract value of the result is the least that contains both. The verifier joins the states
+/// of the paths that meet at a slot.
 pub fn join(state: &mut Regs, other: &Regs)
     ensures { state.new ≡ joined state.old other.now }
 {

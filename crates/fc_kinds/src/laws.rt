@@ -33,7 +33,8 @@ pub fn containment_is_an_order()
 
 /// A join is the least abstract state that contains both states.
 ///
-/// If in both states each abstract value contains some value of its form, this holds in the join.
+/// If in both states each abstract value contains some value of its form, so does each abstract
+/// value of the join.
 pub fn joins_are_least()
     ensures left { (a b : List What) → Within a (joined a b) }
     ensures right { (a b : List What) → Within b (joined a b) }
@@ -43,8 +44,8 @@ pub fn joins_are_least()
 
 /// Transfer functions are monotone.
 ///
-/// If an instruction's preconditions hold in a wider state, they hold in a narrower one, and the
-/// state after it is narrower.
+/// If an instruction's preconditions hold in a wider state, they hold in a narrower one. The state
+/// after the instruction is then narrower too.
 pub fn effects_are_monotone()
     ensures { EffectsAreMonotone }
 {}
@@ -59,8 +60,8 @@ pub fn effects_keep_kinds()
 
 /// Branch refinement is monotone.
 ///
-/// A branch that is possible in a narrower state is possible in a wider one, and the state on it is
-/// wider too.
+/// A branch that is possible in a narrower state is possible in a wider one, and has a wider state
+/// there.
 pub fn refinement_is_monotone()
     ensures { RefinementIsMonotone }
 {}
@@ -81,8 +82,8 @@ pub fn ways_raise_by_one()
 /// The transfer function is sound for all instructions except calls and exits.
 ///
 /// If the state contains the registers' values and the preconditions hold, the instruction has a
-/// step. The step follows a branch with a state that contains the values after it, and it keeps the
-/// sizes of the regions. The law says nothing about local calls and exits.
+/// step. The step follows a branch whose state contains the new values, and the regions keep their
+/// sizes. The law says nothing about local calls and exits.
 pub fn effects_contain_the_step()
     ensures { EffectsContainTheStep }
 {}
@@ -90,7 +91,7 @@ pub fn effects_contain_the_step()
 /// The abstract call entry is sound.
 ///
 /// If the state contains the registers' values, and there are fewer than eight frames, a local call
-/// has a step. It enters the function with the state of `enter`, and its caller waits.
+/// has a step. The step enters the function with the state of `enter`, and the caller waits.
 pub fn calls_contain_the_step()
     ensures { CallsContainTheStep }
 {}
@@ -98,7 +99,7 @@ pub fn calls_contain_the_step()
 /// The transfer function is sound for exits to a caller.
 ///
 /// If the state contains the registers' values, the exit's preconditions hold, and a caller waits,
-/// the exit has a step. It returns to the caller, and the state after the call contains the
+/// the exit has a step. The step returns to the caller, and the state after the call contains the
 /// registers' values.
 pub fn exits_contain_the_step()
     ensures { ExitsContainTheStep }
@@ -106,8 +107,8 @@ pub fn exits_contain_the_step()
 
 /// Branch refinement is sound.
 ///
-/// If the state contains the values, the branch that a conditional jump takes is possible, and its
-/// state contains the values.
+/// If the state contains the values, the branch that a conditional jump takes is possible, and the
+/// branch's state contains the values.
 pub fn refinement_keeps_what_takes_the_way()
     ensures { RefinementKeepsWhatTakesTheWay }
 {}
@@ -117,25 +118,25 @@ pub fn runs_have_one_meaning()
     ensures { (p : Program) (input : Input) (m n : Meaning) → Means p input m → Means p input n → m ≡ n }
 {}
 
-/// A program's meaning is that of its run, if it exits within the budget.
+/// A program's meaning is that of its run, if the run exits within the budget.
 pub fn programs_mean_what_runs_show()
     ensures { (p : Program) (input : Input) (m : Meaning) (w : Means p input m) → w.count ≤ p.budget → meant p input ≡ m }
 {}
 
 /// The code of a reply is an allowed code, whatever R0 is at the exit.
 ///
-/// The allowed codes are its method's success (2.05 for a GET, 2.04 for a POST), 4.00, 4.03, 4.04
-/// and 5.00.
+/// The allowed codes are the success of the request's method (2.05 for a GET, 2.04 for a POST),
+/// 4.00, 4.03, 4.04 and 5.00.
 pub fn reply_codes_are_known()
     ensures { (method : Method) (n : ℕ) → is_reply_code method (reply_code method n) ≡ true }
 {}
 
 /// A program can return one of four codes, and every other number gives 5.00.
 ///
-/// R0 at the exit is the code: 2.05 (Content), 69, for a GET, or 2.04 (Changed), 68, for a POST;
-/// 4.00 (Bad Request), 128, 4.03 (Forbidden), 131, or 4.04 (Not Found), 132, for both. 0 means the
-/// method's success. Any other number gives 5.00 (Internal Server Error), 160 (RFC 7252, section
-/// 12.1.2).
+/// R0 at the exit is the code. It may be 69 (2.05 Content) for a GET, and 68 (2.04 Changed) for a
+/// POST. For both it may be 128 (4.00 Bad Request), 131 (4.03 Forbidden) or 132 (4.04 Not Found). 0
+/// means the method's success. Any other number gives 160 (5.00 Internal Server Error; RFC 7252,
+/// section 12.1.2).
 pub fn answers_are_let_through()
     ensures success { (reply_code Get 0 ≡ 69) × (reply_code Post 0 ≡ 68) }
     ensures to_a_get { map (reply_code Get) (69 ∷ 128 ∷ 131 ∷ 132 ∷ []) ≡ 69 ∷ 128 ∷ 131 ∷ 132 ∷ [] }

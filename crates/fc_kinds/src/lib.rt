@@ -1,7 +1,8 @@
 //! Semantics of programs, and the abstract values of registers.
 //!
 //! `specs/` has the machine (values, configurations, steps, the meaning of a run) and the typing
-//! rules. The code computes the verifier's part of them: the abstract state after an instruction.
+//! rules. The code computes the part of the typing rules that the verifier needs: the abstract
+//! state after an instruction.
 //!
 //! ```rust
 //! use fc_kinds::{Kind, Regs, join};
@@ -21,8 +22,8 @@
 //!   definitions state.
 //! - Joins are least. Transfer functions, branch refinement and call entry are monotone, and
 //!   contain the results of the machine's step.
-//! - A run has at most one meaning. If the run exits within the budget, this is its program's
-//!   meaning. Its reply's code is its method's success, 4.00, 4.03, 4.04 or 5.00; the numbers in R0
+//! - A run has at most one meaning, and it is the program's meaning if the run exits within the
+//!   budget. The reply's code is the method's success, 4.00, 4.03, 4.04 or 5.00. The numbers in R0
 //!   that give each code are stated in literals.
 //! - The value of each register at the entry is stated in literals. R4 is unset in version 1. In
 //!   version 2 it points to the readings, which can be read and not written.

@@ -92,7 +92,7 @@ pub(crate) fn store_imm(
 /// The state doesn't change. The variables have `vars_size` bytes.
 ///
 /// # Errors
-/// Returns the broken rule as for an immediate, or if the register isn't a number.
+/// Returns the broken rule as [`store_imm`] does, or if the stored register isn't a number.
 #[tactic(auto, unfolding(crate::specs::Transfer::transfer))]
 pub(crate) fn store(
     size: Size,
@@ -121,8 +121,8 @@ pub(crate) fn store(
 
 /// Returns the rule that a refused store breaks: `other`, or an unset register.
 ///
-/// If `stored`, the register's abstract value, is unset, this fault is reported before any other.
-/// The contract says only that the rule is one from 20 to 27.
+/// If `stored`, the stored register's abstract value, is unset, an unset register is reported
+/// before any other rule. The contract says only that the rule is one from 20 to 27.
 fn store_fault(other: Rule, stored: Kind) -> Rule
     requires { (20 ≤ number_of other) × (number_of other ≤ 27) }
     ensures { (20 ≤ number_of result) × (number_of result ≤ 27) }

@@ -54,7 +54,7 @@ pub(crate) fn operand_fault(a: Kind, b: Kind) -> Rule
 
 /// Returns the abstract value of the second operand.
 ///
-/// An immediate is a single number, at this width.
+/// The abstract value of an immediate is a single number of this width.
 pub(crate) fn operand_kind(width: Width, operand: Operand, regs: &Regs) -> Kind
     requires { AreKinds regs.now }
     ensures kind { result ≡ operand_kind width operand regs.now }
@@ -69,7 +69,7 @@ pub(crate) fn operand_kind(width: Width, operand: Operand, regs: &Regs) -> Kind
     }
 }
 
-/// Returns an immediate as a number: its 32 bits, or sign-extended to 64 bits.
+/// Returns an immediate's 32 bits, or its sign extension to 64 bits.
 fn immediate(width: Width, imm: i32) -> u64
     ensures { result ≡ immediate width imm }
 {

@@ -42,16 +42,16 @@ pub(crate) fn distance(operand: Operand, b: Kind) -> Result<(i64, i64), Rule>
     }
 }
 
-/// Returns whether both ends are within 65,536 of the start of the region.
+/// Returns whether a moved pointer's offsets are within the allowed range.
 ///
-/// The ends are those of a moved pointer's offsets: the pointer may not move further.
+/// The offsets are `lo` to `hi`, and the range is -65,536 to 65,536 bytes from the region's start.
 pub(crate) fn is_near(lo: i64, hi: i64) -> bool
     ensures { result ≡ (int_le (negsuc 65535) lo && int_le hi (pos 65536)) }
 {
     -65_536 <= lo && hi <= 65_536
 }
 
-/// Returns the sum of an offset and a distance; its requirements exclude overflow.
+/// Returns the sum of an offset and a distance, which can't overflow.
 pub(crate) fn plus(a: i64, b: i64) -> i64
     requires left { (negsuc 1099511627775 ≤ℤ a) × (a ≤ℤ pos 1099511627776) }
     requires right { (negsuc 2147483647 ≤ℤ b) × (b ≤ℤ pos 2147483647) }
@@ -60,7 +60,7 @@ pub(crate) fn plus(a: i64, b: i64) -> i64
     a + b
 }
 
-/// Returns the difference of an offset and a distance, like `plus`.
+/// Returns the difference of an offset and a distance, which can't overflow.
 pub(crate) fn minus(a: i64, b: i64) -> i64
     requires left { (negsuc 1099511627775 ≤ℤ a) × (a ≤ℤ pos 1099511627776) }
     requires right { (negsuc 2147483647 ≤ℤ b) × (b ≤ℤ pos 2147483647) }
@@ -125,7 +125,7 @@ fn inside(region: u16, bytes: u16, offset: i16, lo: i64, hi: i64) -> bool
 
 /// Returns whether `bytes` bytes may be read at `offset` from a pointer.
 ///
-/// They must be in the pointer's region. Returns `false` if `kind` isn't a pointer.
+/// All of them must be in the pointer's region. Returns `false` if `kind` isn't a pointer.
 pub(crate) fn may_read(vars_size: u16, bytes: u16, offset: i16, kind: Kind) -> bool
     requires { IsKind kind }
     ensures { result ≡ may_read vars_size bytes offset kind }
@@ -141,7 +141,8 @@ pub(crate) fn may_read(vars_size: u16, bytes: u16, offset: i16, kind: Kind) -> b
 
 /// Returns whether `bytes` bytes may be written at `offset` from a pointer.
 ///
-/// They must be in a stack frame or in the variables. Returns `false` if `kind` isn't a pointer.
+/// All of them must be in a stack frame or in the variables. Returns `false` if `kind` isn't a
+/// pointer into one of these.
 pub(crate) fn may_write(vars_size: u16, bytes: u16, offset: i16, kind: Kind) -> bool
     requires { IsKind kind }
     ensures { result ≡ may_write vars_size bytes offset kind }

@@ -9,10 +9,10 @@ use crate::kind::{Kind, Regs};
 use crate::operands::{num, operand_kind};
 use fc_isa::{Jump, Operand, Relation, Width};
 
-/// Returns the relation that holds on a jump's branch, if it can refine.
+/// Returns the relation by which a jump's operands are refined on a branch.
 ///
-/// A signed comparison and a test of bits keep their relation on both branches: they refine
-/// nothing.
+/// On the branch not taken it is the opposite relation. A signed comparison and a test of bits
+/// refine nothing, and are returned unchanged for both branches.
 fn relation_of(jump: &Jump, taken: bool) -> Relation
     ensures { result ≡ relation_of taken jump.now }
 {
@@ -32,8 +32,8 @@ fn relation_of(jump: &Jump, taken: bool) -> Relation
 
 /// Returns whether a jump's operands can be refined.
 ///
-/// They can be refined if the jump compares two different whole registers, or a whole register and
-/// an immediate.
+/// Operands can be refined if the jump compares two different whole registers, or a whole register
+/// and an immediate.
 fn refines(jump: &Jump) -> bool
     ensures { result ≡ refines jump.now }
 {

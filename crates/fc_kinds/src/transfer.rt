@@ -15,12 +15,12 @@ use fc_isa::{Insn, Jump, Rule};
 
 /// Updates the abstract state to that after an instruction.
 ///
-/// The program's variables have `vars_size` bytes. After a local call the state is that after the
+/// The program's variables have `vars_size` bytes. The state after a local call is that after the
 /// function's exit.
 ///
 /// # Errors
 /// Returns a rule, 20 to 27, that the instruction breaks in this state; a wide load's second half
-/// breaks rule 27. The state doesn't change.
+/// breaks rule 27. The state then doesn't change.
 #[tactic(auto, unfolding(crate::specs::Transfer::transfer))]
 pub fn after(insn: Insn, regs: &mut Regs, vars_size: u16) -> Result<(), Rule>
     requires { AreKinds regs.old }

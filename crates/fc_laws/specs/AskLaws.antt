@@ -1,5 +1,5 @@
--- Definitions for the laws of jobs and their messages: the request of a delivery's job, by its
--- message's code, path and options.
+-- Definitions for the laws of jobs and their messages: the request of a delivery's job, by the
+-- code, path and options of the message.
 use Rattle.std.specs.Prelude.{◌≡◌, ◌≢◌, ℕ, List, [], ◌∷◌, ◌++◌, Some, Ok, codes}
 use Rattle.std.specs.Borrow.{Bor}
 use Rattle.std.specs.Fmt.{decimal}
@@ -15,7 +15,7 @@ use Rattle.fc_core.specs.declared.event.Event.TheVariants.{Deliver}
 use Rattle.fc_core.specs.History.{Entry, Seen, and_then}
 use Rattle.fc_core.specs.Stages.{new_task}
 
--- the event delivers this message from an endpoint, and produces this job.
+-- the event delivers this message from this endpoint, and makes this job.
 pub record BringsJob (r : Entry) (s : Seen) (from : Endpoint) (m : Message) (j : Job) : Type 0 where
   pub now : ℕ
   pub bytes : Bor (List ℕ)
@@ -41,7 +41,8 @@ pub record Requests (m : Message) (code : ℕ) (path : List (List ℕ)) : Type 0
   pub code_is : m.code ≡ code
   pub path_is : values option.URI_PATH m ≡ path
 
--- a message's request to slot N's program: its Content-Format, its query and its payload.
+-- the request to slot N's program with this method, and with the message's Content-Format, query
+-- and payload.
 abbrev pub request_in : Method → ℕ → Message → Request
 request_in method n m = record { method = method; slot = n; content_format = number_in option.CONTENT_FORMAT m; query = query m; payload = m.payload }
 

@@ -21,34 +21,35 @@ use Rattle.fc_core.specs.Policies.{is_allowed}
 use Rattle.coap_reply.specs.Responses.{Response, bare, settled_by}
 use Rattle.fc_core.specs.Stages.{new_task}
 
--- classification of a new request that its endpoint is allowed to send, by a server that is passed
--- a time.
+-- classification of a new request by the server, after this time is passed to the server. The
+-- request's endpoint is allowed to send the request.
 abbrev pub asked_at : Seen → ℕ → Endpoint → Message → Asked → Received
 asked_at s now to m r = received_added (add_in (front_at s now) to r) m r
 
--- payload that the request adds.
+-- the payload that the request adds to a transfer.
 abbrev pub addition_at : Seen → ℕ → Endpoint → Asked → Addition
 addition_at s now to r = addition_of (max s.time now) to r
 
--- the datagram is a request and no duplicate, passes every check of its options, and its endpoint
--- is allowed to send it.
+-- the datagram is a request and no duplicate, and there is space for its exchange. The request
+-- passes every check of its options, and its endpoint is allowed to send it.
 pub record IsAskedAnew (s : Seen) (now : ℕ) (to : Endpoint) (bytes : List ℕ) (m : Message) (r : Asked) : Type 0 where
   pub opens : IsOpening s now to bytes
   pub read : reading_of bytes ≡ Ok m
   pub asks : verdict m ≡ IsAsked r
   pub allowed : is_allowed s.policy.managers to r.action ≡ true
 
--- the event delivers such a request.
+-- the event delivers a new request that passes every check of its options and is allowed.
 abbrev pub Asks : Seen → Event → Message → Asked → Type 0
 Asks s (Deliver now to bytes) m r = IsAskedAnew s now to bytes.now m r
 Asks s other m r = ⊥
 
--- the payload of that request, as it is added.
+-- the payload that the request of this event adds; only a delivery adds one.
 abbrev pub addition_by : Seen → Event → Asked → List Addition
 addition_by s (Deliver now to bytes) r = addition_at s now to r ∷ []
 addition_by s other r = []
 
--- the block of that request fits the payloads before it, and makes this body with them.
+-- the event's request has a block that fits after the payloads before it. Together with them the
+-- block's payload makes this body.
 abbrev pub FitsBy : Seen → Event → Asked → Place → List ℕ → Type 0
 FitsBy s (Deliver now to bytes) r b body = FitsBehind s.additions (addition_at s now to r) b body
 FitsBy s other r b body = ⊥
@@ -66,12 +67,12 @@ pub record BringsInstall (e : Entry) (s : Seen) (r : Asked) (n : ℕ) (body : Li
   pub asks : job.ask ≡ Installs (record { items = body }) (initial_vars_by r.query)
   pub slot : job.origin.slot ≡ n
 
--- the answer 2.31 (Continue), with the block that was sent.
+-- the 2.31 (Continue) response to the event's request, with the Block1 of the request.
 abbrev pub continue_by : Seen → Event → Message → Place → Option Emission
 continue_by s (Deliver now to bytes) m b = reply_sent (front_at s now) to m (settled_by (code 2 31) (Some b))
 continue_by s other m b = None
 
--- a request with a block is answered immediately, by this code alone.
+-- the event delivers a request with a block, which is answered immediately, by this code alone.
 abbrev pub RespondsNowBy : Seen → Event → Message → Asked → ℕ → Type 0
 RespondsNowBy s (Deliver now to bytes) m r answer = asked_at s now to m r ≡ Immediate m r (bare answer)
 RespondsNowBy s other m r answer = ⊥

@@ -29,8 +29,9 @@ pub data IsAnsweredAtOnce (s : Seen) (e : Event) (m : Message) : Type 0 where
   IsRefused : (answer : ℕ) (refuses : Refuses s e m answer) → IsAnsweredAtOnce s e m
   IsImmediate : (asked : Asked) (response : Response) (asks : Asks s e m asked) (settles : RespondsNow s e m asked response) → IsAnsweredAtOnce s e m
 
--- the event answers a request that isn't confirmable, on arrival or by its job less than 247,000 ms
--- after its exchange was opened; or it draws the message ID of a lease's notification.
+-- the event needs a message ID of the server. It answers a request that isn't confirmable, or it
+-- draws the message ID of a lease's notification. The request is answered on arrival, or by its job
+-- less than 247,000 ms after the exchange was opened.
 pub data NeedsId (s : Seen) (e : Event) : Type 0 where
   AnswersAtOnce : (m : Message) (kind : is_confirmable m.kind ≡ false) (answers : IsAnsweredAtOnce s e m) → NeedsId s e
   AnswersInTime : (k now : ℕ) (content : Content) (event : e ≡ Answer k now) (at : stage s k ≡ ToAnswer content) (kind : (job s k).confirmable ≡ false) (opened : HasExchange (job s k))

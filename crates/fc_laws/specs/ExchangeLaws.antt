@@ -24,39 +24,39 @@ IsOnRequest (IsRefused answer) = Unit {0}
 IsOnRequest IsSilent = Unit {0}
 IsOnRequest other = ⊥
 
--- whether an exchange was opened less than 247,000 ms before the time.
+-- whether an exchange was opened less than 247,000 ms before this time.
 abbrev pub is_within : ℕ → Exchange → Bool
 is_within at e = nat_lt at (e.at + 247000)
 
--- an exchange of this endpoint and message ID that was opened less than 247,000 ms before the time,
--- if there is one.
+-- the first exchange of this endpoint and message ID that was opened less than 247,000 ms before
+-- this time, if there is one.
 abbrev pub repeated : Seen → ℕ → Endpoint → ℕ → Option Exchange
 repeated s at to id = find (λ e. is_within at e && is_of to id e) s.exchanges
 
--- the datagram is a request that duplicates the one of this exchange.
+-- the datagram is a request that duplicates the request of this exchange.
 pub record IsRepeat (s : Seen) (now : ℕ) (to : Endpoint) (bytes : List ℕ) (e : Exchange) : Type 0 where
   pub message : Message
   pub read : reading_of bytes ≡ Ok message
   pub asks : IsOnRequest (verdict message)
   pub is : repeated s (max s.time now) to message.id ≡ Some e
 
--- the bytes that are stored for an exchange are sent again if its request was confirmable and was
+-- the stored answer of an exchange is sent again if the exchange's request was confirmable and was
 -- answered.
 abbrev pub again : Endpoint → Bool → Option (ArrayVec ℕ) → Option Emission
 again to true (Some bytes) = Some (record { to = to; bytes = bytes })
 again to confirmable answer = None
 
--- exchanges that were opened in the last 247,000 ms, and the number of them that belong to an
--- address.
+-- the exchanges that were opened in the last 247,000 ms.
 abbrev pub held_at : Seen → ℕ → List Exchange
 held_at s at = filter (is_within at) s.exchanges
 
+-- the number of these exchanges that belong to an address.
 abbrev pub shared_at : Seen → ℕ → List ℕ → ℕ
 shared_at s at ip = share_of ip (held_at s at)
 
--- the datagram is a request and no duplicate, and there is space. In the last 247,000 ms fewer
--- exchanges than the policy's limit were opened, and fewer of the address than its share. Fewer
--- than 2^64 - 1 exchanges were ever opened.
+-- the datagram is a request and no duplicate, and there is space for its exchange. Fewer than 2^64
+-- - 1 exchanges were ever opened. In the last 247,000 ms, fewer than the policy's limit were
+-- opened, and fewer than a share from the request's address.
 pub record IsOpening (s : Seen) (now : ℕ) (to : Endpoint) (bytes : List ℕ) : Type 0 where
   pub message : Message
   pub read : reading_of bytes ≡ Ok message
@@ -66,13 +66,13 @@ pub record IsOpening (s : Seen) (now : ℕ) (to : Endpoint) (bytes : List ℕ) :
   pub share : shared_at s (max s.time now) to.ip < s.policy.limits.share
   pub numbers : length s.exchanges < 18446744073709551615
 
--- there is no space for another exchange. In the last 247,000 ms as many were opened as the
--- policy's limit, or 2^64 - 1 were ever opened.
+-- there is no space for another exchange. In the last 247,000 ms at least as many exchanges as the
+-- policy's limit were opened, or at least 2^64 - 1 were ever opened.
 abbrev pub HasNoPlace : Seen → ℕ → Type 0
 HasNoPlace s at = (places_of s.policy.limits ≤ length (held_at s at)) ⊎ (18446744073709551615 ≤ length s.exchanges)
 
--- the datagram is a request and no duplicate, and there is no space, though its address is below
--- its share.
+-- the datagram is a request and no duplicate, and there is no space for its exchange, although its
+-- address is below a share.
 pub record IsCrowdedOut (s : Seen) (now : ℕ) (to : Endpoint) (bytes : List ℕ) (m : Message) : Type 0 where
   pub read : reading_of bytes ≡ Ok m
   pub asks : IsOnRequest (verdict m)
@@ -80,8 +80,8 @@ pub record IsCrowdedOut (s : Seen) (now : ℕ) (to : Endpoint) (bytes : List ℕ
   pub share : shared_at s (max s.time now) to.ip < s.policy.limits.share
   pub full : HasNoPlace s (max s.time now)
 
--- the datagram is a request and no duplicate, and in the last 247,000 ms as many exchanges of its
--- address were opened as its share.
+-- the datagram is a request and no duplicate. In the last 247,000 ms, at least a share of exchanges
+-- was opened from its address.
 pub record IsOverShare (s : Seen) (now : ℕ) (to : Endpoint) (bytes : List ℕ) (m : Message) : Type 0 where
   pub read : reading_of bytes ≡ Ok m
   pub asks : IsOnRequest (verdict m)
@@ -116,8 +116,8 @@ abbrev pub bare_by : Seen → Event → Message → ℕ → Option Emission
 bare_by s (Deliver now to bytes) m answer = reply_sent (front_at s now) to m (bare answer)
 bare_by s other m answer = None
 
--- endpoint and message ID of an exchange, whether it is confirmable, and the time when it was
--- opened.
+-- the data of an exchange without the answer: the endpoint, the message ID, whether the request is
+-- confirmable, and the time of the opening.
 pub record Arrival : Type 0 where
   pub endpoint : Endpoint
   pub id : ℕ
@@ -127,11 +127,11 @@ pub record Arrival : Type 0 where
 abbrev pub arrival_of : Exchange → Arrival
 arrival_of e = record { endpoint = e.endpoint; id = e.id; confirmable = e.confirmable; at = e.at }
 
--- opened exchanges, without their answers.
+-- the opened exchanges of a history, without the answers.
 abbrev pub arrivals : Seen → List Arrival
 arrivals s = map arrival_of s.exchanges
 
--- the arrival is the datagram's: its endpoint, message ID and type, at the front's time.
+-- the arrival has the datagram's endpoint, message ID and type, and the front's time.
 pub record IsArrival (s : Seen) (now : ℕ) (to : Endpoint) (bytes : List ℕ) (a : Arrival) : Type 0 where
   pub message : Message
   pub read : reading_of bytes ≡ Ok message
@@ -141,43 +141,44 @@ abbrev pub ArrivesBy : Seen → Event → Arrival → Type 0
 ArrivesBy s (Deliver now to bytes) a = IsArrival s now to bytes.now a
 ArrivesBy s other a = ⊥
 
--- one exchange is opened, as the last.
+-- the event opens one exchange, the last in the list.
 pub record OpensOne (r : Entry) (s : Seen) : Type 0 where
   pub arrival : Arrival
   pub is : ArrivesBy s r.event arrival
   pub last : arrivals (and_then r s) ≡ arrivals s ++ arrival ∷ []
 
--- the job has an exchange: fewer than 2^64 - 1 are ever opened.
+-- the job has an exchange: the exchange's number in the job's origin is less than 2^64 - 1.
 abbrev pub HasExchange : Job → Type 0
 HasExchange j = j.origin.opening.number < 18446744073709551615
 
--- the exchange of a request's job, without its answer, by the job.
+-- the exchange of a request's job, without the answer, from the data of the job.
 abbrev pub arrival_of_job : Job → Arrival
 arrival_of_job j = record { endpoint = j.origin.endpoint; id = j.origin.id; confirmable = j.confirmable; at = j.origin.opening.at }
 
--- the exchange of the job is among all arrivals, and the job's number is its position.
+-- the exchange of the job is one of these arrivals, at the position that is the exchange's number
+-- in the job's origin.
 pub record IsInPlace (all : List Arrival) (j : Job) : Type 0 where
   pub before : List Arrival
   pub after : List Arrival
   pub is : all ≡ before ++ arrival_of_job j ∷ after
   pub number : length before ≡ j.origin.opening.number
 
--- the job of a request: no lease, and no job of a timer, which has no exchange.
+-- the job is that of a request: it is neither a lease's, nor a timer's, which has no exchange.
 abbrev pub IsOfRequest : Job → Type 0
 IsOfRequest j = (j.turn ≡ None) × HasExchange j
 
--- the job of an observer's lease, with the lease's number.
+-- the job is that of an observer's lease, with the lease's number.
 abbrev pub IsOfLease : Job → Type 0
 IsOfLease j = (number : ℕ) × (j.turn ≡ Some number)
 
 -- ---- message IDs
 
--- a message ID that was drawn, and the time.
+-- a message ID that was drawn, and the time of the draw.
 pub record Draw : Type 0 where
   pub id : ℕ
   pub at : ℕ
 
--- an event draws the next message ID if the next message ID is another after the event.
+-- the draws after an event: if the event changed the next message ID (`false`), it has drawn one.
 abbrev pub draws_by : Bool → Draw → List Draw → List Draw
 draws_by true draw before = before
 draws_by false draw before = draw ∷ before
@@ -187,17 +188,18 @@ abbrev pub draws_of : History → List Draw
 draws_of (Begins serial id policy) = []
 draws_of (Then h r) = draws_by ((seen (Then h r)).ids.next == (seen h).ids.next) (record { id = (seen h).ids.next; at = (seen (Then h r)).time }) (draws_of h)
 
--- first message ID of a server.
+-- the server's first message ID.
 abbrev pub first_id : History → ℕ
 first_id (Begins serial id policy) = id
 first_id (Then h r) = first_id h
 
--- in a list of draws, the newest first, each message ID follows the one before it.
+-- in a list of draws, the newest first, the message IDs are consecutive modulo 65,536, from this
+-- first one.
 abbrev pub AreInOrder : ℕ → List Draw → Type 0
 AreInOrder first [] = Unit {0}
 AreInOrder first (d ∷ ds) = (d.id ≡ (first + length ds) % 65536) × AreInOrder first ds
 
--- each draw of this message ID was at least 247,000 ms before the time.
+-- each draw of this message ID was at least 247,000 ms before this time.
 abbrev pub AllBefore : ℕ → ℕ → List Draw → Type 0
 AllBefore id at [] = Unit {0}
 AllBefore id at (d ∷ ds) = (d.id ≡ id → d.at + 247000 ≤ at) × AllBefore id at ds

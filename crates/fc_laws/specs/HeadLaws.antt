@@ -9,28 +9,28 @@ use Rattle.fc_core.specs.declared.event.Event.TheVariants.{Raise}
 use Rattle.fc_core.specs.History.{History, Begins, Then, Seen, seen, stage}
 use Rattle.fc_core.specs.Laws.{slot_of}
 
--- head word of a slot's state.
+-- the head word of a slot in this state.
 abbrev pub slot_word : Slot → ℕ
 slot_word slot = head_word slot.serial (is_some slot.present)
 
--- if a job is to raise its slot's head word, it was to raise that word before, or the word is that
--- of this state.
+-- if the new stage is to raise a head word, the old stage is the same, or the word is that of this
+-- slot.
 abbrev pub PublishesAt : Slot → Stage → Stage → Type 0
 PublishesAt slot old (ToRaise word content) = (old ≡ ToRaise word content) ⊎ (word ≡ slot_word slot)
 PublishesAt slot old other = Unit {0}
 
--- head word that a job at this stage is to raise.
+-- the head word that a job at this stage is to raise, if any.
 abbrev pub word_to_raise : Stage → List ℕ
 word_to_raise (ToRaise word content) = word ∷ []
 word_to_raise other = []
 
--- head word that an event raises for slot n: the event is the Raise of a job of the slot, at the
--- job's stage.
+-- the head word that an event raises for slot n, if any. The event is the `Raise` of a job of slot
+-- n, which is at the stage of the raise.
 abbrev pub words_raised : ℕ → Event → Seen → List ℕ
 words_raised n (Raise k) s = if slot_of s k == n then word_to_raise (stage s k) else []
 words_raised n other s = []
 
--- head words that were raised for slot n, the newest first.
+-- the head words that were raised for slot n, the newest first.
 abbrev pub raises_of : ℕ → History → List ℕ
 raises_of n (Begins serial id policy) = []
 raises_of n (Then h r) = words_raised n r.event (seen h) ++ raises_of n h

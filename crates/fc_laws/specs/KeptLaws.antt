@@ -11,26 +11,26 @@ use Rattle.fc_core.specs.Ids.{free_id}
 
 -- ---- stored answers
 
--- bytes that were sent.
+-- the bytes of an emission, if there is one.
 abbrev pub emitted_bytes : Option Emission → Option (ArrayVec ℕ)
 emitted_bytes None = None
 emitted_bytes (Some emission) = Some emission.bytes
 
--- stored answer of each exchange, at its number.
+-- the stored answer of each exchange, at the exchange's number.
 abbrev pub answers : Seen → List (Option (ArrayVec ℕ))
 answers s = map (λ e. e.answer) s.exchanges
 
--- number of the exchange of a job's request.
+-- the number of the exchange of a job's request.
 abbrev pub exchange_of_job : Seen → ℕ → ℕ
 exchange_of_job s k = (job s k).origin.opening.number
 
--- the answer of a job's exchange is the emission of its Answer; those of other exchanges are
--- unchanged.
+-- the stored answers after the `Answer` of a job whose exchange has this number. An emission
+-- replaces the answer of this exchange. Without an emission all answers are unchanged.
 abbrev pub answers_with : Option Emission → ℕ → List (Option (ArrayVec ℕ)) → List (Option (ArrayVec ℕ))
 answers_with None number kept = kept
 answers_with (Some emission) number kept = slice_set kept number (Some emission.bytes)
 
--- the event is the Answer of a job that is to be answered.
+-- the event is the `Answer` of a job that is to be answered.
 pub record AnswersJob (s : Seen) (e : Event) : Type 0 where
   pub number : ℕ
   pub now : ℕ
@@ -40,11 +40,11 @@ pub record AnswersJob (s : Seen) (e : Event) : Type 0 where
 
 -- ---- times of answers
 
--- time when the exchange of a job's request was opened.
+-- the time when the exchange of a job's request was opened.
 abbrev pub opened_at : Seen → ℕ → ℕ
 opened_at s k = (job s k).origin.opening.at
 
--- the answer of a job has the request's own message ID, or a message ID of the server is available
--- at a time.
+-- there is a message ID for the answer of a job: that of the confirmable request, or one of the
+-- server that is available at this time.
 abbrev pub HasId : Seen → ℕ → ℕ → Type 0
 HasId s k now = ((job s k).confirmable ≡ true) ⊎ (is_some (free_id s.ids (max s.time now)) ≡ true)

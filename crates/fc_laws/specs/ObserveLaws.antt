@@ -23,7 +23,8 @@ abbrev pub IsFirst : Option Place → Type 0
 IsFirst None = Unit {0}
 IsFirst (Some block) = block.number ≡ 0
 
--- the request has Observe 0 and requests no block or the first, and its run means a 2.05 (Content).
+-- the ticket's request has Observe 0 and requests no block or the first, and its run means a 2.05
+-- (Content).
 pub record AsksToObserve (t : Ticket) : Type 0 where
   pub observe : t.observe ≡ Some 0
   pub first : IsFirst t.block
@@ -33,11 +34,12 @@ pub record AsksToObserve (t : Ticket) : Type 0 where
 abbrev pub is_held : Endpoint → List ℕ → ObserverList → Bool
 is_held to token w = list_any (is_entry_of to token) w.held
 
--- whether the client of the ticket's request is in a list of observers.
+-- whether the client that sent the ticket's request is in a list of observers.
 abbrev pub is_among : Ticket → ObserverList → Bool
 is_among t w = is_held t.origin.endpoint t.token.items w
 
--- the event is the commit of this client's GET, by the GET's job at its stage, in that job's slot.
+-- the event is the commit of this client's GET, which asks to observe. The GET's job is a job of
+-- slot n, and is at the stage of the commit.
 pub record Registers (r : Entry) (s : Seen) (n : ℕ) (to : Endpoint) (token : List ℕ) : Type 0 where
   pub number : ℕ
   pub now : ℕ
@@ -54,8 +56,8 @@ abbrev pub NoneRegisters : History → List Entry → ℕ → Endpoint → List 
 NoneRegisters h [] n to token = Unit {0}
 NoneRegisters h (r ∷ rs) n to token = (Registers r (seen h) n to token → ⊥) × NoneRegisters (Then h r) rs n to token
 
--- a lease of slot n is granted at a time. Its job, at its first stage, is for the slot's first
--- observer with a pending notification at that time.
+-- a lease of slot n is granted at this time. The lease's job is at its first stage, and is for the
+-- slot's first observer with a pending notification at that time.
 pub record BringsTurn (s : Seen) (n at : ℕ) (after : Seen) : Type 0 where
   pub entry : ObserverEntry
   pub first : find (is_due (max (watch s n).time at) (slot_at s n).notify_serial) (watch s n).held ≡ Some entry

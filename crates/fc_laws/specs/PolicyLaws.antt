@@ -22,8 +22,8 @@ asks_for_change other = false
 abbrev pub IsManaged : List Network → Job → Type 0
 IsManaged managers j = asks_for_change j.ask ≡ true → is_manager managers j.origin.endpoint ≡ true
 
--- above its address's share, a confirmable request is answered 5.03 (Service Unavailable), whose
--- byte is 163, by its acknowledgement; any other gets no response.
+-- the response to a request above its address's share. A confirmable request is answered 5.03
+-- (Service Unavailable), whose byte is 163, in an Acknowledgement; any other gets no response.
 abbrev pub over_share_emits : Bool → Seen → Event → Message → Option Emission
 over_share_emits true s e m = bare_by s e m 163
 over_share_emits false s e m = None

@@ -34,8 +34,8 @@ use Rattle.fc_laws.specs.TurnLaws.{time_at}
 
 -- ---- refusals
 
--- a datagram that isn't a request is ignored, or rejected by a Reset message; or there is no space
--- for a request's exchange; or its address is above its share.
+-- the event delivers a datagram that isn't a request, and that is ignored or rejected by a Reset
+-- message. Or it delivers a request without space for an exchange, or above its address's share.
 pub data IsTurnedDown (s : Seen) (e : Event) : Type 0 where
   IsNoMessage : (now : ℕ) (to : Endpoint) (bytes : Bor (List ℕ)) (event : e ≡ Deliver now to bytes) (read : reading_of bytes.now ≡ Err bad.Ignore)
       → IsTurnedDown s e
@@ -45,11 +45,14 @@ pub data IsTurnedDown (s : Seen) (e : Event) : Type 0 where
   FindsNoRoom : (m : Message) (crowded : FindsNoExchange s e m) → IsTurnedDown s e
   IsAboveShare : (m : Message) (over : ExceedsShare s e m) → IsTurnedDown s e
 
--- the event's call for job k is refused. No ticket: the slot is empty, or memory can't be
--- allocated. No commit: the slot has changed, or is at its last serial. No install: the image isn't
--- accepted, memory can't be allocated, or the slot is at its last serial. Nothing is removed or
--- described. No answer is sent: its exchange's lifetime has passed, the job has no exchange, or it
--- has no message ID. A lease gets no message ID, or isn't active any more.
+-- the event's call for job k is refused. The constructors are calls with their causes:
+-- - A snapshot gives no ticket: the slot is empty, or memory can't be allocated.
+-- - A commit that wants to write doesn't: the slot has changed, or is at its last serial.
+-- - An install fails: the image isn't accepted, memory can't be allocated, or the slot is at its
+--   last serial.
+-- - A removal or a receipt finds the slot empty, or a removal finds the slot at its last serial.
+-- - An answer isn't sent.
+-- - A lease gets no message ID or no memory, or isn't active any more.
 pub data IsRefusedCall (s : Seen) (k : ℕ) (e : Event) (emitted : Option Emission) : Type 0 where
   NothingTaken : (count : ℕ) (memory : Bool) (readings : List ℕ) (event : e ≡ Take k memory readings) (at : stage s k ≡ ToTake count)
       (why : (memory ≡ false) ⊎ ((slot_at s (slot_of s k)).present ≡ None)) → IsRefusedCall s k e emitted
@@ -73,13 +76,13 @@ pub data IsRefusedCall (s : Seen) (k : ℕ) (e : Event) (emitted : Option Emissi
       (at : stage s k ≡ ToTell turn (turns.ToNote found id)) (stale : entry_out turn (list_at_time (time_at s k now) (watch s (slot_of s k))) ≡ None)
       → IsRefusedCall s k e emitted
 
--- a check of its options refuses a new request, by a code or silently.
+-- a new request is refused by a code, or silently by a check of its options.
 pub data IsRefusedByCheck (s : Seen) (e : Event) : Type 0 where
   ByCode : (m : Message) (answer : ℕ) (refuses : Refuses s e m answer) → IsRefusedByCheck s e
   InSilence : (now : ℕ) (to : Endpoint) (bytes : Bor (List ℕ)) (event : e ≡ Deliver now to bytes) (opens : IsOpening s now to bytes.now)
       (silent : verdict opens.message ≡ IsSilent) → IsRefusedByCheck s e
 
--- the snapshot of a lease that is out finds the slot empty.
+-- the snapshot of an active lease finds the slot empty.
 pub record FindsTurnMissing (s : Seen) (k : ℕ) (e : Event) (turn : Turn) : Type 0 where
   pub memory : Bool
   pub readings : List ℕ
@@ -91,7 +94,7 @@ pub record FindsTurnMissing (s : Seen) (k : ℕ) (e : Event) (turn : Turn) : Typ
 
 -- ---- effects
 
--- no slot changes, and no head word increases.
+-- no slot and no head word changes.
 pub record LeavesSlots (before after : Seen) : Type 0 where
   pub first : after.first_serial ≡ before.first_serial
   pub slots : (n : ℕ) → after.changes n ≡ before.changes n
@@ -102,20 +105,19 @@ pub record LeavesFront (before after : Seen) : Type 0 where
   pub exchanges : after.exchanges ≡ before.exchanges
   pub additions : after.additions ≡ before.additions
 
--- the jobs and their stages are unchanged, and so are the observers of each slot, with all their
--- data.
+-- the jobs and their stages are unchanged, and so are the observers of each slot, with all data
+-- about each of them.
 pub record LeavesJobs (before after : Seen) : Type 0 where
   pub tasks : after.tasks ≡ before.tasks
   pub observers : (n : ℕ) → watch after n ≡ watch before n
 
--- everything is unchanged, except the times that were passed and the message IDs that were drawn.
+-- everything is unchanged, except times and the message IDs that were drawn.
 pub record LeavesAll (before after : Seen) : Type 0 where
   pub slots : LeavesSlots before after
   pub jobs : LeavesJobs before after
   pub front : LeavesFront before after
 
--- everything is unchanged except the stage of job k, and the time that was passed to the observers
--- of a slot.
+-- everything is unchanged, except times, the message IDs that were drawn, and the stage of job k.
 pub record LeavesAllButStage (k : ℕ) (before after : Seen) : Type 0 where
   pub slots : LeavesSlots before after
   pub at : Stage
@@ -123,15 +125,16 @@ pub record LeavesAllButStage (k : ℕ) (before after : Seen) : Type 0 where
   pub observers : (n : ℕ) → watch after n ≡ record (watch before n) { time = (watch after n).time }
   pub front : LeavesFront before after
 
--- everything is unchanged except that the request has its exchange.
+-- everything is unchanged, except that the request's exchange is opened, and except times and drawn
+-- message IDs.
 pub record LeavesAllButExchange (r : Entry) (s : Seen) : Type 0 where
   pub slots : LeavesSlots s (and_then r s)
   pub jobs : LeavesJobs s (and_then r s)
   pub exchange : OpensOne r s
   pub additions : (and_then r s).additions ≡ s.additions
 
--- everything is unchanged except that the request has its exchange, and that the transfer of this
--- endpoint and slot is removed.
+-- everything is unchanged, except times, drawn message IDs, and two changes: the request's exchange
+-- is opened, and the transfer of this endpoint and slot is removed.
 pub record LeavesAllButTransfer (r : Entry) (s : Seen) (to : Endpoint) (n : ℕ) : Type 0 where
   pub slots : LeavesSlots s (and_then r s)
   pub jobs : LeavesJobs s (and_then r s)
@@ -140,8 +143,8 @@ pub record LeavesAllButTransfer (r : Entry) (s : Seen) (to : Endpoint) (n : ℕ)
   pub others : (from : Endpoint) (m : ℕ) → same_key to n from m ≡ false →
       bytes_held (and_then r s).time from m (transfers (and_then r s).additions) ≡ bytes_held (and_then r s).time from m (transfers s.additions)
 
--- everything is unchanged except the stage of job k, and that the lease's observer records that the
--- snapshot found the slot empty.
+-- everything is unchanged, except the stage of job k and the entry of the lease's observer. The
+-- entry records that the snapshot found the slot empty.
 pub record LeavesAllButTurn (k : ℕ) (turn : Turn) (before after : Seen) : Type 0 where
   pub slots : LeavesSlots before after
   pub at : Stage
@@ -150,7 +153,7 @@ pub record LeavesAllButTurn (k : ℕ) (turn : Turn) (before after : Seen) : Type
   pub missing : watch after (slot_of before k) ≡ turn_missed turn (list_at_time (before.shard_time (slot_of before k % 8)) (watch before (slot_of before k)))
   pub front : LeavesFront before after
 
--- sender of the datagram that an event delivers.
+-- the sender of the datagram that an event delivers.
 abbrev pub sender : Event → Endpoint
 sender (Deliver now to bytes) = to
 sender other = record { ip = []; port = 0 }

@@ -20,15 +20,16 @@ use Rattle.fc_core.specs.Replies.{Says}
 
 -- ---- refusals
 
--- a request that passes each check of its options is to change or remove the program of a slot, and
--- its endpoint isn't a manager's: 4.03 (Forbidden).
+-- a request passes each check of its options and is to install or remove a program, but its
+-- endpoint isn't a manager's. So it is refused by 4.03 (Forbidden), 131.
 pub record IsForbidden (s : Seen) (to : Endpoint) (m : Message) (answer : ℕ) : Type 0 where
   pub asked : Asked
   pub asks : verdict m ≡ IsAsked asked
   pub allowed : is_allowed s.policy.managers to asked.action ≡ false
   pub answer_is : answer ≡ 131
 
--- a check of its options refuses a request by this code, or its endpoint isn't allowed to send it.
+-- a request is refused by this code: a check of its options refuses it, or its endpoint isn't
+-- allowed to send it.
 abbrev pub IsRefusal : Seen → Endpoint → Message → ℕ → Type 0
 IsRefusal s to m answer = (verdict m ≡ IsRefused answer) ⊎ IsForbidden s to m answer
 
@@ -39,19 +40,19 @@ pub record IsRefusedAnew (s : Seen) (now : ℕ) (to : Endpoint) (bytes : List �
   pub read : reading_of bytes ≡ Ok m
   pub refuses : IsRefusal s to m answer
 
--- the event delivers such a request.
+-- the event delivers a new request that is refused by this code.
 abbrev pub Refuses : Seen → Event → Message → ℕ → Type 0
 Refuses s (Deliver now to bytes) m answer = IsRefusedAnew s now to bytes.now m answer
 Refuses s other m answer = ⊥
 
--- the datagram is a confirmable message with this message ID and a format error, or one that isn't
--- a request: a ping, whose code is 0.00, or a message of a class other than 0 (RFC 7252, section
--- 4.2).
+-- the datagram is a confirmable message with this message ID, and is rejected. It has a format
+-- error, or it isn't a request: it is a ping, whose code is 0.00, or has a code of a class other
+-- than 0 (RFC 7252, section 4.2).
 pub data IsRejected (bytes : List ℕ) (id : ℕ) : Type 0 where
   FormatError : (read : reading_of bytes ≡ Err (bad.Reset id)) → IsRejected bytes id
   NoRequest : (m : Message) (read : reading_of bytes ≡ Ok m) (kind : m.kind ≡ Confirmable) (code : (m.code ≡ 0) ⊎ (32 ≤ m.code)) (own : m.id ≡ id) → IsRejected bytes id
 
--- the event delivers such a datagram from an endpoint.
+-- the event delivers a datagram from this endpoint that is rejected with this message ID.
 abbrev pub Rejects : Event → Endpoint → ℕ → Type 0
 Rejects (Deliver now from bytes) to id = (from ≡ to) × IsRejected bytes.now id
 Rejects other to id = ⊥
@@ -63,8 +64,8 @@ reset_to to id = record { to = to; bytes = record { items = 112 ∷ 0 ∷ (id / 
 
 -- ---- answers
 
--- the emission answers the job with this content: to its client's endpoint, with this type and
--- message ID, and with the request's token.
+-- the emission is the answer of the job with this content. It is sent to the client's endpoint,
+-- with this type and message ID, and with the request's token.
 pub record IsAnswerTo (j : Job) (content : Content) (kind : MessageType) (id : ℕ) (e : Emission) : Type 0 where
   pub response : Response
   pub says : Says j content response

@@ -4,7 +4,7 @@ use Rattle.fc_core.specs.declared.event.Event.{Event}
 use Rattle.fc_core.specs.declared.event.Event.TheVariants.{Due, ShardTick, Signal}
 use Rattle.fc_core.specs.History.{Seen}
 
--- the event names a shard that doesn't exist: there are eight, from 0.
+-- the event names a shard that doesn't exist. The eight shards have the numbers 0 to 7.
 abbrev pub IsOfNoShard : Event → Type 0
 IsOfNoShard (Due shard now) = 8 ≤ shard
 IsOfNoShard (Signal shard to id reset) = 8 ≤ shard

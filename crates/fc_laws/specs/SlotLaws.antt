@@ -19,15 +19,15 @@ use Rattle.fc_core.specs.History.{Entry, History, Seen, seen, and_then, job, slo
 use Rattle.fc_core.specs.Laws.{Snapshot, slot_of, snapshots_of}
 use Rattle.fc_core.specs.Stages.{image_of}
 
--- a job that is to publish its slot's new head word.
+-- the job is to publish its slot's new head word.
 abbrev pub IsToRaise : Stage → Type 0
 IsToRaise (ToRaise word content) = Unit {0}
 IsToRaise other = ⊥
 
 -- ---- changes of a slot
 
--- the event installs an accepted image, by its job at the job's stage and in the job's slot, with
--- memory for the program. The job determines the variables that the install leaves.
+-- the event is the install of an accepted image by a job of slot n at that stage, with memory for
+-- the program. The job determines the variables that the install leaves.
 pub record IsInstall (r : Entry) (s : Seen) (n : ℕ) : Type 0 where
   pub number : ℕ
   pub program : Program
@@ -38,13 +38,13 @@ pub record IsInstall (r : Entry) (s : Seen) (n : ℕ) : Type 0 where
   pub below : (slot_at s n).serial < 9223372036854775807
   pub change : (and_then r s).changes n ≡ Installed program (initial_vars_of (job s number).ask) ∷ s.changes n
 
--- a job that is to install an accepted program, below the last serial of its slot.
+-- job k is to install an accepted program, and its slot is below the last serial.
 pub record IsToInstall (s : Seen) (k : ℕ) (p : Program) : Type 0 where
   pub at : stage s k ≡ ToInstall
   pub accepted : judged (image_of (job s k).ask) ≡ Accepts p
   pub below : (slot_at s (slot_of s k)).serial < 9223372036854775807
 
--- inputs whose job requests the install of this image, and determines the variables that the
+-- inputs of a transition whose job installs this image. The job determines the variables that the
 -- install leaves.
 abbrev pub inputs_installing : ArrayVec ℕ → InitialVars → Inputs → Inputs
 inputs_installing image initial x = record x { job = record x.job { ask = Asks image initial } }
@@ -53,7 +53,7 @@ inputs_installing image initial x = record x { job = record x.job { ask = Asks i
 abbrev pub vars_at : Seen → ℕ → List ℕ
 vars_at s n = vars_in (slot_at s n).present
 
--- the event is the commit of a run, by its job at the job's stage and in the job's slot.
+-- the event is the commit of a run by a job of slot n at that stage.
 pub record IsWriting (r : Entry) (s : Seen) (n : ℕ) : Type 0 where
   pub number : ℕ
   pub now : ℕ
@@ -64,7 +64,7 @@ pub record IsWriting (r : Entry) (s : Seen) (n : ℕ) : Type 0 where
   pub slot : slot_of s number ≡ n
   pub change : (and_then r s).changes n ≡ Committed (commit_of ticket) ∷ s.changes n
 
--- the event removes the slot's program, by its job at the job's stage.
+-- the event is the removal of a program by a job of slot n at that stage.
 pub record IsRemoving (r : Entry) (s : Seen) (n : ℕ) : Type 0 where
   pub number : ℕ
   pub found : Present
@@ -75,7 +75,7 @@ pub record IsRemoving (r : Entry) (s : Seen) (n : ℕ) : Type 0 where
   pub below : (slot_at s n).serial < 9223372036854775807
   pub change : (and_then r s).changes n ≡ Removed ∷ s.changes n
 
--- effect of an event on a slot.
+-- the effect of an event on slot n: nothing, an install, a commit or a removal.
 pub data ChangesBy (r : Entry) (s : Seen) (n : ℕ) : Type 0 where
   Nothing : (is : (and_then r s).changes n ≡ s.changes n) → ChangesBy r s n
   Installs : (is : IsInstall r s n) → ChangesBy r s n
@@ -96,13 +96,13 @@ AllOfImages (Removed ∷ cs) = AllOfImages cs
 
 -- ---- commits
 
--- the slot's changes are those before the newest of these snapshots.
+-- the newest of these snapshots was taken after exactly these changes of the slot.
 abbrev pub IsUnchanged : List Snapshot → List Change → Type 0
 IsUnchanged [] cs = ⊥
 IsUnchanged (t ∷ ts) cs = cs ≡ t.changes
 
--- the run of the ticket answers a POST with a code of class 2; its slot hasn't changed since the
--- job's last snapshot, and isn't at the last serial.
+-- the run of the ticket answers a POST with a code of class 2. The slot hasn't changed since the
+-- job's last snapshot, and isn't at its last serial.
 pub record IsWritten (h : History) (k : ℕ) (t : Ticket) : Type 0 where
   pub post : t.request.method ≡ Post
   pub class : code_class (meaning_at t).code ≡ 2

@@ -10,7 +10,7 @@ use Rattle.fc_core.specs.History.{Entry, History, Begins, Then, did, seen}
 use Rattle.fc_core.specs.Laws.{followed_by}
 use Rattle.fc_laws.specs.ExchangeLaws.{HasExchange}
 
--- the job is that of a POST of slot n's resource from 0.0.0.0:0, which isn't confirmable. It has
+-- the job is that of a POST of slot n's resource from 0.0.0.0:0. The POST isn't confirmable. It has
 -- neither a token, nor an option besides its path, nor a payload (RFC 7252, section 5.8.2). No
 -- exchange is opened for it.
 pub record IsPostOfTimer (n : ℕ) (j : Job) : Type 0 where
@@ -34,7 +34,7 @@ pub record IsOfFire (n k : ℕ) (h : History) : Type 0 where
   pub is : h ≡ followed_by (Then before (did (Fire n now) emitted)) since
   pub number : k ≡ length (seen before).tasks
 
--- the event isn't that of a timer that fires.
+-- the event isn't the `Fire` of a timer.
 abbrev pub IsNoFire : Event → Type 0
 IsNoFire (Fire slot now) = ⊥
 IsNoFire other = Unit {0}

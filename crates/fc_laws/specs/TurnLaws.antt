@@ -24,18 +24,19 @@ use Rattle.fc_core.specs.History.{Entry, Seen, overdue_in, stage, watch}
 use Rattle.fc_core.specs.Laws.{slot_of}
 use Rattle.fc_laws.specs.ObserveLaws.{is_held}
 
--- time of the shard of a job's slot, after this time is passed to the shard.
+-- the time of the shard of job k's slot, after the time `now` is passed to the shard.
 abbrev pub time_at : Seen → ℕ → ℕ → ℕ
 time_at s k now = max (s.shard_time (slot_of s k % 8)) now
 
--- a ticket's response: if its run means a 2.05 (Content), the snapshot's serial is its ETag and
--- sequence number.
+-- the response to the run of a ticket. If the run means a 2.05 (Content), the snapshot's serial is
+-- the ETag and the sequence number.
 abbrev pub response_of : Ticket → Response
 response_of t = ran_response (meaning_at t).code (cut_for t.block (meaning_at t).reply) t.serial true
 
--- the emission is a notification of the entry that has this active lease at a time. It is sent to
--- that entry's endpoint, with the entry's token. It is confirmable if `confirm_after` ms have
--- passed since the entry's last confirmable notification.
+-- the emission is a notification to the observer whose entry has this lease, active at this time.
+-- The emission is sent to the entry's endpoint, with the entry's token. The message is confirmable
+-- if `confirm_after` ms have passed since the entry was registered or last sent a confirmable
+-- notification.
 pub record Notifies (turn : Turn) (id at confirm_after : ℕ) (w : ObserverList) (response : Response) (e : Emission) : Type 0 where
   pub entry : ObserverEntry
   pub held : Contains w.held entry
@@ -51,7 +52,8 @@ pub record Notifies (turn : Turn) (id at confirm_after : ℕ) (w : ObserverList)
 abbrev pub note_as : MessageType → ℕ → ObserverEntry → Response → Emission
 note_as kind id entry response = sent_in (record { to = entry.endpoint; kind = kind; id = id; token = entry.token.items }) response
 
--- notification of an observer of this job's slot, by the policy.
+-- the emission is the notification of this lease, to an observer of job k's slot, by the server's
+-- policy.
 abbrev pub NotifiesOf : Seen → ℕ → ℕ → Turn → ℕ → Response → Emission → Type 0
 NotifiesOf s k now turn id response e = Notifies turn id (time_at s k now) s.policy.confirm_after (watch s (slot_of s k)) response e
 
@@ -59,7 +61,7 @@ NotifiesOf s k now turn id response e = Notifies turn id (time_at s k now) s.pol
 abbrev pub HasLapsed : Turn → ℕ → ObserverEntry → Type 0
 HasLapsed turn at o = (since : ℕ) (missing : Bool) → o.phase ≡ TurnOut turn.number since missing → since + 247000 ≤ at
 
--- an emission to an observer in a list: to the endpoint of one of its entries, with its token.
+-- the emission is sent to an observer in the list, to the endpoint and with the token of its entry.
 pub record IsToHeld (w : ObserverList) (e : Emission) : Type 0 where
   pub entry : ObserverEntry
   pub held : is_held entry.endpoint entry.token.items w ≡ true
@@ -68,8 +70,8 @@ pub record IsToHeld (w : ObserverList) (e : Emission) : Type 0 where
   pub response : Response
   pub is : e ≡ sent_in (record { to = entry.endpoint; kind = kind; id = id; token = entry.token.items }) response
 
--- an emission is the outstanding notification of an observer in a list, retransmitted unchanged
--- less than four times.
+-- the emission is the outstanding notification of an observer in the list, unchanged. It was
+-- retransmitted less than four times before.
 pub record Resends (w : ObserverList) (e : Emission) : Type 0 where
   pub entry : ObserverEntry
   pub held : is_held entry.endpoint entry.token.items w ≡ true
@@ -130,8 +132,7 @@ abbrev pub IsNoContent : Option Ticket → Type 0
 IsNoContent None = Unit {0}
 IsNoContent (Some t) = (meaning_at t).code ≡ 69 → ⊥
 
--- an observer is removed by the notification of its active lease, if that notification isn't a 2.05
--- (Content).
+-- an observer is removed by the notification of its active lease, which isn't a 2.05 (Content).
 pub record IsTurnedAway (r : Entry) (s : Seen) (n : ℕ) (to : Endpoint) (token : List ℕ) : Type 0 where
   pub number : ℕ
   pub now : ℕ
@@ -148,7 +149,7 @@ pub record IsTurnedAway (r : Entry) (s : Seen) (n : ℕ) (to : Endpoint) (token 
   pub answer : IsNoContent found
 
 -- the event removes the client with this endpoint and token from the observers of slot n, in one of
--- these four ways.
+-- four ways.
 pub data Removes (r : Entry) (s : Seen) (n : ℕ) (to : Endpoint) (token : List ℕ) : Type 0 where
   ByCancellation : (w : Cancels r s n to token) → Removes r s n to token
   ByReset : (w : Resets r s n to token) → Removes r s n to token

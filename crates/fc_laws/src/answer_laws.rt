@@ -20,7 +20,7 @@ ghost use Rattle.fc_kinds.specs.Meaning.{Input, IsRun, Program, meant};
 ghost use Rattle.fc_registry.specs.Record.{code_class};
 ghost use Rattle.std.specs.Prelude.{ℕ, ◌⊎◌, ◌++◌, ◌<◌, ◌≤◌, Bool, List, None, Option, Some, false, length, take, true, ◌≡◌};
 
-/// A job that has an answer after an event had it before, or the event caused it.
+/// A job's answer after an event was its answer before, or the event caused it.
 ///
 /// The causes of each answer:
 ///
@@ -29,28 +29,29 @@ ghost use Rattle.std.specs.Prelude.{ℕ, ◌⊎◌, ◌++◌, ◌<◌, ◌≤◌
 /// - 4.04 (Not Found): a snapshot or a receipt finds the slot empty.
 /// - 2.03 (Valid): the slot's head word is that of a program at a serial that the request names.
 /// - 2.02 (Deleted): a removal.
-/// - The code of a run, with the requested block of its reply: the commit of the run. If the run
-///   wants to write, only a commit that may write is a cause.
-/// - The receipt of an install: it is the program's, its version is the slot's new serial, and it
-///   says whether the slot was empty.
-/// - The receipt of a slot: it is the program's, with the serial of the program's install.
-/// - A list of head words: it has 64.
+/// - The code of a run, with the requested block of the run's reply: the commit of the run. If the
+///   run wants to write, only a commit that may write is a cause.
+/// - The receipt of an install: the install. The receipt is that of the program, its version is the
+///   slot's new serial, and it says whether the slot was empty.
+/// - The receipt of a slot: the reading of the receipt. The receipt is that of the slot's program,
+///   with the serial of the program's install.
+/// - A list of head words: the reading of the last of the list's 64 words.
 pub fn answers_have_causes()
     ensures { (h : History) (r : Entry) (k : ℕ) (c : Content)
         → answer_at (stage (seen (Then h r)) k) ≡ Some c
         → (answer_at (stage (seen h) k) ≡ Some c) ⊎ Causes h r k c }
 {}
 
-/// A slot is empty after its job's removal has made the answer 2.02 (Deleted).
+/// A slot is empty after the removal that makes a job's answer 2.02 (Deleted).
 pub fn deleted_slots_are_empty()
     ensures { (h : History) (r : Entry) (k : ℕ) → HasCome (seen h) k
         → answer_at (stage (seen (Then h r)) k) ≡ Some Deleted
         → (answer_at (stage (seen h) k) ≡ Some Deleted) ⊎ ((slot_at (seen (Then h r)) (slot_of (seen h) k)).present ≡ None) }
 {}
 
-/// A snapshot that finds the slot empty makes the answer 4.04 (Not Found).
+/// A snapshot that finds the slot empty makes the job's answer 4.04 (Not Found).
 ///
-/// The snapshot is at its stage; memory may be available or not.
+/// The job is at the stage of its snapshot; memory may be available or not.
 pub fn empty_slots_are_missing()
     ensures { (s : Seen) (k count : ℕ) (memory : Bool) (readings : List ℕ) (o : Option Emission) → stage s k ≡ ToTake count
         → (slot_at s (slot_of s k)).present ≡ None
@@ -59,9 +60,10 @@ pub fn empty_slots_are_missing()
 
 /// The time of the front, and of a shard, is the latest time passed to it.
 ///
-/// Deliveries, ticks and timers that fire pass a time to the front. So do, at their stage, answers,
-/// and leases that draw a message ID. Requests for a lease, and ticks, pass a time to a shard. So
-/// do the jobs of its slots that commit, notify or release their lease at their stage.
+/// Deliveries, ticks and timers that fire pass a time to the front. So does a job at the right
+/// stage that is answered, or that draws a message ID for a lease. Requests for a lease, and ticks,
+/// pass a time to a shard. So does a job at the right stage that commits, notifies or releases its
+/// lease in a slot of the shard.
 pub fn times_are_the_greatest()
     ensures front { (h : History) → (seen h).time ≡ greatest (times_of h) }
     ensures shard { (h : History) (i : ℕ) → (seen h).shard_time i ≡ greatest (shard_times_of i h) }
@@ -69,8 +71,8 @@ pub fn times_are_the_greatest()
 
 /// Without a requested block, an answer of at most 1,024 bytes is sent complete.
 ///
-/// It then has no Block2. Of a longer answer the first 1,024 bytes are sent as block 0 of that
-/// size, with more to follow. So the reply to a POST is sent complete.
+/// An answer that is sent complete has no Block2. Of a longer answer the first 1,024 bytes are sent
+/// as block 0 of that size, with more to follow. The reply to a POST is always sent complete.
 pub fn unasked_answers_are_cut_at_1024()
     ensures whole { (body : List ℕ) → length body ≤ 1024
         → cut_for None body ≡ Some (record { bytes = body; place = None }) }
@@ -89,18 +91,19 @@ pub fn errors_carry_no_block()
         → ran_response answer cut serial observed ≡ bare answer }
 {}
 
-/// Each answer has its code, given by its byte (RFC 7252, section 12.1.2).
+/// Each answer has its code, given by the code's byte (RFC 7252, section 12.1.2).
 ///
-/// - The receipt of an install: 2.01 (Created), 65, if the slot was empty, and otherwise 2.04
+/// - The receipt of an install is a 2.01 (Created), 65, if the slot was empty, and otherwise a 2.04
 ///   (Changed), 68.
-/// - A removal: 2.02 (Deleted), 66.
-/// - A match: 2.03 (Valid), 67.
-/// - An empty slot: 4.04 (Not Found), 132.
-/// - A job that can't be executed: 5.03 (Service Unavailable), 163.
-/// - A refused image: 4.00 (Bad Request), 128.
-/// - The receipt of a slot, and the list of slots: 2.05 (Content), 69.
-/// - A run: its own code.
-/// - A 2.05 whose requested block begins at or past the end: 4.00.
+/// - The answer of a removal is a 2.02 (Deleted), 66.
+/// - The answer of a job whose ETag matches is a 2.03 (Valid), 67.
+/// - The answer for an empty slot is a 4.04 (Not Found), 132.
+/// - The answer of a job that can't be executed is a 5.03 (Service Unavailable), 163.
+/// - The answer to a refused image is a 4.00 (Bad Request), 128.
+/// - The receipt of a slot, and the list of slots, are a 2.05 (Content), 69.
+/// - The answer of a run has the run's own code.
+/// - An answer that would be a 2.05 is a 4.00 if the requested block begins at or past the end of
+///   the answer.
 pub fn answers_have_their_codes()
     ensures created { (j : Job) (receipt : Receipt) (r : Response) → Says j (Made receipt true) r → r.code ≡ 65 }
     ensures changed { (j : Job) (receipt : Receipt) (r : Response) → Says j (Made receipt false) r → r.code ≡ 68 }

@@ -15,12 +15,12 @@ ghost use Rattle.fc_registry.specs.Calls.{initial_vars_of};
 ghost use Rattle.fc_core.specs.Receiving.{initial_vars_by};
 ghost use Rattle.std.specs.Prelude.{ℕ, ◌≡◌, ◌≢◌, ◌↔◌, ◌<◌, ◌≤◌, ◌∷◌, [], None, Some, codes, length, max, true};
 
-/// A job has the request of its message (RFC 7252, section 5.8).
+/// A job has the request of its message, by the code and path (RFC 7252, 5.8).
 ///
 /// - `/r/N`: a GET, code 1, and a POST, code 2, run slot N's program on the message's
 ///   Content-Format, query and payload.
-/// - `/p/N`: a PUT, code 3, without Block1 installs the payload, a DELETE, code 4, removes the
-///   program, and a GET describes it.
+/// - `/p/N`: a PUT, code 3, without Block1 installs the payload. A DELETE, code 4, removes the
+///   program. A GET describes the program.
 /// - `/.well-known/core`: a GET lists the slots.
 ///
 /// No other code produces a job.
@@ -44,9 +44,9 @@ pub fn jobs_ask_what_their_messages_say()
 
 /// A PUT of `/p/N` keeps the variables exactly if its only query option is `keep`.
 ///
-/// The query's options are the Uri-Query options of RFC 7252, section 5.10.1. Neither `keep=1`, nor
-/// `keeps`, nor `keep` twice keeps them. For a body in blocks the request with the last block
-/// counts.
+/// The query options are the Uri-Query options of RFC 7252, section 5.10.1. Neither `keep=1`, nor
+/// `keeps`, nor `keep` twice keeps the variables. For a body in blocks, the query of the request
+/// with the last block decides.
 pub fn puts_keep_variables_by_their_query()
     ensures keep { (r : Entry) (s : Seen) (from : Endpoint) (m : Message) (j : Job) (n : ℕ) → n < 64 →
         BringsJob r s from m j → Requests m 3 (program_path n) → values option.URI_QUERY m ≡ codes "keep" ∷ [] →
@@ -56,10 +56,10 @@ pub fn puts_keep_variables_by_their_query()
         initial_vars_of j.ask ≡ Zeros }
 {}
 
-/// A job has its message's endpoint, message ID, token and slot.
+/// A job has the endpoint, message ID, token and slot of its message.
 ///
-/// It also has the exchange that its delivery opens. It is confirmable exactly if its message is,
-/// and it isn't an observer's lease.
+/// The job's exchange is the one that the message's delivery opens. The job is confirmable exactly
+/// if the message is, and it isn't that of an observer's lease.
 pub fn jobs_are_of_their_messages()
     ensures endpoint { (r : Entry) (s : Seen) (from : Endpoint) (m : Message) (j : Job) →
         BringsJob r s from m j → j.origin.endpoint ≡ from }
@@ -81,10 +81,10 @@ pub fn jobs_are_of_their_messages()
 
 /// A job has the options of its message.
 ///
-/// Its block is a GET's Block2 or a PUT's Block1 (RFC 7959, section 2.1). Its Observe is that of a
-/// request of `/r/N` (RFC 7641, section 2). Its ETags are the first four of eight bytes (RFC 7252,
-/// section 5.10.6). It has no ETags if its client registers, by Observe 0, or cancels, by Observe
-/// 1.
+/// The job's block is a GET's Block2 or a PUT's Block1 (RFC 7959, section 2.1). The job's Observe
+/// is that of a request of `/r/N` (RFC 7641, section 2). The job's ETags are the message's first
+/// four ETags of eight bytes (RFC 7252, section 5.10.6). The job has no ETags if the message
+/// registers the client, by Observe 0, or cancels, by Observe 1.
 pub fn jobs_have_their_messages_options()
     ensures block2 { (r : Entry) (s : Seen) (from : Endpoint) (m : Message) (j : Job) →
         BringsJob r s from m j → m.code ≡ 1 → j.block ≡ block_in option.BLOCK2 m }

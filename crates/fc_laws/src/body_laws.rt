@@ -22,12 +22,13 @@ use coap_block::laws::{
     transfers_are_payloads_joined,
 };
 
-/// Blocks are joined (RFC 7959, section 2.5).
+/// Blocks are joined to a body (RFC 7959, section 2.5).
 ///
-/// A new request with a block is served exactly if the block is the last one and fits after those
-/// that its endpoint sent for its slot. The body consists of the payloads of those blocks since
-/// block number 0, joined, and of the request's own payload. The request is answered 2.31
-/// (Continue) with its Block1 exactly if it fits in this way and more blocks follow. A body has at
+/// A new request with a block is served exactly if the block is the last one and fits. Whether
+/// a block fits depends on the earlier blocks of its endpoint for its slot. Block 0 starts a new
+/// body; each other block begins at the end of the earlier ones. The body consists of the payloads
+/// of the blocks since block number 0, joined, and of the request's own payload. The request is answered
+/// 2.31 (Continue) with its Block1 exactly if its block fits and more blocks follow. A body has at
 /// most 8,208 bytes, and at most 16 transfers are stored. The times of added payloads never
 /// decrease.
 pub fn blocks_are_joined()
@@ -53,9 +54,9 @@ pub fn blocks_are_joined()
 /// Each new request that passes the checks of its options adds its payload.
 ///
 /// The request is no duplicate, its endpoint is allowed to send it, and there is space for its
-/// exchange. The payload is added with its block if it has one; no other event adds any. So a
-/// duplicate isn't added twice, and a request that is refused before its payload is examined leaves
-/// the transfers unchanged.
+/// exchange. The payload is added together with the request's block, if there is one. No other
+/// event adds a payload. So a duplicate adds nothing, and a request that is refused before its
+/// payload is examined leaves the transfers unchanged.
 pub fn new_requests_add_their_payloads()
     ensures adds { (e : Entry) (s : Seen) (m : Message) (r : Asked) → Asks s e.event m r
         → (and_then e s).additions ≡ addition_by s e.event r ++ s.additions }
@@ -65,8 +66,9 @@ pub fn new_requests_add_their_payloads()
 
 /// A PUT of slot N whose last block fits makes a job that installs the body.
 ///
-/// The job installs the complete body in slot N, by the query of that last request. A PUT whose
-/// block fits and isn't the last one makes no job, and is answered 2.31 (Continue) with its Block1.
+/// The job installs the complete body in slot N, and the query of the last request decides about
+/// the variables. A PUT whose block fits and isn't the last one makes no job, and is answered 2.31
+/// (Continue) with its Block1.
 pub fn blocks_that_fit_are_answered()
     ensures installs { (e : Entry) (h : History) (m : Message) (r : Asked) (n : ℕ) (b : Place) (body : List ℕ) →
         Asks (seen h) e.event m r → PutsBlock r n b → b.more ≡ false → FitsBy (seen h) e.event r b body
@@ -87,10 +89,11 @@ pub fn blocks_that_fit_are_answered()
 ///
 /// - 5.03 (Service Unavailable), whose byte is 163, exactly if the block has number 0 and 16 other
 ///   transfers are in progress.
-/// - 4.08 (Request Entity Incomplete), 136, exactly if it has another number and doesn't begin at
-///   the end of the blocks before it.
-/// - 4.00 (Bad Request), 128, exactly if its payload doesn't have the length of its block.
-/// - 4.13 (Request Entity Too Large), 141, exactly if the sum is above 8,208 bytes.
+/// - 4.08 (Request Entity Incomplete), 136, exactly if the block has another number and doesn't
+///   begin at the end of the blocks before it.
+/// - 4.00 (Bad Request), 128, exactly if the request's payload doesn't have the length of the
+///   block.
+/// - 4.13 (Request Entity Too Large), 141, exactly if the sum of the payloads is above 8,208 bytes.
 ///
 /// Such a block makes no job. The only other immediate answer is 2.31 (Continue), 95.
 pub fn refused_blocks_have_causes()
@@ -121,7 +124,7 @@ pub fn refused_blocks_have_causes()
     refusals_have_only_their_causes();
 }
 
-/// A GET that names a block is answered by the block with that number and size.
+/// A GET that requests a block is answered by the block with that number and size.
 ///
 /// The request's "more" bit has no effect.
 pub fn asked_blocks_are_cut()

@@ -17,10 +17,10 @@ ghost use Rattle.std.specs.Prelude.{ℕ, ◌+◌, ◌%◌, ◌<◌, ◌≤◌, �
 
 /// A duplicate opens no exchange, makes no job, and adds and draws nothing.
 ///
-/// A duplicate is a request from an endpoint and with a message ID for which an exchange was opened
-/// less than 247,000 ms before. It adds no payload to a transfer, and draws no message ID. It emits
-/// the bytes that are stored for that exchange if the exchange's request was confirmable and was
-/// answered, and otherwise nothing.
+/// A duplicate is a request with an endpoint and a message ID for which an exchange was opened less
+/// than 247,000 ms before. The duplicate adds no payload to a transfer, and draws no message ID. If
+/// the request of that exchange was confirmable and was answered, the stored bytes of the answer
+/// are emitted. Otherwise nothing is emitted.
 pub fn repeats_do_nothing()
     ensures exchanges { (r : Entry) (s : Seen) (e : Exchange) → Repeats s r.event e
         → (and_then r s).exchanges ≡ s.exchanges }
@@ -35,10 +35,10 @@ pub fn repeats_do_nothing()
 
 /// A new request for which there is space opens an exchange, and nothing else does.
 ///
-/// The request is no duplicate. There is space if fewer than 2^64 - 1 exchanges were ever opened.
-/// Within the last 247,000 ms, fewer than the policy's limit must have been opened, and fewer of
-/// the request's address than a share. The exchange has the delivery's endpoint, message ID and
-/// type, and is opened at the front's time. No exchange is ever lost.
+/// The request is no duplicate. There is space under three conditions. Fewer than 2^64 - 1
+/// exchanges were ever opened. Fewer than the policy's limit were opened in the last 247,000 ms.
+/// Fewer than a share of these are from the request's address. The exchange has the delivery's
+/// endpoint, message ID and type, and is opened at the front's time. No exchange is ever lost.
 pub fn new_requests_open_exchanges()
     ensures opens { (r : Entry) (s : Seen) → Opens s r.event → OpensOne r s }
     ensures others { (r : Entry) (s : Seen) → (Opens s r.event → ⊥)
@@ -48,9 +48,9 @@ pub fn new_requests_open_exchanges()
 /// A new request without space for its exchange is answered 5.03.
 ///
 /// 5.03 is Service Unavailable, and its byte is 163. The request is no duplicate, and its address
-/// is below its share. There is no space since, within the last 247,000 ms, as many exchanges as
-/// the policy's limit were opened, or 2^64 - 1 were ever opened. The request opens no exchange, so
-/// nothing of it is stored; it makes no job, and adds no payload to a transfer.
+/// is below its share. There is no space if as many exchanges as the policy's limit were opened in
+/// the last 247,000 ms, or if 2^64 - 1 were ever opened. The request opens no exchange, so nothing
+/// of it is stored. It makes no job, and adds no payload to a transfer.
 pub fn requests_without_room_are_unavailable()
     ensures exchanges { (r : Entry) (s : Seen) (m : Message) → FindsNoExchange s r.event m
         → (and_then r s).exchanges ≡ s.exchanges }
@@ -63,9 +63,9 @@ pub fn requests_without_room_are_unavailable()
 
 /// A request is executed at most once within its lifetime.
 ///
-/// Two jobs of requests with one endpoint and message ID arrived at least 247,000 ms apart. Neither
-/// an observer's lease nor the job of a timer is a request's. If no timer has fired, each job
-/// without a lease is a request's.
+/// Suppose that two jobs of requests have one endpoint and one message ID. Then their exchanges
+/// were opened at least 247,000 ms apart. The job of an observer's lease and the job of a timer
+/// aren't jobs of requests. If no timer has fired, each job without a lease is that of a request.
 pub fn requests_are_carried_out_once()
     ensures requests { (h : History) (j k : ℕ) → j < k → HasCome (seen h) k
         → IsOfRequest (job (seen h) j) → IsOfRequest (job (seen h) k)
@@ -82,7 +82,7 @@ pub fn requests_are_carried_out_once()
 /// The server draws its message IDs in order; the one after 65,535 is 0.
 ///
 /// No message ID is drawn twice within less than 247,000 ms. A message ID is available at a time
-/// exactly if it is the next in order and each of its draws was at least 247,000 ms before.
+/// exactly if it is the next one, and each of its draws was at least 247,000 ms before.
 pub fn message_ids_come_in_order()
     ensures order { (h : History) → first_id h < 65536 → AreInOrder (first_id h) (draws_of h) }
     ensures apart { (h : History) → first_id h < 65536 → AreApart (draws_of h) }
@@ -90,12 +90,12 @@ pub fn message_ids_come_in_order()
         ↔ ((id ≡ (first_id h + length (draws_of h)) % 65536) × AllBefore id at (draws_of h)) }
 {}
 
-/// An event draws a message ID exactly if it needs one and one is available.
+/// An event draws a message ID exactly if the event needs one and one is available.
 ///
-/// It needs one if it answers a request that isn't confirmable, either on arrival, or by its job
-/// less than 247,000 ms after its exchange was opened. It also needs one if it is the draw of a
-/// lease, whose notification has its own message ID. The answer of a timer's job, which has no
-/// exchange, needs none.
+/// An event needs one to answer a request that isn't confirmable. The request's delivery answers it
+/// on arrival, or the request's job does less than 247,000 ms after the exchange was opened. The
+/// draw of a lease needs a message ID too. The answer of a timer's job, which has no exchange,
+/// needs none.
 pub fn message_ids_are_drawn_where_needed()
     ensures needed { (h : History) (r : Entry) (id : ℕ) → first_id h < 65536 → NeedsId (seen h) r.event
         → free_id (seen h).ids (seen (Then h r)).time ≡ Some id
@@ -108,11 +108,12 @@ pub fn message_ids_are_drawn_where_needed()
         → max (seen h).time now < opened_at (seen h) k + 247000 → NeedsId (seen h) (Answer k now) }
 {}
 
-/// The answer of a job is sent less than 247,000 ms after its request was opened.
+/// The answer of a job is sent in time or never.
 ///
-/// It is never sent later. In that time it is sent if the job has an exchange, and its request was
-/// confirmable or a message ID of the server is available. If no timer has fired, each job that is
-/// to be answered has an exchange.
+/// In time means less than 247,000 ms after the exchange of the job's request was opened. In that
+/// time the answer of a job with an exchange is sent if the request was confirmable. Otherwise it
+/// is sent if a message ID of the server is available. If no timer has fired, each job that is to
+/// be answered has an exchange.
 pub fn answers_go_out_in_time()
     ensures overdue { (s : Seen) (k now : ℕ) (e : Emission) → Emits s (Answer k now) (Some e)
         → max s.time now < opened_at s k + 247000 }
@@ -126,8 +127,8 @@ pub fn answers_go_out_in_time()
 
 /// The stored answer of an exchange consists of the bytes that were sent.
 ///
-/// The exchange's delivery emitted them, if it was answered immediately, or the `Answer` of its job
-/// did. No other event changes a stored answer.
+/// The exchange's delivery emitted these bytes, if the request was answered immediately; otherwise
+/// the `Answer` of the exchange's job did. No other event changes a stored answer.
 pub fn kept_answers_are_what_went_out()
     ensures opened { (h : History) (r : Entry) → Opens (seen h) r.event → Emits (seen h) r.event r.emitted
         → answers (seen (Then h r)) ≡ answers (seen h) ++ emitted_bytes r.emitted ∷ [] }

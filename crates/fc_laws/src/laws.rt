@@ -15,8 +15,8 @@ ghost use Rattle.std.specs.Prelude.{ℕ, ◌+◌, ◌<◌, ◌≤◌, List, None
 
 /// An event at the wrong stage of its job changes nothing and emits nothing.
 ///
-/// Nothing of the history's summary changes. The same holds for an event of a job that has ended or
-/// never arrived, and for a `Peek` of another head word than the job needs.
+/// The history's summary is unchanged. The same holds for an event of a job that has ended or never
+/// arrived. It holds too for a `Peek` of a head word that the job doesn't need.
 pub fn no_ops_change_nothing()
     ensures seen { (r : Entry) (s : Seen) → is_noop s r.event ≡ true → and_then r s ≡ s }
     ensures emitted { (r : Entry) (s : Seen) → is_noop s r.event ≡ true → Emits s r.event r.emitted
@@ -25,16 +25,16 @@ pub fn no_ops_change_nothing()
 
 /// An event changes the stage of no earlier job except the one that it names.
 ///
-/// Apart from its stage, no event changes an earlier job.
+/// An earlier job is the same after each event, apart from its stage.
 pub fn only_the_named_job_moves()
     ensures stages { (r : Entry) (s : Seen) (k : ℕ) → HasCome s k → (names r.event ≡ Some k → ⊥)
         → stage (and_then r s) k ≡ stage s k }
     ensures jobs { (r : Entry) (s : Seen) (k : ℕ) → HasCome s k → job (and_then r s) k ≡ job s k }
 {}
 
-/// An event changes no slot except that of the job that it names.
+/// An event changes no slot except the slot of the job that it names.
 ///
-/// It changes none if it names no job.
+/// An event that names no job changes no slot.
 pub fn only_the_named_slot_changes()
     ensures named { (r : Entry) (s : Seen) (k n : ℕ) → names r.event ≡ Some k
         → (n ≡ (job s k).origin.slot → ⊥) → (and_then r s).changes n ≡ s.changes n }
@@ -58,9 +58,9 @@ pub fn snapshots_are_few()
 
 /// The answer of a run comes from the last ticket that its job took.
 ///
-/// Its code is what the ticket's program means for the request and for the variables and readings
-/// of the snapshot. Its block is the requested one of the reply that the program means. Its serial
-/// is that of the snapshot.
+/// The answer's code is the one that the ticket's program means for the request and for the
+/// variables and readings of the snapshot. The answer has the requested block of the reply that the
+/// program means. The answer's serial is that of the snapshot.
 pub fn answers_are_of_the_last_snapshot()
     ensures { (h : History) (k : ℕ) (run : RunAnswer) → answer_at (stage (seen h) k) ≡ Some (Ran run)
         → IsOfNewest (snapshots_of h k) run }
@@ -68,9 +68,10 @@ pub fn answers_are_of_the_last_snapshot()
 
 /// Each ticket of a job has a meaning, for a request as for a lease.
 ///
-/// The ticket's program reaches its exit for the request and for the variables and readings of the
-/// snapshot. It takes at most the steps of its longest path, which are at most its budget. This
-/// holds in a history if each program that a snapshot found has a meaning.
+/// A ticket has a meaning if its program reaches its exit for the request and for the variables and
+/// readings of the snapshot. The run takes at most the steps of the program's longest path, which
+/// are at most its budget. The law holds in a history if each program that a snapshot found has a
+/// meaning.
 pub fn held_tickets_have_a_meaning()
     ensures committed { (h : History) (k n : ℕ) (t : Ticket) → AllMean h → stage (seen h) k ≡ ToCommit n t → IsMeant t }
     ensures drawing { (h : History) (k : ℕ) (turn : Turn) (t : Ticket) → AllMean h
@@ -81,7 +82,7 @@ pub fn held_tickets_have_a_meaning()
 
 /// A snapshot has the readings that were passed to it, not those of an earlier one.
 ///
-/// Its run gets these readings, and its commit has them.
+/// The run of the ticket gets these readings, and the commit of the ticket has them.
 pub fn snapshots_keep_their_readings()
     ensures { (s : Seen) (k count : ℕ) (readings : List ℕ) (o : Option Emission) (p : Present) → stage s k ≡ ToTake count
         → (slot_at s (slot_of s k)).present ≡ Some p
@@ -89,7 +90,7 @@ pub fn snapshots_keep_their_readings()
         × ((run_of t).input.readings ≡ readings) × ((commit_of t).readings ≡ readings) }
 {}
 
-/// A job is answered at most once, and has then ended.
+/// A job is answered at most once. A job that was answered has ended.
 pub fn jobs_are_answered_once()
     ensures once { (h : History) (k : ℕ) → answers_of h k ≤ 1 }
     ensures gone { (h : History) (k : ℕ) → 1 ≤ answers_of h k → stage (seen h) k ≡ Gone }
@@ -97,7 +98,7 @@ pub fn jobs_are_answered_once()
 
 /// A job that was answered, or whose worker was lost, has ended.
 ///
-/// No later event changes that.
+/// A job that has ended stays ended, whatever events follow.
 pub fn ended_jobs_stay_ended()
     ensures answered { (s : Seen) (k now : ℕ) (o : Option Emission) (content : Content)
         → stage s k ≡ ToAnswer content → stage (and_then (did (Answer k now) o) s) k ≡ Gone }
@@ -115,7 +116,7 @@ pub fn raises_keep_the_answer()
 
 /// A job without memory for a ticket or an install is answered 5.03.
 ///
-/// 5.03 is Service Unavailable. A job that is to give its answer takes no ticket later.
+/// 5.03 is Service Unavailable. A job that is at the stage of its answer takes no further ticket.
 pub fn refused_memory_ends_a_job()
     ensures take { (s : Seen) (k count : ℕ) (readings : List ℕ) (o : Option Emission) (p : Present) → stage s k ≡ ToTake count
         → (slot_at s (slot_of s k)).present ≡ Some p

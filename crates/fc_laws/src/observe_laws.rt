@@ -18,15 +18,15 @@ ghost use Rattle.fc_core.specs.Laws.{followed_by, slot_of};
 ghost use Rattle.fc_laws.specs.ObserveLaws.{AsksToObserve, BringsTurn, NoneRegisters, Registers, is_among, is_held};
 ghost use Rattle.fc_core.specs.Stages.{run_content};
 
-/// The commit of a GET registers its client, or cancels its observation.
+/// The commit of a GET registers the client, or cancels the client's observation.
 ///
 /// - Observe 0: if the run means a 2.05 (Content), and the GET requests no block or the first, the
-///   client is registered at its shard's time. The answer says that the client observes exactly if
-///   it is among the observers then.
-/// - Observe 1: the client is removed, whatever the code.
+///   client is registered at the shard's time. The answer says that the client observes exactly if
+///   the client is then among the observers.
+/// - Observe 1: the client is removed from the observers, whatever the code.
 ///
-/// Any other commit leaves the observers of its slot unchanged, and each commit leaves those of the
-/// other slots unchanged.
+/// Any other commit leaves the observers of the job's slot unchanged. Each commit leaves the
+/// observers of the other slots unchanged.
 pub fn commits_register_and_cancel()
     ensures registered { (s : Seen) (k now n : ℕ) (t : Ticket) (o : Option Emission) → stage s k ≡ ToCommit n t
         → t.request.method ≡ Get → AsksToObserve t → watch (and_then (did (Commit k now) o) s) (slot_of s k)
@@ -47,8 +47,8 @@ pub fn commits_register_and_cancel()
 
 /// A client becomes an observer only by the commit of its own GET with Observe 0.
 ///
-/// The GET is for the slot that it observes. So a client that was removed, for any reason, isn't
-/// among the slot's observers until it registers again.
+/// The GET is for the slot that the client observes. So a client that was removed, for any reason,
+/// isn't among the slot's observers until the client registers again.
 pub fn observers_come_by_their_commits()
     ensures comes { (r : Entry) (s : Seen) (n : ℕ) (to : Endpoint) (token : List ℕ) → is_held to token (watch (and_then r s) n) ≡ true
         → (is_held to token (watch s n) ≡ true) ⊎ Registers r s n to token }
@@ -58,8 +58,8 @@ pub fn observers_come_by_their_commits()
 
 /// A signal is for the observers of its shard's slots alone.
 ///
-/// In each of these slots a Reset message removes exactly the entries whose last notification it
-/// answers, and an Acknowledgement ends their wait.
+/// In each of these slots a Reset message removes exactly the entries whose last notification the
+/// message answers. An Acknowledgement ends the wait of these entries.
 pub fn signals_are_for_their_shard()
     ensures reset { (s : Seen) (i n id : ℕ) (to : Endpoint) (o : Option Emission) → n % 8 ≡ i
         → watch (and_then (did (Signal i to id true) o) s) n ≡ after_reset to id (watch s n) }
@@ -71,9 +71,10 @@ pub fn signals_are_for_their_shard()
 
 /// A shard grants a lease to the first observer with a pending notification.
 ///
-/// The lease goes to the first such observer of the shard's first slot that has one, and to no
-/// other. The lease makes one job, which runs the observer's request again. If no observer has a
-/// pending notification, there is no job.
+/// The lease is for the shard's first slot that has an observer with a pending notification, and
+/// for the first such observer of that slot. No other observer gets a lease. The lease makes one
+/// job, which runs the observer's request again. If no observer has a pending notification, there
+/// is no job.
 pub fn turns_are_for_the_first_that_is_due()
     ensures found { (s : Seen) (i at k : ℕ) → due_in s i at ≡ Some k
         → (is_due_at s i at k ≡ true) × ((j : ℕ) → j < k → is_due_at s i at j ≡ false) }
@@ -93,7 +94,7 @@ pub fn turns_are_for_the_first_that_is_due()
 
 /// A lease that needs a message ID draws the server's next one.
 ///
-/// If that was drawn less than 247,000 ms before, the lease still needs one.
+/// If the next message ID was drawn less than 247,000 ms before, the lease still needs one.
 pub fn turns_draw_message_ids()
     ensures drawn { (s : Seen) (k now id : ℕ) (turn : Turn) (found : Option Ticket) (o : Option Emission)
         → stage s k ≡ ToTell turn (ToDraw found)
@@ -106,10 +107,10 @@ pub fn turns_draw_message_ids()
         → draws_of (Then h (did (Fresh k now) o)) ≡ record { id = id; at = max (seen h).time now } ∷ draws_of h }
 {}
 
-/// A lease that is released isn't out any more from its shard's time on.
+/// A lease that is released isn't active any more.
 ///
-/// Its job has ended. The observers of other slots don't change. A job whose worker is lost changes
-/// the observers of no slot.
+/// The release is at the time of the slot's shard, and ends the job of the lease. The observers of
+/// other slots don't change. A job whose worker is lost changes the observers of no slot.
 pub fn turns_are_given_up_or_lost()
     ensures given_up { (s : Seen) (k now : ℕ) (turn : Turn) (needs : TurnStage) (o : Option Emission) → stage s k ≡ ToTell turn needs
         → watch (and_then (did (GiveUp k now) o) s) (slot_of s k)
@@ -121,9 +122,10 @@ pub fn turns_are_given_up_or_lost()
     ensures lost { (s : Seen) (k n : ℕ) (o : Option Emission) → watch (and_then (did (Lose k) o) s) n ≡ watch s n }
 {}
 
-/// A tick of a shard is for its first slot with a notification that has timed out.
+/// A tick of a shard is for the first slot with a notification that has timed out.
 ///
-/// It is for no other slot.
+/// The tick leaves the observers of each other slot unchanged. If no notification has timed out, it
+/// leaves those of each slot unchanged.
 pub fn ticks_are_for_the_first_that_is_overdue()
     ensures found { (s : Seen) (i at k : ℕ) → overdue_in s i at ≡ Some k
         → (is_overdue_at s i at k ≡ true) × ((j : ℕ) → j < k → is_overdue_at s i at j ≡ false) }

@@ -27,11 +27,11 @@ ghost use Rattle.fc_laws.specs.PolicyLaws.{AreAmong, IsManaged, IsOneOf, over_sh
 ghost use Rattle.fc_laws.specs.RefusalLaws.{LeavesAll};
 ghost use Rattle.fc_laws.specs.ReplyLaws.{Refuses};
 
-/// A network has the addresses that begin with its bits.
+/// A network contains the addresses that begin with the network's bits.
 ///
 /// 192.0.2.0/25 contains 192.0.2.127, but not 192.0.2.128. 192.0.2.0/24 contains 192.0.2.128, but
-/// not 193.0.2.0. 127.0.0.1/32 contains no other address, also with more than 32 bits. 0.0.0.0/0
-/// contains each address.
+/// not 193.0.2.0. 127.0.0.1/32 doesn't contain 127.0.0.2, and neither does 127.0.0.1/40, since bits
+/// above 32 don't count. 0.0.0.0/0 contains each address.
 pub fn networks_are_prefixes()
     ensures last { is_in (192 ∷ 0 ∷ 2 ∷ 127 ∷ []) (record { ip = 192 ∷ 0 ∷ 2 ∷ 0 ∷ []; bits = 25 }) ≡ true }
     ensures next { is_in (192 ∷ 0 ∷ 2 ∷ 128 ∷ []) (record { ip = 192 ∷ 0 ∷ 2 ∷ 0 ∷ []; bits = 25 }) ≡ false }
@@ -58,8 +58,8 @@ pub fn managers_are_wanted_for_changes_alone()
 
 /// The default policy allows each endpoint to change programs.
 ///
-/// At most 1,024 exchanges are stored, no address is above its share, and a notification is
-/// confirmable after 86,400,000 ms, which is 24 hours.
+/// By the default policy at most 1,024 exchanges are stored, and no address is above its share. A
+/// notification is confirmable after 86,400,000 ms, which is 24 hours.
 pub fn default_policy_allows_all()
     ensures managers { (to : Endpoint) → address_number to.ip < 4294967296 → is_manager default_policy.managers to ≡ true }
     ensures places { places_of default_policy.limits ≡ 1024 }
@@ -69,13 +69,13 @@ pub fn default_policy_allows_all()
 
 /// Each job that installs or removes a program comes from a manager's endpoint.
 ///
-/// A slot changes only by installs, removals and commits of jobs. So no other endpoint changes the
-/// program of a slot.
+/// A slot changes only by installs, removals and commits of jobs. So only a manager's endpoint
+/// changes which program is in a slot.
 pub fn managers_alone_change_programs()
     ensures { (h : History) (k : ℕ) → HasCome (seen h) k → IsManaged (seen h).policy.managers (job (seen h) k) }
 {}
 
-/// A new PUT or DELETE of a program from another endpoint is refused by 4.03.
+/// A new PUT or DELETE of a program is refused by 4.03 if no manager sent it.
 ///
 /// The request passes each check of its options, and its endpoint isn't a manager's. 4.03 is
 /// Forbidden, and its byte is 131.
@@ -85,10 +85,10 @@ pub fn forbidden_changes_are_refused()
         → Refuses s (Deliver now to bytes) m 131 }
 {}
 
-/// The exchanges are within the policy's limits, in all and for each address.
+/// The exchanges are within the policy's limits, in total and for each address.
 ///
-/// From the front's time on, at most `Limits::places` of them are less than 247,000 ms old, and at
-/// most `share` of each address.
+/// From the front's time on, at most `Limits::places` exchanges are less than 247,000 ms old. At
+/// most `share` of these exchanges are from one address.
 pub fn exchanges_are_within_limits()
     ensures all { (h : History) (at : ℕ) → (seen h).time ≤ at → length (held_at (seen h) at) ≤ places_of (seen h).policy.limits }
     ensures shares { (h : History) (at : ℕ) (ip : List ℕ) → (seen h).time ≤ at → shared_at (seen h) at ip ≤ (seen h).policy.limits.share }
@@ -96,9 +96,9 @@ pub fn exchanges_are_within_limits()
 
 /// Each address keeps space for the exchanges of its share.
 ///
-/// Suppose that all stored exchanges belong to some addresses, and a share for each of these fits
-/// into the table. Suppose also that fewer than 2^64 - 1 exchanges were ever opened. Then a new
-/// request from one of these addresses below its share finds space.
+/// Suppose that all stored exchanges belong to some addresses, and that a share for each of these
+/// addresses fits into the table. Suppose also that fewer than 2^64 - 1 exchanges were ever opened.
+/// Then a new request from one of these addresses finds space if that address is below its share.
 pub fn shares_are_kept_free()
     ensures { (h : History) (now : ℕ) (to : Endpoint) (bytes : List ℕ) (m : Message) (ips : List (List ℕ))
         → AreAmong ips (held_at (seen h) (max (seen h).time now)) → IsOneOf to.ip ips
@@ -120,9 +120,9 @@ pub fn requests_above_a_share_change_nothing()
 
 /// A notification is confirmable exactly if the policy's time has passed.
 ///
-/// This is `confirm_after`, in ms, since its observer's registration or last confirmable
-/// notification. None is confirmable a millisecond early, and none is non-confirmable from then on.
-/// By default it is 86,400,000 ms, 24 hours.
+/// The policy's time is `confirm_after`, in ms. It is counted since the observer's registration or
+/// the last confirmable notification to the observer. No notification is confirmable a millisecond
+/// early, and none is non-confirmable from then on. By default the time is 86,400,000 ms, 24 hours.
 pub fn notifications_are_confirmable_in_time()
     ensures in_time { (s : Seen) (k now id : ℕ) (turn : Turn) (response : Response) (e : Emission) (n : NotifiesOf s k now turn id response e)
         → n.entry.confirmed + s.policy.confirm_after ≤ time_at s k now → e ≡ note_as Confirmable id n.entry response }

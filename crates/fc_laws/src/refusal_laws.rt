@@ -13,13 +13,15 @@ use coap_block::laws::blocks_leave_other_transfers;
 
 /// A refusal leaves everything unchanged, with three exceptions.
 ///
-/// The time, a drawn message ID, and the stage of the job whose call was refused may change. The
-/// exceptions:
+/// In every case the time, a drawn message ID, and the stage of the job whose call was refused may
+/// change. The exceptions:
 ///
 /// - A request that a check refuses opens its exchange. A request without space for its exchange
 ///   opens none, and is answered 5.03 (Service Unavailable).
-/// - A refused block opens its exchange too, and the transfer of its endpoint and slot is removed.
-/// - A lease records that its snapshot found the slot empty.
+/// - A refused block opens the exchange of its request, and the transfer of the request's endpoint
+///   and slot is removed.
+/// - If the snapshot of a lease finds the slot empty, the entry of the lease's observer records
+///   that.
 pub fn refusals_leave_all_else()
     ensures turned_down { (r : Entry) (s : Seen) → IsTurnedDown s r.event → LeavesAll s (and_then r s) }
     ensures refused_calls { (r : Entry) (s : Seen) (k : ℕ) → IsRefusedCall s k r.event r.emitted → LeavesAllButStage k s (and_then r s) }

@@ -21,12 +21,12 @@ ghost use Rattle.fc_core.specs.declared.event.Event.TheVariants.{Answer, Deliver
 ghost use Rattle.fc_core.specs.declared.front.Delivered.TheVariants.{Signal};
 ghost use Rattle.fc_core.specs.Stage.{ToAnswer};
 
-/// A request that a check of options refuses is answered by the code of that check.
+/// A request that a check of its options refuses is answered by the check's code.
 ///
 /// The request is no duplicate. A confirmable message with a format error is rejected by a Reset
-/// message with its message ID (RFC 7252, section 4.2). So is a ping, and a confirmable message
-/// that isn't a request. None of these makes a job, and no delivery changes a slot, its observers,
-/// a head word or a shard's time.
+/// message with the same message ID (RFC 7252, section 4.2). So is a ping, and a confirmable
+/// message that isn't a request. Refused requests and rejected messages make no job. No delivery
+/// changes a slot, a slot's observers, a head word or a shard's time.
 pub fn refusals_are_answered_by_their_code()
     ensures refused { (r : Entry) (s : Seen) (m : Message) (answer : ℕ) → Refuses s r.event m answer
         → Emits s r.event r.emitted → r.emitted ≡ bare_by s r.event m answer }
@@ -50,9 +50,9 @@ pub fn refusals_are_answered_by_their_code()
 
 /// An answer is sent to its client's endpoint, with the token of the request.
 ///
-/// A confirmable request is answered in its Acknowledgement, with the request's message ID. Any
+/// A confirmable request is answered in an Acknowledgement, with the request's message ID. Any
 /// other request is answered in a non-confirmable message with the server's next message ID (RFC
-/// 7252, sections 5.2 and 5.3); if that isn't available, nothing is sent.
+/// 7252, sections 5.2 and 5.3). If that message ID isn't available, nothing is sent.
 pub fn answers_go_to_their_clients()
     ensures confirmable { (s : Seen) (k now : ℕ) (content : Content) (e : Emission) → stage s k ≡ ToAnswer content
         → (job s k).confirmable ≡ true → Emits s (Answer k now) (Some e)
@@ -71,8 +71,8 @@ pub fn answers_go_to_their_clients()
 
 /// A signal, an ignored datagram and some non-confirmable requests get no response.
 ///
-/// An Acknowledgement or a Reset message is passed on with the message ID that it answers and with
-/// its type. No response follows such a message, an ignored datagram, or a non-confirmable request
+/// An Acknowledgement or a Reset message is passed on as a signal: the message ID that it answers,
+/// and its type. No response follows a signal, an ignored datagram, or a non-confirmable request
 /// with an unrecognised critical option (RFC 7252, sections 4.2, 4.3 and 5.4.1).
 pub fn some_messages_get_no_answer()
     ensures handed_on { (f : FrontState) (to : Endpoint) (bytes : List ℕ) (m : Message) (reset : Bool) → reading_of bytes ≡ Ok m

@@ -14,10 +14,10 @@ ghost use Rattle.fc_registry.specs.Receipts.{receipt_text};
 ghost use Rattle.fc_registry.specs.declared.job.Job.{Job};
 ghost use Rattle.fc_registry.specs.declared.receipt.Receipt.{Receipt};
 
-/// An install is answered by its receipt.
+/// An install is answered by the receipt of the program.
 ///
-/// If the image was sent in blocks, the answer has the Block1 of the last of them, option 27 (RFC
-/// 7959, section 2.3); if it was sent complete, the answer has no option.
+/// If the image was sent in blocks, the answer has the Block1 of the last block, option 27 (RFC
+/// 7959, section 2.3). If the image was sent complete, the answer has no option.
 pub fn installs_are_answered_by_receipts()
     ensures whole { (j : Job) (receipt : Receipt) (created : Bool) (r : Response) → j.block ≡ None → Says j (Made receipt created) r
         → (r.options ≡ []) × (r.payload ≡ receipt_text receipt) }
@@ -25,7 +25,7 @@ pub fn installs_are_answered_by_receipts()
         → Says j (Made receipt created) r → (r.options ≡ (27, block_bytes p) ∷ []) × (r.payload ≡ receipt_text receipt) }
 {}
 
-/// Some answers are codes alone, or a code with an ETag.
+/// Some answers consist of a code alone, or of a code with an ETag.
 ///
 /// A 2.03 (Valid), 67, has the slot's serial as its ETag, option 4, and no payload (RFC 7252,
 /// section 5.9.1.3). A 2.02 (Deleted), 66, a 4.04 (Not Found), 132, and a 5.03 (Service
@@ -38,10 +38,11 @@ pub fn some_answers_are_codes_alone()
     ensures unavailable { (j : Job) (r : Response) → Says j Unavailable r → r ≡ record { code = 163; options = []; payload = [] } }
 {}
 
-/// A refused image is answered by the first rule that it breaks, and the slot.
+/// The answer to a refused image names a rule that the image breaks, and a slot.
 ///
-/// The answer is a text without options. If only the typing refuses the image, the text has a
-/// number from 20 to 28 and any slot (RFC 7252, section 5.5.2).
+/// The answer is a text without options. It has the first rule that the image breaks, and the slot.
+/// If only the typing refuses the image, the text has a number from 20 to 28 and any slot (RFC
+/// 7252, section 5.5.2).
 pub fn refused_images_are_told_why()
     ensures rejected { (j : Job) (rule : Rule) (slot : ℕ) (r : Response) → Says j (Rejected rule slot) r
         → (r.options ≡ []) × (r.payload ≡ fault_text (number_of rule) slot) }
@@ -49,10 +50,10 @@ pub fn refused_images_are_told_why()
         × (r.options ≡ []) × (r.payload ≡ fault_text number slot) }
 {}
 
-/// The receipt of a slot, and the list of slots, are sent by the requested block.
+/// The receipt of a slot, and the list of slots, are cut to the requested block.
 ///
-/// The answer has Block2, option 23, unless it is complete (RFC 7959, section 2.4). The list has
-/// Content-Format 40, option 12 (RFC 7252, section 12.3); a receipt has none.
+/// The answer has Block2, option 23, unless it is sent complete (RFC 7959, section 2.4). The list
+/// has Content-Format 40, option 12 (RFC 7252, section 12.3); a receipt has no Content-Format.
 pub fn descriptions_are_cut_as_asked()
     ensures described { (j : Job) (receipt : Receipt) (part : Part) (r : Response) → cut_for j.block (receipt_text receipt) ≡ Some part
         → part.place ≡ None → Says j (Described receipt) r → (r.options ≡ []) × (r.payload ≡ part.bytes) }
@@ -66,14 +67,14 @@ pub fn descriptions_are_cut_as_asked()
         → (r.options ≡ (12, 40 ∷ []) ∷ (23, block_bytes p) ∷ []) × (r.payload ≡ part.bytes) }
 {}
 
-/// A run is answered by its code and reply.
+/// A run is answered by its code and its reply.
 ///
-/// - 2.05 (Content), 69: it has the serial of the snapshot as its ETag, option 4. If its client
-///   observes the slot, it has the lowest 24 bits of that serial as its sequence number, option 6.
-///   It has the requested block of the reply, with Block2, option 23, unless the reply is sent
-///   complete.
-/// - 2.04 (Changed), 68: it consists of the bytes of its reply alone.
-/// - Any other code: it has neither options nor payload.
+/// - A 2.05 (Content), 69, has the serial of the snapshot as its ETag, option 4. If the client
+///   observes the slot, the answer has the lowest 24 bits of that serial as its sequence number,
+///   option 6. The answer has the requested block of the reply, with Block2, option 23, unless the
+///   reply is sent complete.
+/// - A 2.04 (Changed), 68, has the sent part of the reply as its payload, and no options.
+/// - An answer of any other code has neither options nor payload.
 pub fn runs_are_answered_with_their_reply()
     ensures content { (j : Job) (run : RunAnswer) (part : Part) (r : Response) → run.code ≡ 69 → run.cut ≡ Some part → part.place ≡ None
         → run.observed ≡ false → Says j (Ran run) r → (r.options ≡ (4, to_be_bytes w64 run.serial) ∷ []) × (r.payload ≡ part.bytes) }
@@ -93,10 +94,10 @@ pub fn runs_are_answered_with_their_reply()
         → (r.options ≡ []) × (r.payload ≡ []) }
 {}
 
-/// The texts of answers are plain.
+/// The texts of answers are ASCII, as these examples show.
 ///
-/// These are the texts of a receipt, of a refusal, and of the list of the slots that have a
-/// program, whose head words are odd.
+/// The examples are a receipt, two refusals of an image, and two lists of links. A list has the
+/// slots with a program, whose head words are odd.
 pub fn texts_are_plain()
     ensures receipt { receipt_text (record { version = 1; cost = 2; budget = 3; vars = 8 }) ≡ codes "version=1 cost=2 budget=3 vars=8" }
     ensures refusal { fault_text 16 0 ≡ codes "V16 slot 0" }

@@ -18,10 +18,10 @@ pub fn shards_are_eight()
     ensures emitted { (r : Entry) (s : Seen) → IsOfNoShard r.event → Emits s r.event r.emitted → r.emitted ≡ None }
 {}
 
-/// A tick of a shard retransmits its overdue notification, at most four times.
+/// A tick of a shard retransmits an overdue notification, at most four times.
 ///
-/// It sends the same bytes to the same endpoint. After the fourth retransmission, and if no
-/// notification has timed out, it sends nothing.
+/// The tick sends the same bytes to the same endpoint as before. It sends nothing after the fourth
+/// retransmission, or if no notification has timed out.
 pub fn ticks_send_overdue_notifications_again()
     ensures again { (s : Seen) (i k now sent_at timeout count : ℕ) (bytes : ArrayVec ℕ) (x : ObserverEntry) (o : Option Emission)
         → overdue_in s i (max (s.shard_time i) now) ≡ Some k

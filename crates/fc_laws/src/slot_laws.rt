@@ -28,7 +28,8 @@ ghost use Rattle.std.specs.Prelude.{ℕ, ◌+◌, ◌<◌, ◌≤◌, ◌∷◌,
 
 /// A job changes its slot at most once, and then publishes the new head word.
 ///
-/// The event that changes the slot brings the job to that stage, and no other event does.
+/// The event that changes the slot brings the job to the stage of publishing, `ToRaise`. No other
+/// event does.
 pub fn changes_are_published()
     ensures once { (h : History) (k : ℕ) → changes_by h k ≤ 1 }
     ensures published { (r : Entry) (s : Seen) (k : ℕ) → names r.event ≡ Some k
@@ -39,22 +40,22 @@ pub fn changes_are_published()
         ⊎ (length ((and_then r s).changes (slot_of s k)) ≡ length (s.changes (slot_of s k)) + 1) }
 {}
 
-/// A job raises its slot's head word to that of a state of the slot.
+/// A job raises its slot's head word to the word of a state of the slot.
 ///
-/// Suppose that a job is to raise a head word after an event. Then it was to do so before the
-/// event, or the word is that of the slot's state after the event. That word is twice the serial,
-/// plus one if the slot has a program.
+/// Suppose that a job is to raise a head word after an event. Then the job was to raise that word
+/// before the event, or the word is that of the slot's state after the event. The word of a state
+/// is twice the serial, plus one if the slot has a program.
 pub fn raised_words_are_of_slots()
     ensures { (h : History) (r : Entry) (k : ℕ) → HasCome (seen h) k
         → PublishesAt (slot_at (seen (Then h r)) (slot_of (seen h) k)) (stage (seen h) k) (stage (seen (Then h r)) k) }
 {}
 
-/// A slot changes by an install, a removal or a commit alone.
+/// A slot changes only by one of three events:
 ///
-/// - The install of its job's own accepted image, with memory for the program and below the last
-///   serial.
-/// - The removal of a program, below the last serial.
-/// - The commit of its job's ticket.
+/// - a job's install of its own accepted image, with memory for the program and below the last
+///   serial;
+/// - a job's removal of a program, below the last serial;
+/// - the commit of a job's ticket.
 pub fn slots_change_by_their_jobs()
     ensures { (r : Entry) (s : Seen) (n : ℕ) → ChangesBy r s n }
 {}
@@ -66,11 +67,11 @@ pub fn refused_images_change_nothing()
         → (and_then r s).changes n ≡ s.changes n }
 {}
 
-/// An update keeps or zeroes the variables as its job says.
+/// An install keeps the variables or sets them to zeros, as the job requests.
 ///
-/// An install that keeps the variables leaves them byte for byte, if the slot has as many as the
-/// program. They are zeros if the numbers differ, if the slot is empty, and after an install that
-/// doesn't keep them.
+/// An install that keeps the variables leaves each byte of them unchanged, if the slot has as many
+/// bytes of variables as the program. The variables are zeros if the numbers of bytes differ, if
+/// the slot is empty, and after an install that doesn't keep them.
 pub fn updates_keep_variables()
     ensures kept { (s : Seen) (k : ℕ) (p : Program) (o : Option Emission) → IsToInstall s k p → initial_vars_of (job s k).ask ≡ Kept
         → length (vars_at s (slot_of s k)) ≡ p.vars_size
@@ -85,7 +86,7 @@ pub fn updates_keep_variables()
         → vars_at (and_then (did (Install k true) o) s) (slot_of s k) ≡ replicate p.vars_size 0 }
 {}
 
-/// Keeping the variables doesn't change an install's answer.
+/// Whether an install keeps the variables doesn't change the install's answer.
 ///
 /// It doesn't change the calls on the slot's observers either.
 pub fn kept_variables_change_no_answer()
@@ -104,9 +105,9 @@ pub fn programs_in_slots_are_accepted()
 
 /// The commit of a successful POST writes exactly if its slot hasn't changed.
 ///
-/// A POST is successful if its code has class 2. Its slot hasn't changed if the slot's changes are
-/// those before the job's last snapshot. The slot also mustn't be at its last serial. Every other
-/// commit leaves the slot unchanged. A slot that hasn't changed is at the ticket's serial.
+/// A POST is successful if its code has class 2. The slot hasn't changed if it has the same changes
+/// as at the job's last snapshot; it is then still at the ticket's serial. The commit writes
+/// nothing if the slot is at its last serial. Every other commit leaves the slot unchanged.
 pub fn commits_write_where_nothing_changed()
     ensures writes { (h : History) (k now n : ℕ) (o : Option Emission) (t : Ticket)
         → stage (seen h) k ≡ ToCommit n t → IsWritten h k t
@@ -128,9 +129,9 @@ pub fn gets_and_errors_change_nothing()
         → (and_then r s).changes n ≡ s.changes n }
 {}
 
-/// The commits of each slot are a chain.
+/// The commits of each slot form a chain.
 ///
-/// Each of them finds the state that the changes before it left, and leaves what its program means
+/// Each commit finds the state that the changes before it left, and leaves what its program means
 /// for that state.
 pub fn commits_are_a_chain()
     ensures { (h : History) (n : ℕ) → IsChain (new_slot (seen h).first_serial) ((seen h).changes n) }
@@ -138,16 +139,16 @@ pub fn commits_are_a_chain()
 
 /// The head word of a slot is the greatest to which jobs of the slot raised it.
 ///
-/// The word is 0 before that, and never decreases.
+/// The head word is 0 before the first raise, and never decreases.
 pub fn head_words_are_the_greatest_raised()
     ensures greatest { (h : History) (n : ℕ) → n < 64 → word_at (seen h).words n ≡ greatest (raises_of n h) }
     ensures rises { (h : History) (r : Entry) (n : ℕ) → n < 64 → word_at (seen h).words n ≤ word_at (seen (Then h r)).words n }
 {}
 
-/// A GET with an ETag of its slot's head word is answered 2.03 (Valid).
+/// A GET with an ETag of the head word's serial is answered 2.03 (Valid).
 ///
-/// The ETag is the serial of the head word, which has a program when the job reads the word. The
-/// answer has that serial.
+/// When the job reads the head word, the word says that the slot has a program at this serial. The
+/// answer has the serial.
 pub fn matching_etags_are_valid()
     ensures { (s : Seen) (k serial : ℕ) (o : Option Emission) → stage s k ≡ ToMatch
         → word_at s.words (slot_of s k) ≡ head_word serial true → HasSerial (job s k).etags.items serial

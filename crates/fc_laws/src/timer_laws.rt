@@ -38,7 +38,7 @@ pub fn timers_change_the_time()
 
 /// The answer of a job without an exchange is sent to nobody.
 ///
-/// It is stored in no exchange, and draws no message ID.
+/// The answer is stored in no exchange, and draws no message ID.
 pub fn answers_without_exchanges_are_dropped()
     ensures emitted { (s : Seen) (k now : ℕ) (o : Option Emission) → (HasExchange (job s k) → ⊥) → Emits s (Answer k now) o → o ≡ None }
     ensures exchanges { (s : Seen) (k now : ℕ) (o : Option Emission) → (HasExchange (job s k) → ⊥)
@@ -47,9 +47,9 @@ pub fn answers_without_exchanges_are_dropped()
         → (and_then (did (Answer k now) o) s).ids ≡ s.ids }
 {}
 
-/// The answer of a timer's job is sent to nobody, whatever events came since the timer fired.
+/// The answer of a timer's job is sent to nobody, whatever events came meanwhile.
 ///
-/// The job remains a POST of its slot's resource, without an exchange. Its answer is stored in no
+/// The job remains a POST of its slot's resource, without an exchange. The answer is stored in no
 /// exchange, and draws no message ID.
 pub fn answers_of_timers_are_dropped()
     ensures post { (h : History) (n k : ℕ) → IsOfFire n k h
@@ -65,9 +65,10 @@ pub fn answers_of_timers_are_dropped()
 
 /// A delivery that makes a job opens the job's exchange, as the newest.
 ///
-/// The exchange has the job's endpoint, message ID and type, and is opened at the job's time. The
-/// job has the exchange's number, which is its position: fewer than 2^64 - 1 were opened before.
-/// The exchange of a request's job stays in its place, whatever events follow.
+/// The exchange has the job's endpoint, message ID and type, and the job's time of opening. The job
+/// has the exchange's number, which is the exchange's position in the list. Fewer than 2^64 - 1
+/// exchanges were opened before it. The exchange of a request's job stays in its place, whatever
+/// events follow.
 pub fn requests_have_exchanges()
     ensures opened { (r : Entry) (s : Seen) (from : Endpoint) (m : Message) (j : Job)
         → BringsJob r s from m j → arrivals (and_then r s) ≡ arrivals s ++ arrival_of_job j ∷ [] }
@@ -79,7 +80,7 @@ pub fn requests_have_exchanges()
         → IsInPlace (arrivals (seen h)) (job (seen h) k) }
 {}
 
-/// Each job is that of an observer's lease, of a request, or of its slot's timer.
+/// Each job is that of an observer's lease, of a request, or of the slot's timer.
 ///
 /// If no timer has fired, no job is that of a timer.
 pub fn jobs_are_of_requests_leases_or_timers()

@@ -22,9 +22,9 @@ ghost use Rattle.fc_core.specs.TurnStage.{ToNote};
 
 /// A lease notifies at most once.
 ///
-/// Until the job of a lease ends, it is at a stage of its own lease. No request's job is at such a
-/// stage. Once the job has notified its observer (whether or not anything was sent), was released,
-/// or was lost, it has ended for ever.
+/// Until the job of a lease ends, it is at a stage of its own lease. The job of a request is at no
+/// such stage. The job of a lease has ended for ever once it has notified its observer, was
+/// released, or was lost. It has notified whether or not anything was sent.
 pub fn turns_stand_apart()
     ensures turn { (h : History) (k number : ℕ) → (job (seen h) k).turn ≡ Some number
         → ((needs : TurnStage) × (stage (seen h) k ≡ ToTell (record { slot = slot_of (seen h) k; number = number }) needs))
@@ -40,13 +40,13 @@ pub fn turns_stand_apart()
         → stage (seen (followed_by (Then h (did (Lose k) o)) rs)) k ≡ Gone }
 {}
 
-/// The notification of a lease comes from the one ticket that it took.
+/// The notification of a lease comes from the lease's one ticket.
 ///
 /// The notification has the code that the ticket's program means for the request and for the
 /// variables and readings of the snapshot. A 2.05 (Content) has the reply that the program means,
 /// cut as requested, and the snapshot's serial as its ETag and sequence number. A lease that found
-/// its slot empty sends a bare 4.04 (Not Found). A lease requests no block but the first, so the
-/// notification of a run that means a 2.05 (Content) has that code.
+/// its slot empty sends a bare 4.04 (Not Found). A lease requests no block but the first. So if a
+/// run means a 2.05 (Content), the notification has that code too.
 pub fn notifications_are_of_the_last_snapshot()
     ensures newest { (h : History) (k id : ℕ) (turn : Turn) (t : Ticket) → stage (seen h) k ≡ ToTell turn (ToNote (Some t) id)
         → (length (snapshots_of h k) ≡ 1) × IsNewest (snapshots_of h k) t }
@@ -59,10 +59,10 @@ pub fn notifications_are_of_the_last_snapshot()
         → (meaning_at t).code ≡ 69 → (response_of t).code ≡ 69 }
 {}
 
-/// A lease that is to notify sends exactly if it is out at its shard's time.
+/// A lease that is to notify sends a notification exactly if it is active.
 ///
-/// This holds whatever its snapshot found. So a lease that was released, has notified before, or
-/// was granted at least 247,000 ms before sends nothing.
+/// The lease is active or not at the shard's time, whatever its snapshot found. So a lease that was
+/// released, has notified before, or was granted at least 247,000 ms before sends nothing.
 pub fn notes_emit_where_turns_are_out()
     ensures where_out { (h : History) (k now random id : ℕ) (turn : Turn) (found : Option Ticket) (o : Option Emission)
         → stage (seen h) k ≡ ToTell turn (ToNote found id) → Emits (seen h) (Note k now random) o
@@ -80,9 +80,10 @@ pub fn notes_emit_where_turns_are_out()
 
 /// The serials that one observer is sent increase.
 ///
-/// The ticket of a lease's notification has a serial above the last one that the lease's observer
-/// was sent. So of two notifications to one endpoint and token, of the same slot and without a
-/// registration between them, the later has the greater serial.
+/// Suppose that a lease is active and has the ticket of its notification. Then the ticket's serial
+/// is above the last serial that the lease's observer was sent. So of two notifications to one
+/// endpoint and token, of the same slot and without a registration between them, the later has the
+/// greater serial.
 pub fn serials_rise_for_observers()
     ensures above { (h : History) (k now id : ℕ) (turn : Turn) (t : Ticket) (o : ObserverEntry)
         → stage (seen h) k ≡ ToTell turn (ToNote (Some t) id)
@@ -101,7 +102,7 @@ pub fn serials_rise_for_observers()
 
 /// Only observers in the list of a slot are sent its notifications.
 ///
-/// This includes retransmissions. So an observer that was removed gets nothing more before it
+/// Retransmissions are included. So an observer that was removed gets nothing more before it
 /// registers again.
 pub fn removed_observers_receive_nothing()
     ensures notified { (h : History) (k now random id : ℕ) (turn : Turn) (found : Option Ticket) (e : Emission)
@@ -111,12 +112,12 @@ pub fn removed_observers_receive_nothing()
         → (k : ℕ) × (overdue_in s i (max (s.shard_time i) now) ≡ Some k) × Resends (watch s (8 * k + i)) e }
 {}
 
-/// An observer stays in the list of its slot, with four exceptions:
+/// An observer stays in the list of its slot unless one of four events removes it:
 ///
-/// - Its own GET with Observe 1 is committed.
-/// - A Reset message answers its last notification.
-/// - That notification has timed out after four retransmissions.
-/// - Its lease sends it anything but a 2.05 (Content).
+/// - the commit of the observer's own GET with Observe 1;
+/// - a Reset message that answers the last notification to the observer;
+/// - a tick, if that notification has timed out after four retransmissions;
+/// - a notification to the observer that isn't a 2.05 (Content).
 pub fn observers_stay()
     ensures { (r : Entry) (s : Seen) (n : ℕ) (to : Endpoint) (token : List ℕ) → is_held to token (watch s n) ≡ true
         → (is_held to token (watch (and_then r s) n) ≡ true) ⊎ Removes r s n to token }
@@ -124,7 +125,7 @@ pub fn observers_stay()
 
 /// A notification that isn't a 2.05 (Content) removes its observer.
 ///
-/// The observer is removed from the list of its slot (RFC 7641, section 4.2).
+/// The observer isn't in the list of its slot any more (RFC 7641, section 4.2).
 pub fn errors_remove_their_observer()
     ensures { (s : Seen) (k now random id : ℕ) (turn : Turn) (found : Option Ticket) (x : ObserverEntry) (e : Emission)
         → stage s k ≡ ToTell turn (ToNote found id) → IsNoContent found
@@ -133,7 +134,7 @@ pub fn errors_remove_their_observer()
         → is_held x.endpoint x.token.items (watch (and_then (did (Note k now random) (Some e)) s) (slot_of s k)) ≡ false }
 {}
 
-/// The time of a slot's observers is at most that of their shard.
+/// The time of a slot's observers is at most the time of the slot's shard.
 pub fn observers_follow_their_shard()
     ensures { (h : History) (n : ℕ) → (watch (seen h) n).time ≤ (seen h).shard_time (n % 8) }
 {}

@@ -22,14 +22,15 @@ ghost use Rattle.fc_registry.specs.declared.job.Job.{Job};
 ghost use Rattle.fc_verify.specs.Accepted.{Accepts, Breaks, Untypable};
 ghost use Rattle.fc_verify.specs.Judged.{judged};
 
-/// A job begins with its first call.
+/// The kind of a job determines the job's first call:
 ///
-/// - A GET or POST of a program: a snapshot, or the slot's head word if its client names ETags.
-/// - A complete PUT: the install.
-/// - A DELETE: the removal.
-/// - A GET of the slot: its receipt.
-/// - The list of slots: the first head word.
-/// - A lease: a snapshot.
+/// - A GET or POST of a program takes a snapshot, or reads the slot's head word if the request has
+///   ETags.
+/// - A complete PUT installs the program.
+/// - A DELETE removes the program.
+/// - A GET of the slot reads the program's receipt.
+/// - A GET of the list of slots reads the first head word.
+/// - A lease takes a snapshot.
 pub fn jobs_begin_with_their_first_call()
     ensures run { (j : Job) (request : Request) → j.turn ≡ None → j.ask ≡ Run request → j.etags.items ≡ []
         → (new_task j).stage ≡ ToTake 0 }
@@ -44,15 +45,15 @@ pub fn jobs_begin_with_their_first_call()
         → (new_task j).stage ≡ ToTell (record { slot = j.origin.slot; number = number }) TakesForTurn }
 {}
 
-/// A job continues with its next call.
+/// The result of a job's call determines the job's next call:
 ///
 /// - A head word that matches none of the ETags leads to a snapshot.
-/// - A snapshot that gives a ticket leads to the commit of its run.
+/// - Each of the first 63 head words of the list leads to the next one.
 /// - A commit that has nothing to write leads to the answer of the run.
-/// - A commit that may write leads to raising the slot's head word first, as an install and a
-///   removal do.
-/// - A refused image, the removal of nothing, a receipt, and the last of 64 head words lead to the
-///   answer.
+/// - A commit that writes leads to the raise of the slot's head word, and so do an install and a
+///   removal.
+/// - A refused image, the removal from an empty slot, a receipt, and the last of 64 head words lead
+///   to the answer.
 pub fn jobs_go_on_with_their_next_call()
     ensures unmatched { (s : Seen) (k : ℕ) (o : Option Emission) → stage s k ≡ ToMatch
         → ((serial : ℕ) → word_at s.words (slot_of s k) ≡ head_word serial true → HasSerial (job s k).etags.items serial → ⊥)

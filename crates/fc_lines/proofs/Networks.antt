@@ -1,4 +1,4 @@
--- A text is that of a network in one way, so facts about a network are facts about its parts.
+-- A text represents a network in one way only: its parts before and after the slash determine it.
 use Rattle.std.proofs.Common.{◌≡◌, ℕ, suc, ◌<◌, ◌≤◌, List, [], ◌∷◌, ◌++◌, length, refl, sym, ◌∙◌, subst, arith}
 use Rattle.std.proofs.Common.{map, Option, None, Some, MatchOption, slice_index_or, Bor}
 use Rattle.std.specs.Net.Addr.{ipv4_octets}
@@ -12,6 +12,7 @@ use Rattle.fc_lines.proofs.Reading.{AreSame}
 rest_unslashed : (x : ℕ) (a : List ℕ) → IsUnslashed (x ∷ a) → IsUnslashed a
 rest_unslashed x a u = λ i lt. u (suc i) (omega (arith, lt))
 
+-- a text has only one split at its first slash.
 cut : (a b a' b' : List ℕ) → IsUnslashed a → IsUnslashed a' → a ++ (slash ∷ b) ≡ a' ++ (slash ∷ b') → AreSame a b a' b'
 cut [] b [] b' u u' e = record { first = refl; rest = cc e }
 cut [] b (x ∷ a') b' u u' e = absurd (u' 0 (omega arith) (cc e))
@@ -21,22 +22,25 @@ cut (x ∷ a) b (y ∷ a') b' u u' e =
     let head : y ≡ x = cc e in
     record { first = cc (head, same.first); rest = same.rest }
 
+-- a text that is split at a slash has a slash.
 uncut : (a b : List ℕ) → IsUnslashed (a ++ (slash ∷ b)) → ⊥
 uncut [] b u = u 0 (omega arith) refl
 uncut (x ∷ a) b u = uncut a b (rest_unslashed x (a ++ (slash ∷ b)) u)
 
--- a text without a slash
+-- a text without a slash represents no network.
 pub no_slash : (text : List ℕ) → IsUnslashed text → IsNoNetwork text
 no_slash text u = record { none = λ n w. uncut w.address w.digits (subst IsUnslashed w.text_is u) }
 
--- a text split at its first slash
+-- the parts of a text before and after its first slash.
 pub record IsCut (text address digits : List ℕ) : Type 0 where
   pub text_is : text ≡ address ++ (slash ∷ digits)
   pub first : IsUnslashed address
 
+-- the parts of a text around its first slash are those of the network that it represents.
 same_parts : (text address digits : List ℕ) (n : Network) → IsCut text address digits → (w : IsNetwork text n) → AreSame address digits w.address w.digits
 same_parts text address digits n c w = cut address digits w.address w.digits c.first w.first (sym c.text_is ∙ w.text_is)
 
+-- a text whose part before the first slash is no IPv4 address represents no network.
 pub no_address : (text address digits : List ℕ) → IsCut text address digits → ((a : Ipv4Addr) → IsIpv4Text address a → ⊥) → IsNoNetwork text
 no_address text address digits c none = record {
   none = λ n w.
@@ -44,6 +48,7 @@ no_address text address digits c none = record {
       none (record { octets = n.ip }) (subst (λ (l : List ℕ). IsDotted l n.ip) same.first w.dotted);
 }
 
+-- a text whose part after the first slash is no number below 256 represents no network.
 pub no_bits : (text address digits : List ℕ) → IsCut text address digits → IsNoNumber digits 256 → IsNoNetwork text
 no_bits text address digits c none = record {
   none = λ n w.
@@ -52,6 +57,7 @@ no_bits text address digits c none = record {
       none.none n.bits (omega (arith, few)) (subst (λ (l : List ℕ). IsNumber l n.bits) same.rest w.bits);
 }
 
+-- a text whose part after the first slash is a number above 32 represents no network.
 pub too_many : (text address digits : List ℕ) (bits : ℕ) → IsCut text address digits → IsNumber digits bits → 32 < bits → IsNoNetwork text
 too_many text address digits bits c number many = record {
   none = λ n w.
@@ -62,6 +68,7 @@ too_many text address digits bits c number many = record {
       omega (arith, both, few, many);
 }
 
+-- an IPv4 address, a slash, and a number of at most 32 represent a network.
 pub is_network : (text address digits : List ℕ) (a : Ipv4Addr) (ip : List ℕ) (bits : ℕ) → IsCut text address digits → IsIpv4Text address a → ip ≡ ipv4_octets a → IsNumber digits bits → bits ≤ 32
     → IsNetwork text (record { ip = ip; bits = bits })
 is_network text address digits a ip bits c dotted octets number few = record {
@@ -76,7 +83,7 @@ is_network text address digits a ip bits c dotted octets number few = record {
 
 -- ---- texts of networks
 
--- if one text isn't a network's, the texts aren't those of networks
+-- if the first text represents no network, the texts represent no list of networks.
 pub none_first : (a : List ℕ) (texts : List (List ℕ)) → IsNoNetwork a → AreNoNetworks (a ∷ texts)
 none_first a texts w = record { none = go }
   where
@@ -84,6 +91,7 @@ none_first a texts w = record { none = go }
     go [] are = are
     go (n ∷ ns) are = w.none n are.0
 
+-- if texts represent no list of networks, one more text in front and these texts represent none.
 pub none_later : (a : List ℕ) (texts : List (List ℕ)) → AreNoNetworks texts → AreNoNetworks (a ∷ texts)
 none_later a texts w = record { none = go }
   where
@@ -105,7 +113,8 @@ Networks texts r = MatchOption r (AreNoNetworks texts) (AreNetworks texts)
 abbrev Managers : List (Bor (List ℕ)) → Option (List Network) → Type 0
 Managers texts r = MatchOption r (AreNoManagers (texts_of texts)) (AreManagers (texts_of texts))
 
--- four texts represent them
+-- if the managers of `texts` are exactly the networks of `four`, the result for `four` is right for
+-- `texts`.
 stand_for : (texts four : List (List ℕ)) (r : Option (List Network)) → ((ns : List Network) → AreManagers texts ns → AreNetworks four ns) → ((ns : List Network) → AreNetworks four ns → AreManagers texts ns)
     → Networks four r → MatchOption r (AreNoManagers texts) (AreManagers texts)
 stand_for texts four None down up w = record { none = λ ns m. w.none ns (down ns m) }
@@ -137,7 +146,7 @@ four_texts (a ∷ b ∷ c ∷ []) r le lt w = absurd (omega (arith, le))
 four_texts (a ∷ b ∷ c ∷ d ∷ []) r le lt w = stand_for (a.now ∷ b.now ∷ c.now ∷ d.now ∷ []) (a.now ∷ b.now ∷ c.now ∷ d.now ∷ []) r (λ ns m. m) (λ ns m. m) w
 four_texts (a ∷ b ∷ c ∷ d ∷ e ∷ ts) r le lt w = absurd (omega (arith, lt))
 
--- five texts or more
+-- five texts or more represent no managers.
 pub many_texts : (ts : List (Bor (List ℕ))) → 5 ≤ length ts → AreNoManagers (texts_of ts)
 many_texts [] many = absurd (omega (arith, many))
 many_texts (a ∷ []) many = absurd (omega (arith, many))

@@ -1,4 +1,4 @@
--- A line has its fields in one way, so facts about a line are facts about its fields.
+-- A text has its three fields in one way only, so the fields decide whether it is a line.
 use Rattle.std.proofs.Common.{◌≡◌, ◌≢◌, ℕ, ◌<◌, ◌^◌, List, [], ◌∷◌, ◌++◌, Ok, refl, sym, ◌∙◌, ap, subst, arith}
 use Rattle.std.specs.Str.Parse.{AllDigits}
 use Rattle.std.specs.Char.{digit_value}
@@ -13,11 +13,12 @@ use Rattle.fc_lines.specs.Lines.{IsDelivery, IsDevice, IsTick, IsLine, IsNoLine}
 use Rattle.fc_lines.specs.declared.line.Line.{Line}
 use Rattle.fc_lines.specs.declared.line.Line.TheVariants.{Deliver, Device, Tick}
 
--- the same text, split at its first space
+-- two splits of a text have the same parts.
 pub record AreSame (a b a' b' : List ℕ) : Type 0 where
   pub first : a' ≡ a
   pub rest : b' ≡ b
 
+-- a text has only one split at its first space.
 pub cut_once : (a b a' b' : List ℕ) → IsUnspaced a → IsUnspaced a' → a ++ (space ∷ b) ≡ a' ++ (space ∷ b') → AreSame a b a' b'
 cut_once [] b [] b' u u' e = record { first = refl; rest = cc e }
 cut_once [] b (x ∷ a') b' u u' e = absurd (All-head (λ y. y ≢ space) x a' u' (cc e))
@@ -27,14 +28,16 @@ cut_once (x ∷ a) b (y ∷ a') b' u u' e =
     let head : y ≡ x = cc e in
     record { first = cc (head, same.first); rest = same.rest }
 
--- a text without a space isn't split
+-- a text that consists of two parts with a space between has a space.
 pub uncut : (a b : List ℕ) → IsUnspaced (a ++ (space ∷ b)) → ⊥
 uncut [] b u = All-head (λ y. y ≢ space) space b u refl
 uncut (x ∷ a) b u = uncut a b (All-tail (λ y. y ≢ space) x (a ++ (space ∷ b)) u)
 
+-- a text without a space has fewer than three fields.
 pub none_uncut : (text : List ℕ) → IsUnspaced text → HasNoFields text
 none_uncut text u = record { none = λ a b c f. uncut a (b ++ (space ∷ c)) (subst IsUnspaced f.text_is u) }
 
+-- a text with one space has fewer than three fields.
 pub rest_uncut : (text first rest : List ℕ) → text ≡ first ++ (space ∷ rest) → IsUnspaced first → IsUnspaced rest → HasNoFields text
 rest_uncut text first rest e u v = record {
   none = λ a b c f.
@@ -42,12 +45,13 @@ rest_uncut text first rest e u v = record {
       uncut b c (subst IsUnspaced (sym same.rest) v);
 }
 
--- the fields of a text are these
+-- two lists of three fields are the same.
 pub record Fit (first second third first' second' third' : List ℕ) : Type 0 where
   pub first_is : first' ≡ first
   pub second_is : second' ≡ second
   pub third_is : third' ≡ third
 
+-- a text has only one list of three fields.
 pub fields_fit : (text a b c a' b' c' : List ℕ) → AreFields text a b c → AreFields text a' b' c' → Fit a b c a' b' c'
 fields_fit text a b c a' b' c' f f' =
     let outer = cut_once a (b ++ (space ∷ c)) a' (b' ++ (space ∷ c')) f.first_unspaced f'.first_unspaced (sym f.text_is ∙ f'.text_is) in
@@ -61,6 +65,7 @@ digits_unspaced : (text : List ℕ) → AllDigits 10 text → IsUnspaced text
 digits_unspaced [] h = All-nil (λ y. y ≢ space)
 digits_unspaced (x ∷ text) h = All-cons (λ y. y ≢ space) x text (digit_no_space x h.0) (digits_unspaced text h.1)
 
+-- a number has no space.
 number_unspaced : (text : List ℕ) (n : ℕ) → IsNumber text n → IsUnspaced text
 number_unspaced text n h = digits_unspaced text h.digits.1
 
@@ -71,6 +76,7 @@ device_unspaced : IsUnspaced device
 device_unspaced = All-cons (λ y. y ≢ space) 100 (101 ∷ 118 ∷ []) (λ e. absurd (omega arith))
     (All-cons (λ y. y ≢ space) 101 (118 ∷ []) (λ e. absurd (omega arith)) (All-cons (λ y. y ≢ space) 118 [] (λ e. absurd (omega arith)) (All-nil (λ y. y ≢ space))))
 
+-- `dev` is no number.
 device_no_number : (n : ℕ) → IsNumber device n → ⊥
 device_no_number n h = let d = h.digits.1.0 in absurd (omega (arith, d))
 
@@ -83,7 +89,7 @@ tick_fields text now t = record { text_is = t.text_is; first_unspaced = number_u
 device_fields : (text : List ℕ) (now : ℕ) (readings : List ℕ) (d : IsDevice text now readings) → AreFields text d.first device d.third
 device_fields text now readings d = record { text_is = d.text_is; first_unspaced = number_unspaced _ _ d.now_is; second_unspaced = device_unspaced }
 
--- without fields there is no line
+-- a text with fewer than three fields is no line.
 pub no_fields : (text : List ℕ) → HasNoFields text → IsNoLine text
 no_fields text h = record { none = go }
   where
@@ -92,7 +98,7 @@ no_fields text h = record { none = go }
     go (Tick now) t = h.none _ _ _ (tick_fields _ _ t)
     go (Device now readings) d = h.none _ _ _ (device_fields _ _ _ d)
 
--- without a time there is no line
+-- a text whose first field isn't a number below 2^64 is no line.
 pub no_time : (text a b c : List ℕ) → AreFields text a b c → IsNoNumber a (2 ^ 64) → IsNoLine text
 no_time text a b c f h = record { none = go }
   where
@@ -104,8 +110,8 @@ no_time text a b c f h = record { none = go }
     go (Device now readings) d =
         h.none now d.now_fits (subst (λ x. IsNumber x now) (fields_fit text a b c _ _ _ f (device_fields _ _ _ d)).first_is d.now_is)
 
--- if the fields aren't two dashes, and the second isn't `dev`: without a peer or without bytes
--- there is no line
+-- let the second field not be `dev`, and the last two fields not both be dashes. If the second
+-- field is no number below 256, the text is no line.
 pub no_peer : (text a b c : List ℕ) → AreFields text a b c → ((b ≡ dash) × (c ≡ dash) → ⊥) → (b ≡ device → ⊥) → IsNoNumber b 256 → IsNoLine text
 no_peer text a b c f other none h = record { none = go }
   where
@@ -117,6 +123,8 @@ no_peer text a b c f other none h = record { none = go }
         other (sym fit.second_is, sym fit.third_is)
     go (Device now readings) d = none (sym (fields_fit text a b c _ _ _ f (device_fields _ _ _ d)).second_is)
 
+-- let the second field not be `dev`, and the last two fields not both be dashes. If the third field
+-- isn't an even number of hex digits, the text is no line.
 pub no_bytes : (text a b c : List ℕ) → AreFields text a b c → ((b ≡ dash) × (c ≡ dash) → ⊥) → (b ≡ device → ⊥) → ((bytes : List ℕ) → decode_of c ≡ Ok bytes → ⊥) → IsNoLine text
 no_bytes text a b c f other none h = record { none = go }
   where
@@ -128,7 +136,7 @@ no_bytes text a b c f other none h = record { none = go }
         other (sym fit.second_is, sym fit.third_is)
     go (Device now readings) d = none (sym (fields_fit text a b c _ _ _ f (device_fields _ _ _ d)).second_is)
 
--- after `dev`: without readings there is no line
+-- a text whose second field is `dev`, and whose third isn't 128 hex digits, is no line.
 pub no_readings : (text a b c : List ℕ) → AreFields text a b c → b ≡ device → ((readings : List ℕ) → decode_sized c 64 ≡ Ok readings → ⊥) → IsNoLine text
 no_readings text a b c f is h = record { none = go }
   where
@@ -139,6 +147,6 @@ no_readings text a b c f is h = record { none = go }
     go (Device now readings) d =
         h readings (ap (λ x. decode_sized x 64) (sym (fields_fit text a b c _ _ _ f (device_fields _ _ _ d)).third_is) ∙ d.readings_are)
 
--- a number is text in UTF-8
+-- bytes that aren't UTF-8 are no number.
 pub no_text : (text : List ℕ) (limit : ℕ) → (IsUtf8 text → ⊥) → IsNoNumber text limit
 no_text text limit h = record { none = λ n below number. h (IsUtf8-from_ascii text (IsAscii-from_digits text number.digits.1)) }

@@ -8,7 +8,7 @@ space = 32
 abbrev pub dash : List ℕ
 dash = 45 ∷ []
 
--- `dev`.
+-- the second field of a line with readings: `dev`.
 abbrev pub device : List ℕ
 device = 100 ∷ 101 ∷ 118 ∷ []
 
@@ -20,7 +20,7 @@ IsUnspaced text = All (λ b. b ≢ space) text
 abbrev pub spaced : List ℕ → List ℕ → List ℕ → List ℕ
 spaced first second third = first ++ (space ∷ (second ++ (space ∷ third)))
 
--- one or more decimal digits represent the number, with or without leading zeros.
+-- the text is one or more decimal digits, which represent `n`; leading zeros are allowed.
 pub record IsNumber (text : List ℕ) (n : ℕ) : Type 0 where
   pub digits : IsNumeral 10 text
   pub value : digits_value 10 text ≡ n
@@ -29,7 +29,7 @@ pub record IsNumber (text : List ℕ) (n : ℕ) : Type 0 where
 pub record IsNoNumber (text : List ℕ) (limit : ℕ) : Type 0 where
   pub none : (n : ℕ) → n < limit → IsNumber text n → ⊥
 
--- the fields of a text; the third may have spaces.
+-- the text consists of these three fields; the third may have spaces.
 pub record AreFields (text first second third : List ℕ) : Type 0 where
   pub text_is : text ≡ spaced first second third
   pub first_unspaced : IsUnspaced first

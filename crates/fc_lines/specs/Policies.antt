@@ -23,16 +23,17 @@ pub record IsNetwork (text : List ℕ) (n : Network) : Type 0 where
   pub bits : IsNumber digits n.bits
   pub few : n.bits ≤ 32
 
+-- the text represents no network.
 pub record IsNoNetwork (text : List ℕ) : Type 0 where
   pub none : (n : Network) → IsNetwork text n → ⊥
 
--- each text is that of the network at its place.
+-- there are as many texts as networks, and each text represents the network at the same place.
 abbrev pub AreNetworks : List (List ℕ) → List Network → Type 0
 AreNetworks [] [] = Unit {0}
 AreNetworks (text ∷ texts) (n ∷ ns) = IsNetwork text n × AreNetworks texts ns
 AreNetworks texts ns = ⊥
 
--- the texts aren't those of networks.
+-- the texts represent no list of networks.
 pub record AreNoNetworks (texts : List (List ℕ)) : Type 0 where
   pub none : (ns : List Network) → AreNetworks texts ns → ⊥
 
@@ -44,7 +45,7 @@ AreManagers (a ∷ b ∷ c ∷ []) ns = AreNetworks (a ∷ b ∷ c ∷ c ∷ [])
 AreManagers (a ∷ b ∷ c ∷ d ∷ []) ns = AreNetworks (a ∷ b ∷ c ∷ d ∷ []) ns
 AreManagers texts ns = ⊥
 
--- the texts aren't those of four networks.
+-- the texts represent no four managers.
 pub record AreNoManagers (texts : List (List ℕ)) : Type 0 where
   pub none : (ns : List Network) → AreManagers texts ns → ⊥
 
@@ -61,6 +62,6 @@ pub record IsPolicyOf (texts : List (List ℕ)) (exchanges share seconds : ℕ) 
   pub some_seconds : 1 ≤ seconds
   pub most_seconds : seconds ≤ 86400
 
--- there is no such policy.
+-- no policy has these texts of networks and these limits.
 pub record IsNoPolicy (texts : List (List ℕ)) (exchanges share seconds : ℕ) : Type 0 where
   pub none : (p : Policy) → IsPolicyOf texts exchanges share seconds p → ⊥

@@ -1,6 +1,6 @@
 //! Peers identified by a number, and emissions printed as `peer hex`.
 //!
-//! They are for the programs that play lines: `fcd play` and `fcreplay`.
+//! The programs `fcd play` and `fcreplay` use both.
 ghost use Rattle.std.specs.Prelude.{◌≡◌, OnOk};
 ghost use Rattle.std.specs.Io.KnownBytes.{Appends};
 ghost use Rattle.fc_lines.specs.Emissions.{peer_endpoint, printed};
@@ -13,7 +13,7 @@ use std::io::Write;
 /// CoAP's default port (RFC 7252, section 6.1).
 const PORT: u16 = 5683;
 
-/// Returns the endpoint of a peer: 127.0.0.peer, at CoAP's port.
+/// Returns the endpoint of a peer: 127.0.0.peer, at CoAP's default port.
 pub fn endpoint(peer: u8) -> Endpoint
     ensures { result ≡ peer_endpoint peer }
 {

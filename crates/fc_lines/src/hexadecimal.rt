@@ -13,8 +13,8 @@ use std::io::Write;
 /// Decodes hex digits in upper or lower case, two for each byte.
 ///
 /// # Errors
-/// Returns `Bad` if `digits` aren't such digits, and `NoMemory` if memory for the bytes can't be
-/// allocated.
+/// Returns `Bad` if `digits` isn't an even number of hex digits, and `NoMemory` if memory for the
+/// bytes can't be allocated.
 pub fn decode(alloc: Global, digits: &[u8]) -> Result<Vec<u8>, LineError>
     ensures bytes { IfOk result (λ bytes. decode_of digits.now ≡ Ok bytes.items) }
     ensures bad { result ≡ Err Bad → (bytes : List ℕ) → decode_of digits.now ≡ Ok bytes → ⊥ }
@@ -49,8 +49,8 @@ pub fn write<W: Write>(out: &mut W, bytes: &[u8]) -> io::Result<()>
     }
 }
 
-// Writes a datagram of at most 64 bytes, as most are. It needs no buffer for the digits of the
-// longest datagram, which would be zeroed for each call.
+// Writes a datagram of at most 64 bytes. Most datagrams are that short, and a buffer for the
+// longest datagram would have to be zeroed in each call.
 fn write_short<W: Write>(out: &mut W, bytes: &[u8]) -> io::Result<()>
     requires { length bytes.now ≤ 64 }
     ensures { OnOk result (Appends (W.contents out.old) (W.contents out.new) (encode_lower bytes.now)) }
@@ -68,7 +68,7 @@ fn write_long<W: Write>(out: &mut W, bytes: &[u8]) -> io::Result<()>
     write_by(out, bytes, &mut digits)
 }
 
-// Writes bytes as digits, which are made in `room`.
+// Writes bytes as hex digits. `room` is the buffer for the digits.
 fn write_by<W: Write>(out: &mut W, bytes: &[u8], room: &mut [u8]) -> io::Result<()>
     requires { 2 * length bytes.now ≤ length room.old }
     ensures { OnOk result (Appends (W.contents out.old) (W.contents out.new) (encode_lower bytes.now)) }

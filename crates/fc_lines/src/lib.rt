@@ -7,8 +7,8 @@
 //! - A line is accepted exactly if it has one of three forms: a datagram, a time, or a time with
 //!   readings.
 //! - Numbers and hex digits are parsed exactly. An emission is written as `peer hex`.
-//! - A network is accepted exactly if it is an IPv4 address, a slash and 0 to 32. A policy is that
-//!   of its texts and limits.
+//! - The text of a network is accepted exactly if it is an IPv4 address, a slash and 0 to 32. A
+//!   policy has the networks of the texts, and the limits given with the texts.
 //!
 //! By the contracts of `line::parse`, `line::number`, `hexadecimal`, `emission::print`,
 //! `policy::network`, `policy`.

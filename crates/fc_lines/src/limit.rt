@@ -6,14 +6,14 @@ use std::io::{ErrorKind, Read};
 
 /// Maximum length of a line, in bytes.
 ///
-/// A line has a time of 20 digits, a peer of three, and the digits of 65,507 bytes, the maximum for
-/// UDP over IPv4. A space follows each of the first two.
+/// A line has a time of 20 digits, a peer of three, and the hex digits of 65,507 bytes, the maximum
+/// for UDP over IPv4. A space follows the time, and another one the peer.
 pub const LONGEST_LINE: usize = 20 + 1 + 3 + 1 + 2 * 65_507;
 
 /// A reader that returns another reader's bytes, and fails if a line is too long.
 ///
-/// It reads only as much of that line as shows that the line is too long. Earlier reads have
-/// returned the bytes before the line.
+/// Of a line that is too long, it reads at most one byte more than [`LONGEST_LINE`]. Earlier reads
+/// have returned all lines before that line.
 #[derive(Drop)]
 pub struct LineLimit<R: Read + Drop> {
     inner: R,
@@ -26,9 +26,9 @@ impl<R: Read + Drop> LineLimit<R> {
         LineLimit { inner, length: 0 }
     }
 
-    // Advances past `bytes`, and returns whether the line in which they begin is short enough.
-    // `read` passes at most one byte more than that line may still have, so later lines in `bytes`
-    // are short.
+    // Advances past `bytes`, and returns whether the line in which `bytes` begins is short enough.
+    // `read` passes at most one byte more than that line may still have, so no later line in
+    // `bytes` is too long.
     fn goes_on(&mut self, bytes: &[u8]) -> bool {
         let begun = match bytes.iter().position(is_line_feed) {
             Some(end) => self.length.saturating_add(end),
@@ -50,7 +50,7 @@ fn is_line_feed(byte: &u8) -> bool
 
 /// Returns the error for a line that is too long.
 ///
-/// `fc_cli::stop::Stop::at_line` makes a bad line of it.
+/// `fc_cli::stop::Stop::at_line` turns this error into `BadLine`.
 fn too_long() -> io::Error {
     io::Error::from(ErrorKind::InvalidData)
 }

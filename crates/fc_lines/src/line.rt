@@ -1,6 +1,6 @@
 //! Parsing of the lines that `fcd play` plays, and of their fields.
 //!
-//! Other programs parse numbers and readings by the same functions.
+//! Other programs parse numbers and readings with the same functions.
 ghost use Rattle.std.specs.Prelude.{◌≡◌, ◌↔◌, ◌∷◌, ◌++◌, ◌^◌, ℕ, List, MatchOption, IfOk, IsTrue};
 ghost use Rattle.hex.specs.Hex.{decode_sized};
 ghost use Rattle.fc_lines.specs.Fields.{space, dash, device, IsNumber, IsNoNumber, IsUnspaced, AreFields, HasNoFields};
@@ -35,11 +35,11 @@ pub enum LineError {
 
 /// Parses a line, without its line feed.
 ///
-/// It is `now peer hex`, `now - -`, or `now dev hex` with 128 hex digits.
+/// A line is `now peer hex`, `now - -`, or `now dev hex` with 128 hex digits.
 ///
 /// # Errors
-/// Returns `Bad` if it is none of the three, and `NoMemory` if memory for its datagram can't be
-/// allocated.
+/// Returns `Bad` if `text` has none of these forms, and `NoMemory` if memory for the datagram can't
+/// be allocated.
 pub fn parse(alloc: Global, text: &[u8]) -> Result<Line, LineError>
     ensures line { IfOk result (IsLine text.now) }
     ensures bad { result ≡ Err Bad → IsNoLine text.now }
@@ -66,7 +66,7 @@ pub fn parse(alloc: Global, text: &[u8]) -> Result<Line, LineError>
     Ok(Line::Deliver { now, peer, bytes })
 }
 
-// Returns whether the second field is `dev`: the third then has readings.
+// Returns whether the second field is `dev`. If it is, the third field has readings.
 fn is_device(second: &[u8]) -> bool
     ensures { IsTrue result ↔ (second.now ≡ device) }
 {
@@ -75,7 +75,7 @@ fn is_device(second: &[u8]) -> bool
 
 /// Parses the device's 64 bytes of readings from 128 hex digits of either case.
 ///
-/// Returns `None` if `digits` aren't 128 such digits.
+/// Returns `None` if `digits` isn't 128 hex digits.
 pub fn readings(digits: &[u8]) -> Option<[u8; 64]>
     ensures { MatchOption result ((bytes : List ℕ) → decode_sized digits.now 64 ≡ Ok bytes → ⊥)
         (λ readings. decode_sized digits.now 64 ≡ Ok readings) }
@@ -87,8 +87,8 @@ pub fn readings(digits: &[u8]) -> Option<[u8; 64]>
     }
 }
 
-// Returns the three fields that single spaces separate; the third may have more spaces. Returns
-// `None` if there are fewer than two spaces.
+// Returns the three fields of a line, which single spaces separate. The third field may contain
+// spaces. Returns `None` if `text` has fewer than two spaces.
 fn fields(text: &[u8]) -> Option<(&[u8], &[u8], &[u8])>
     ensures { MatchOption result (HasNoFields text.now) (λ parts. AreFields text.now parts.0.now parts.1.now parts.2.now) }
 {
@@ -97,7 +97,7 @@ fn fields(text: &[u8]) -> Option<(&[u8], &[u8], &[u8])>
     Some((first, second, third))
 }
 
-// Returns the parts before and after the first space, or `None` if there is no space.
+// Returns the parts of `text` before and after its first space, or `None` if there is no space.
 fn cut(text: &[u8]) -> Option<(&[u8], &[u8])>
     ensures { MatchOption result (IsUnspaced text.now)
         (λ parts. (text.now ≡ parts.0.now ++ (space ∷ parts.1.now)) × IsUnspaced parts.0.now) }
@@ -106,7 +106,7 @@ fn cut(text: &[u8]) -> Option<(&[u8], &[u8])>
     Some((&text[..at], &text[at + 1..]))
 }
 
-// Returns whether both fields are dashes: the line is a tick.
+// Returns whether both fields are dashes. If they are, the line is a tick.
 fn are_dashes(second: &[u8], third: &[u8]) -> bool
     ensures { IsTrue result ↔ ((second.now ≡ dash) × (third.now ≡ dash)) }
 {
@@ -115,7 +115,7 @@ fn are_dashes(second: &[u8], third: &[u8]) -> bool
 
 /// Parses decimal digits as a number, without a sign.
 ///
-/// Returns `None` if `text` isn't such a number, or if the number is 2^64 or more.
+/// Returns `None` if `text` isn't one or more digits, or if the number is 2^64 or more.
 pub fn number(text: &[u8]) -> Option<u64>
     ensures { MatchOption result (IsNoNumber text.now (2 ^ 64)) (IsNumber text.now) }
 {
@@ -130,7 +130,7 @@ pub fn number(text: &[u8]) -> Option<u64>
 
 /// Parses decimal digits as a number below 256.
 ///
-/// Returns `None` if `text` isn't such a number.
+/// Returns `None` if `text` isn't one or more digits, or if the number is 256 or more.
 pub fn byte(text: &[u8]) -> Option<u8>
     ensures { MatchOption result (IsNoNumber text.now 256) (IsNumber text.now) }
 {

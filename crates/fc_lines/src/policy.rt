@@ -20,7 +20,7 @@ pub const DEFAULT_SECONDS: u64 = 86_400;
 /// `seconds` is the time after which a notification is confirmable. Returns `None` exactly in these
 /// cases:
 ///
-/// - One of the texts isn't a network, or there are none or more than four.
+/// - One of the texts isn't a network, or there are no texts, or more than four.
 /// - `exchanges` isn't 1 to 65,536.
 /// - `share` is 0.
 /// - `seconds` isn't 1 to 86,400.
@@ -44,8 +44,8 @@ pub fn policy(managers: &[&str], exchanges: usize, share: usize, seconds: u64) -
 
 /// Parses the texts of one to four networks.
 ///
-/// The last network is repeated for the missing ones. Returns `None` exactly if one of the texts
-/// isn't a network, or if there are no texts or more than four.
+/// The result always has four networks: the last network is repeated for missing ones. Returns
+/// `None` exactly if one of the texts isn't a network, or if there are no texts or more than four.
 pub fn networks(texts: &[&str]) -> Option<Managers>
     ensures { let all = map (λ text. text.now) texts.now in MatchOption result (AreNoManagers all) (AreManagers all) }
 {
@@ -58,7 +58,7 @@ pub fn networks(texts: &[&str]) -> Option<Managers>
     }
 }
 
-// Parses four networks, or returns `None` if a text isn't a network.
+// Parses the texts of four networks. Returns `None` if one of the texts isn't a network.
 fn four(a: &str, b: &str, c: &str, d: &str) -> Option<Managers>
     ensures { let texts = a.now ∷ b.now ∷ c.now ∷ d.now ∷ [] in MatchOption result (AreNoNetworks texts) (AreNetworks texts) }
 {
@@ -67,8 +67,8 @@ fn four(a: &str, b: &str, c: &str, d: &str) -> Option<Managers>
 
 /// Parses a network, as `192.0.2.0/24`.
 ///
-/// It is an IPv4 address, and the number of its first bits, 0 to 32, that all addresses of the
-/// network share. Returns `None` for any other text.
+/// The text is an IPv4 address, a slash, and the number of leading bits, 0 to 32, that all
+/// addresses of the network share. Returns `None` for any other text.
 pub fn network(text: &str) -> Option<Network>
     ensures { MatchOption result (IsNoNetwork text.now) (IsNetwork text.now) }
 {

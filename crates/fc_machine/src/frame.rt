@@ -7,8 +7,8 @@ use std::alloc::{AllocError, Global};
 
 /// The registers and the memory of the machine.
 ///
-/// One frame is made at the start, and each run uses it again. Its type guarantees that the bytes
-/// after the last payload are zero.
+/// One frame is made at the start, and each run uses it again. The type guarantees that the bytes
+/// after the last run's payload are zero.
 #[derive(Drop)]
 pub struct Frame {
     pub(crate) state: Box<State>,

@@ -11,8 +11,8 @@ use std::marker::Model;
 
 /// The outcome of a run.
 ///
-/// Contracts see it as the inputs of the run: each part of an outcome is that of the meaning of
-/// these inputs.
+/// In contracts an outcome is the inputs of its run: each part of the outcome is that part of the
+/// meaning of these inputs.
 #[derive(Drop)]
 pub struct Outcome<'a> {
     pub(crate) program: &'a Verified,
@@ -98,7 +98,7 @@ impl<'a> Outcome<'a> {
 
     /// Returns the variables after the run, borrowed from the frame.
     ///
-    /// They have the program's size.
+    /// They have the size of the program's variables.
     pub fn after(&self) -> &'a [u8]
         ensures vars { result.now ≡ (meaning_of self.now).vars }
         ensures size { length result.now ≡ self.now.program.vars_size }

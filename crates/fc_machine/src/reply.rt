@@ -34,7 +34,7 @@ fn success(method: Method) -> u8
 
 /// Returns whether a program may return the code `answer`.
 ///
-/// It may return its method's success, 4.00, 4.03 and 4.04.
+/// A program may return the method's success, 4.00, 4.03 and 4.04.
 fn may_answer(method: Method, answer: u64) -> bool
     ensures { result ≡ is_answer method answer }
 {

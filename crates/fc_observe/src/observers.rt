@@ -351,10 +351,11 @@ impl Observers {
         }
     }
 
-    /// Retransmits the first outstanding notification that timed out.
+    /// Advances the time to `now`, and returns the first notification that has to be retransmitted.
     ///
-    /// If it was retransmitted four times already, removes its observer instead (RFC 7252, section
-    /// 4.2; RFC 7641, section 4.5).
+    /// That is the first outstanding notification that timed out. If it was retransmitted four times
+    /// already, its observer is removed, and the result is `Removed` (RFC 7252, section 4.2; RFC
+    /// 7641, section 4.5). The result is `Quiet` if no notification timed out.
     pub fn tick(&mut self, now: u64) -> Ticked
         ensures answer { result ≡ ticked (list_at_time now self.old) }
         ensures after { self.new ≡ after_tick (list_at_time now self.old) }

@@ -1,4 +1,4 @@
--- No observer was sent a serial above its slot's.
+-- No observer was sent a serial above that of its slot.
 use Rattle.std.proofs.Common.{◌≡◌, ℕ, zero, suc, ◌<◌, ◌≤◌, List, [], ◌∷◌, ◌++◌, length, map, set, get_or, Bool, true, false, Option, Some, None, refl, sym, ap, ◌∙◌, subst, arith, ⊎_elim}
 use Rattle.std.specs.Prelude.{if◌then◌else◌, nat_lt}
 use Rattle.std.specs.List.{All}
@@ -129,7 +129,8 @@ remove_rises slot = clear_rises slot (nat_lt slot.serial last_serial) slot.prese
 -- ---- places
 
 module _ (slots : List Slot) (watches : List ObserverList) (p : ℕ) (few : length slots ≡ 8) (eight : length watches ≡ 8) (lt : p < 8) (sent : AreSentUpTo slots watches) where
-  -- the slot at a place and its observers are replaced.
+  -- if a slot and its observers are replaced, and the new observers were sent no serial above the
+  -- new slot's, no observer is ahead.
   pub sent_written : (s : Slot) (w : ObserverList) → IsSentUpTo s.serial w → AreSentUpTo (set slots p s) (set watches p w)
   sent_written s w up k =
       ⊎_elim
@@ -140,15 +141,15 @@ module _ (slots : List Slot) (watches : List ObserverList) (p : ℕ) (few : leng
       (subst (λ (t : Slot). IsSentUpTo t.serial (get_or watches k (no_observers 0 0))) (sym (get_or-set_other slots p k s (new_slot 0) other)) (sent k)))
       (cases_eq k p)
 
-  -- its observers alone are replaced.
+  -- the lemma above, if only the observers at the place are replaced.
   pub sent_there : (w : ObserverList) → IsSentUpTo (get_or slots p (new_slot 0)).serial w → AreSentUpTo slots (set watches p w)
   sent_there w up = subst (λ (xs : List Slot). AreSentUpTo xs (set watches p w)) (set-get_or slots p (new_slot 0)) (sent_written (get_or slots p (new_slot 0)) w up)
 
-  -- the slot alone is replaced.
+  -- the lemma above, if only the slot at the place is replaced, by one with no lower serial.
   pub sent_at : (s : Slot) → (get_or slots p (new_slot 0)).serial ≤ s.serial → AreSentUpTo (set slots p s) watches
   sent_at s le = subst (λ (ws : List ObserverList). AreSentUpTo (set slots p s) ws) (set-get_or watches p (no_observers 0 0)) (sent_written s (get_or watches p (no_observers 0 0)) (sent_more (get_or slots p (new_slot 0)).serial s.serial (get_or watches p (no_observers 0 0)) le (sent p)))
 
--- the view of the slot at a place.
+-- the lemmas above for the states of which the slots are views.
 module _ (items : List SlotState) (watches : List ObserverList) (p : ℕ) (few : length items ≡ 8) (eight : length watches ≡ 8) (lt : p < 8) (sent : AreSentUpTo (map as_seen items) watches) where
   seen_few : length (map as_seen items) ≡ 8
   seen_few = length-map items as_seen ∙ few
@@ -180,7 +181,7 @@ mapped_at f P [] k keeps none was = none
 mapped_at f P (w ∷ ws) zero keeps none was = keeps w was
 mapped_at f P (w ∷ ws) (suc k) keeps none was = mapped_at f P ws k keeps none was
 
--- a call on the observers at each place, without a serial.
+-- a call on the observers at each place that sends no serial keeps every serial at most the slot's.
 pub sent_everywhere : (c : ObserverCall) (slots : List Slot) (watches : List ObserverList) → ((n : ℕ) → HandsInUpTo n c) → AreSentUpTo slots watches → AreSentUpTo slots (map (observers_after c) watches)
 sent_everywhere c slots watches up sent k =
     let n = (get_or slots k (new_slot 0)).serial in
@@ -195,11 +196,11 @@ new_held [] k new = refl
 new_held (w ∷ ws) zero new = new.0
 new_held (w ∷ ws) (suc k) new = new_held ws k new.1
 
--- a new shard has no observers.
+-- the lists of observers of a new shard are empty.
 pub none_new : (index confirm_after k : ℕ) → (get_or (new_watches index confirm_after 8) k (no_observers 0 0)).held ≡ []
 none_new index confirm_after k = new_held (new_watches index confirm_after 8) k (refl, (refl, (refl, (refl, (refl, (refl, (refl, (refl, tt))))))))
 
--- they were sent nothing.
+-- no observer of a new shard was sent a serial.
 pub none_sent : (slots : List Slot) (index confirm_after : ℕ) → AreSentUpTo slots (new_watches index confirm_after 8)
 none_sent slots index confirm_after k =
     let n = (get_or slots k (new_slot 0)).serial in

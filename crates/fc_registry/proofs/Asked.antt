@@ -1,4 +1,4 @@
--- A lease's job has the request of its observer's registration.
+-- The job of a lease has the request of its observer's registration.
 use Rattle.std.proofs.Common.{◌≡◌, ℕ, ◌+◌, ◌*◌, ◌<◌, ◌%◌, [], ◌∷◌, Bool, true, false, Option, Some, None, refl, ap, ◌∙◌, subst, arith, inl, inr}
 use Rattle.std.specs.Prelude.{◌⊎◌}
 use Rattle.std.specs.List.{Any, Contains}
@@ -23,7 +23,8 @@ use Rattle.fc_registry.specs.Watches.{noticed_at, watch_at}
 three_bits : (szx : ℕ) → szx < 8 → szx % 8 ≡ szx
 three_bits szx lt = omega (arith, lt)
 
--- the job is for the observer that it is made from.
+-- the job of a lease has the endpoint, the token, the request and the block of the observer that it
+-- is made for.
 turn_for : (n number : ℕ) (o : Interest) → IsTurnFor (turn_job n number o) o
 turn_for n number o = record {
   endpoint = refl;
@@ -41,7 +42,7 @@ made_by n number (Some o) j is =
     let same : turn_job n number (interest_of o) ≡ j = cc is in
     (o, refl, subst (λ (x : Job). IsTurnFor x (interest_of o)) same (turn_for n number (interest_of o)))
 
--- the observer is in the list after the lease is granted.
+-- the observer that the job of a granted lease is for is in the list after the grant.
 given_by : (n : ℕ) (turn : Option Turn) (w : ObserverList) (j : Job) → job_of_turn n turn w ≡ Some j →
     (o : Entry) × Contains w.held o × IsTurnFor j (interest_of o)
 given_by n None w j is = absurd (cc is)
@@ -49,7 +50,7 @@ given_by n (Some turn) w j is =
     let m = made_by n turn.number (entry_out turn w) j is in
     (m.0, found_held (is_out turn w) w.held m.0 m.1, m.2)
 
--- and was in it before.
+-- the observer that the job of a granted lease is for was in the list before the grant.
 before_by : (now notify_serial : ℕ) (w : ObserverList) (j : Job) (o : Entry) → IsTurnFor j (interest_of o) →
     IsRegisteredBy (NextDue now notify_serial) w o ⊎ Any (KeepsSerial (NextDue now notify_serial) w o) w.held → Any (λ (x : Entry). IsTurnFor j (interest_of x)) w.held
 before_by now notify_serial w j o for (inl new) = absurd new
@@ -63,7 +64,7 @@ turn_asks shard k j is =
     let P = λ (o : Entry). IsRegisteredBy c w o ⊎ Any (KeepsSerial c w o) w.held in
     before_by shard.now (noticed_at shard k) w j g.0 g.2 (All-contains P (observers_after c w).held g.0 (serials_kept c w) g.1)
 
--- a registration keeps the size that was requested.
+-- the call of a registration has the block size that was requested.
 registers : (now : ℕ) (t : Ticket) → is_registration t ≡ true →
     observe_calls now t ≡ Register now t.origin.endpoint t.token t.request (szx_of t.block) t.serial ∷ []
 registers now t is = ap (λ (b : Bool). observe_calls_by b (is_cancellation t) now t) is

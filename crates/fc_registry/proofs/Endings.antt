@@ -1,4 +1,4 @@
--- The end of a lease by its notification.
+-- A notification ends its lease.
 use Rattle.std.proofs.Common.{◌≡◌, ℕ, Bool, Some, ap, [], ◌∷◌}
 use Rattle.std.proofs.lemmas.Bool.{eq-eqb, ne_eqb}
 use Rattle.coap_msg.specs.declared.types.Emission.{Emission}

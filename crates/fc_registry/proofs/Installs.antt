@@ -17,7 +17,8 @@ serials_count serial (Installed p v ∷ cs) = omega (arith, serials_count serial
 serials_count serial (Committed c ∷ cs) = omega (arith, serials_count serial cs)
 serials_count serial (Removed ∷ cs) = omega (arith, serials_count serial cs)
 
--- a commit keeps the program and its version, and sets the variables.
+-- if the program in a slot follows its install, it still does after a commit, which sets only the
+-- variables.
 committed_follows : (serial : ℕ) (c : Commit) (cs : List Change) (found : Option Present) → ((q : Present) → found ≡ Some q → FollowsInstall serial cs q) → (p : Present) → with_vars c.after found ≡ Some p → FollowsInstall serial (Committed c ∷ cs) p
 committed_follows serial c cs None before p e = absurd (cc)
 committed_follows serial c cs (Some q) before p e =
@@ -44,14 +45,15 @@ follows serial (Removed ∷ cs) p e = absurd (cc)
 
 -- ---- the variables that an install leaves
 
--- they are kept if they are as many as the program has.
+-- an install that keeps the variables leaves them unchanged if there are as many as the program
+-- has.
 pub kept_vars : (p : Program) (before : List ℕ) → length before ≡ p.vars_size → vars_installed Kept p before ≡ before
 kept_vars p before is = ap (λ (b : Bool). if b then before else replicate p.vars_size 0) (eq-eqb (length before) p.vars_size is)
 
 pub other_vars : (p : Program) (before : List ℕ) → (length before ≡ p.vars_size → ⊥) → vars_installed Kept p before ≡ replicate p.vars_size 0
 other_vars p before differ = ap (λ (b : Bool). if b then before else replicate p.vars_size 0) (ne_eqb (length before) p.vars_size differ)
 
--- no variables are kept as zeros.
+-- an install in an empty slot leaves zeros, whether or not it keeps the variables.
 pub empty_vars : (p : Program) (v : InitialVars) (slot : Slot) → slot.present ≡ None → vars_in (changed slot (Installed p v)).present ≡ replicate p.vars_size 0
 empty_vars p Zeros slot e = refl
 empty_vars p Kept slot e = ap (λ (o : Option Present). vars_installed Kept p (vars_in o)) e ∙ ⊎_elim

@@ -1,11 +1,11 @@
--- The noticed serial is that of the newest change that observers are notified of.
+-- The notify serial is that of the newest change that observers are notified of.
 use Rattle.std.proofs.Common.{◌≡◌, ℕ, ◌+◌, ◌≤◌, Bool, true, false, if◌then◌else◌, List, [], ◌∷◌, length, refl, arith}
 use Rattle.fc_registry.specs.Slots.{new_slot}
 use Rattle.fc_registry.specs.Changes.{Change, Installed, Committed, Removed, after_changes}
 use Rattle.fc_registry.specs.Laws.{notify_serial}
 use Rattle.fc_registry.proofs.Installs.{serials_count}
 
--- a change is noticed or isn't.
+-- two choices by the same condition are equal if their cases are.
 chosen : (b : Bool) (m n x y : ℕ) → m ≡ n → x ≡ y → (if b then m else x) ≡ (if b then n else y)
 chosen true m n x y e f = e
 chosen false m n x y e f = f
@@ -14,7 +14,7 @@ chosen_within : (b : Bool) (m n : ℕ) → n ≤ m → (if b then (m + 1) else n
 chosen_within true m n le = omega arith
 chosen_within false m n le = omega (arith, le)
 
--- the serial that a change leaves.
+-- the serial after a change is the first serial, plus the number of changes.
 counted : (serial : ℕ) (c : Change) (cs : List Change) → (after_changes (new_slot serial) cs).serial + 1 ≡ serial + length (c ∷ cs)
 counted serial c cs = omega (arith, serials_count serial cs)
 

@@ -1,4 +1,5 @@
--- The ticket of an outcome, and the outcome of a commit: serials decide it if the slot gave the ticket.
+-- The ticket of an outcome, and the outcome of a commit. Serials decide the outcome if the slot
+-- gave the ticket.
 use Rattle.std.proofs.Common.{◌≡◌, ℕ, Bool, true, false, refl, sym}
 use Rattle.std.specs.Prelude.{nat_lt, ◌==◌}
 use Rattle.std.proofs.lemmas.Bool.{lt-ltb, le-ltb, eqb-true, eq-eqb}
@@ -8,7 +9,7 @@ use Rattle.fc_registry.specs.declared.commit.CommitOutcome.TheVariants.{Writes, 
 use Rattle.fc_registry.specs.Slots.{Slot, Ticket, last_serial}
 use Rattle.fc_registry.specs.Calls.{HasGiven, IsRunOf, ComesTo, outcome, outcome_by, run_of, wants}
 
--- an outcome of the ticket's program, request, variables and readings is the ticket's run.
+-- an outcome of the ticket's program, request, variables and readings is that of the ticket's run.
 pub own_run : (ran : Ran) (t : Ticket) (serial : ℕ) → IsRunOf ran t serial → ran ≡ run_of t
 own_run ran t serial own = λ i. record { program = own.program i; input = record { request = own.request i; readings = own.readings i; vars = own.vars i } }
 

@@ -32,7 +32,7 @@ and_false : (b : Bool) → (b && false) ≡ false
 and_false true = refl
 and_false false = refl
 
--- one of them ends at a place.
+-- if a place passes one of two tests, one of the two searches from this place on finds a place.
 pub busy_place : {X Y : Type 0} (p q : ℕ → Bool) (r s : Option ℕ) (k : ℕ) (x : Option X) (y : Option Y) → k < 8 → p k ≡ is_some x → q k ≡ is_some y → false ≡ is_none x && is_none y → r ≡ place_from p (8 - k) k → s ≡ place_from q (8 - k) k → false ≡ is_none r && is_none s
 busy_place p q r s k (Some x) y lt overdue due e first second = ap (λ (o : Option ℕ). is_none o && is_none s) (sym (place_found p r k lt overdue first))
 busy_place p q r s k None (Some y) lt overdue due e first second = sym (and_false (is_none r)) ∙ ap (λ (o : Option ℕ). is_none r && is_none o) (sym (place_found q s k lt due second))

@@ -41,7 +41,7 @@ pub kept_changed : (slot : Slot) (k : StoredSlot) (n : ℕ) (c : Change) (s : Sl
 kept_changed slot k n c s kept planned own =
     (planned.1 ∙ sym (serial_after slot c), program_kept slot k.program c s.serial s.program planned.1 kept.1 planned.2 own)
 
--- the plan of an install.
+-- the result of `plan_install` is the update of the install, if the install changes the slot.
 pub plan_put : (slot : Slot) (n : ℕ) (p : Program) (v : InitialVars) (saved : ProgramUpdate) (r : Option SlotUpdate) → (r ≡ None → last_serial ≤ slot.serial) → IfSome r (λ (s : SlotUpdate). (slot.serial < last_serial) × (s ≡ record { slot = n; serial = slot.serial + 1; program = saved }))
     → IsUpdateOf slot (Installed p v) saved → IsPlan slot n (install_in slot p v).changes r
 plan_put slot n p v saved None none some told = subst (λ (b : Bool). IsPlan slot n (put_by b slot p v).changes None) (sym (le-ltb slot.serial last_serial (none refl))) tt

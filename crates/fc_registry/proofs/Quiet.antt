@@ -1,4 +1,4 @@
--- An idle shard: no notification has timed out, and no observer has a pending one.
+-- In an idle shard no notification has timed out, and no observer has a pending one.
 use Rattle.std.proofs.Common.{◌≡◌, ℕ, true, Option, Some, None, refl, ap}
 use Rattle.std.specs.Prelude.{is_none}
 use Rattle.std.proofs.lemmas.Bool.{and_parts}

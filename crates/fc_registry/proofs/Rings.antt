@@ -1,4 +1,4 @@
--- The ring of a slot after a change.
+-- The ring of a slot after each kind of change.
 use Rattle.std.proofs.Common.{◌≡◌, ℕ, ◌+◌, ◌-◌, ◌<◌, ◌≤◌, List, [], ◌∷◌, ◌++◌, length, map, set, get_or, drop, replicate, Bool, true, false, Option, Some, None, refl, sym, ap, ◌∙◌, subst, arith, ⊎_elim, length-append}
 use Rattle.std.specs.Prelude.{nat_lt, ◌==◌, ◌&&◌, Result, Ok, Err, OnOk, OnErr}
 use Rattle.std.specs.List.{All}
@@ -29,7 +29,7 @@ use Rattle.fc_registry.specs.Slots.{Slot, Present, Ticket, new_slot, last_serial
 use Rattle.fc_registry.specs.Changes.{Change, Installed, Committed, Removed, Commit, after_changes, changed, installed, with_vars, entry_of}
 use Rattle.fc_registry.specs.Record.{IsLink, IsChain, IsEntry, AreEntries, left_by, HasRecordIf, HasRingFrom, HasRingIf, HasRingSince, IsRecord, IsRing, code_class}
 
--- one more entry, which begins with the variables that the others left.
+-- entries stay entries with one more, which begins with the variables that the others left.
 entries_more : (p : Program) (serial : ℕ) (vars : List ℕ) (es : List Entry) (e : Entry) → AreEntries p serial vars es → IsEntry p (serial + length es) (left_by vars es) e → AreEntries p serial vars (es ++ e ∷ [])
 entries_more p serial vars [] e a x = (subst (λ (n : ℕ). IsEntry p n vars e) (omega arith) x, tt)
 entries_more p serial vars (y ∷ es) e a x = (a.0, entries_more p (serial + 1) y.after es e a.1 (subst (λ (n : ℕ). IsEntry p n (left_by y.after es) e) (omega arith) x))
@@ -38,7 +38,7 @@ left_more : (vars : List ℕ) (es : List Entry) (e : Entry) → left_by vars (es
 left_more vars [] e = refl
 left_more vars (y ∷ es) e = left_more y.after es e
 
--- the entry of a link.
+-- the ring's entry of a commit that is a link begins with the slot's variables.
 entry_is : (slot : Slot) (c : Commit) (p : Present) → slot.present ≡ Some p → IsLink slot c → IsEntry p.program (slot.serial + 1) p.vars (entry_of (slot.serial + 1) c)
 entry_is slot c p is link =
     let same : link.found ≡ p = (let s = link.present in cc) in
@@ -53,7 +53,7 @@ entry_is slot c p is link =
 abbrev with_after : Present → Commit → Present
 with_after p c = record p { vars = c.after }
 
--- a ring with room for one more.
+-- a ring of fewer than eight entries stays a ring with one more commit.
 short : (p : Present) (since serial : ℕ) (first : List ℕ) (c : Commit) (ring : List Entry) → length ring < 8 → IsEntry p.program (serial + 1) p.vars (entry_of (serial + 1) c) → HasRingSince since serial first p ring
     → HasRingSince since (serial + 1) first (with_after p c) (keep_last 8 (ring ++ entry_of (serial + 1) c ∷ []))
 short p since serial first c ring lt e h =
@@ -76,7 +76,7 @@ short p since serial first c ring lt e h =
       begins = λ q. h.begins all;
     })
 
--- a ring of eight.
+-- a ring of eight entries stays a ring with one more commit, which replaces the oldest.
 full : (p : Present) (since serial : ℕ) (first : List ℕ) (c : Commit) (ring : List Entry) → 8 ≤ length ring → IsEntry p.program (serial + 1) p.vars (entry_of (serial + 1) c) → HasRingSince since serial first p ring
     → HasRingSince since (serial + 1) first (with_after p c) (keep_last 8 (ring ++ entry_of (serial + 1) c ∷ []))
 full p since serial first c [] le e h = absurd (omega (arith, le))
@@ -115,7 +115,7 @@ record_if serial (Some p) ring h = (p.version, h)
 pub ring_record : (slot : Slot) → IsRing slot → IsRecord slot
 ring_record slot h = record_if slot.serial slot.present slot.ring h
 
--- a commit that is a link keeps the ring of its slot a ring.
+-- the ring of a slot stays a ring after a commit that is a link.
 since_committed : (slot : Slot) (since : ℕ) (c : Commit) (link : IsLink slot c) → HasRingFrom since slot.serial link.found slot.ring
     → HasRingFrom since (slot.serial + 1) (with_after link.found c) (keep_last 8 (slot.ring ++ entry_of (slot.serial + 1) c ∷ []))
 since_committed slot since c link h =
@@ -133,21 +133,22 @@ record_committed slot c link h =
     subst (λ (o : Option Present). HasRecordIf (slot.serial + 1) (with_vars c.after o) (keep_last 8 (slot.ring ++ entry_of (slot.serial + 1) c ∷ []))) (sym link.present)
     (has.0, since_committed slot has.0 c link has.1)
 
--- an install begins a new ring.
+-- an install begins a new, empty ring.
 begun : (slot : Slot) (p : Program) (v : InitialVars) → HasRingSince (slot.serial + 1) (slot.serial + 1) (installed slot p v).vars (installed slot p v) []
 begun slot p v = record { version = omega arith; reached = omega arith; size = omega arith; found = (installed slot p v).vars; entries = tt; vars = refl; begins = λ q. refl }
 
 pub ring_installed : (slot : Slot) (p : Program) (v : InitialVars) → IsRing (changed slot (Installed p v))
 ring_installed slot p v = ((installed slot p v).vars, begun slot p v, installed_size v p (vars_in slot.present))
 
--- the ring of a slot after a chain of changes.
+-- the ring of a slot after a chain of changes counts from the newest install.
 pub rings_follow : (serial : ℕ) (cs : List Change) → IsChain (new_slot serial) cs → IsRing (after_changes (new_slot serial) cs)
 rings_follow serial [] chain = refl
 rings_follow serial (Installed p v ∷ cs) chain = ring_installed (after_changes (new_slot serial) cs) p v
 rings_follow serial (Committed c ∷ cs) chain = ring_committed (after_changes (new_slot serial) cs) c chain.0 (rings_follow serial cs chain.1)
 rings_follow serial (Removed ∷ cs) chain = refl
 
--- it counts from the variables that the newest install left.
+-- the ring of a slot after a chain of changes begins with the variables that the newest install
+-- left.
 pub rings_begin : (serial : ℕ) (cs : List Change) → IsChain (new_slot serial) cs → RingBegins serial cs (after_changes (new_slot serial) cs)
 rings_begin serial [] chain p e = absurd (cc)
 rings_begin serial (Installed program v ∷ cs) chain p e =
@@ -172,7 +173,7 @@ zeros_begin serial (Committed c ∷ later) earlier p all = zeros_begin serial la
 zeros_begin serial (Installed q v ∷ later) earlier p all = absurd all
 zeros_begin serial (Removed ∷ later) earlier p all = absurd all
 
--- a commit that writes is a link at the slot's state.
+-- a commit that writes is a link at the state of its slot.
 commit_link : (slot : Slot) (t : Ticket) → wants t ≡ true → IsCurrent t slot → IsLink slot (commit_of t)
 commit_link slot t w current =
     let post = wants_post t.request.method (code_class (meaning_at t).code == 2) w in
@@ -190,7 +191,7 @@ commit_link slot t w current =
     wants_post Get b e = absurd (cc)
     wants_post Post b e = (refl, e)
 
--- a commit leaves a ring.
+-- the ring of a slot stays a record after any commit.
 ring_by : (t : Ticket) (slot : Slot) (v : ObserverList) (o : CommitOutcome) → ComesTo t slot o → IsRecord slot → IsRecord (after_changes slot (commits o t slot.serial v).changes)
 ring_by t slot v Writes w h = record_committed slot (commit_of t) (commit_link slot t w.0 w.1) h
 ring_by t slot v Keeps w h = h
@@ -221,21 +222,22 @@ clear_ring_by slot false (Some p) h = h
 pub ring_clear : (slot : Slot) → IsRecord slot → IsRecord (after_changes slot (remove_from slot).changes)
 ring_clear slot h = clear_ring_by slot (nat_lt slot.serial last_serial) slot.present h
 
--- each slot of a list, after one of them was written.
+-- if one slot of a list is written, and all had records and the new one has, all have records.
 pub all_written : (items : List SlotState) (k : ℕ) (t : SlotState) → All (λ x. IsRecord (as_seen x)) items → IsRecord (as_seen t) → All (λ x. IsRecord (as_seen x)) (set items k t)
 all_written items k t all here = λ j d lt. ⊎_elim
     (λ (e : j ≡ k). let low : k < length items = omega (arith, e, lt, length-set items k t) in subst (λ (i : ℕ). IsRecord (as_seen (get_or (set items k t) i d))) (sym e) (subst (λ (x : SlotState). IsRecord (as_seen x)) (sym (get_or-set_same items k t d low)) here))
     (λ (ne : j ≡ k → ⊥). subst (λ (x : SlotState). IsRecord (as_seen x)) (sym (get_or-set_other items k j t d ne)) (all j d (omega (arith, lt, length-set items k t))))
     (cases_eq j k)
 
--- slots with the view of new ones.
+-- slots whose views are those of new slots have records.
 pub all_new : (items : List SlotState) (n serial : ℕ) → map as_seen items ≡ replicate n (new_slot serial) → All (λ x. IsRecord (as_seen x)) items
 all_new items n serial is = λ j d lt.
     let count : n ≡ length items = sym (sym (length-map items as_seen) ∙ (ap length is ∙ length-replicate n (new_slot serial))) in
     let one : as_seen (get_or items j d) ≡ new_slot serial = sym (get_or-map as_seen items j d (new_slot serial) lt) ∙ (ap (λ (xs : List Slot). get_or xs j (new_slot serial)) is ∙ get_or-replicate n j (new_slot serial) (new_slot serial) (omega (arith, lt, count))) in
     subst IsRecord (sym one) refl
 
--- the state of a slot that was read, and then written at its place.
+-- if the state of a slot is read, changed so that its record stays one, and written at its place,
+-- all slots keep their records.
 pub written_rings : (items : List SlotState) (k : ℕ) (was now : SlotState) → (length items ≡ 8) × All (λ x. IsRecord (as_seen x)) items → k < 8 → was ≡ get_or items k was → (IsRecord (as_seen was) → IsRecord (as_seen now)) → (length (set items k now) ≡ 8) × All (λ x. IsRecord (as_seen x)) (set items k now)
 written_rings items k was now inv lt is keeps =
     let eight = inv.0 in
@@ -248,7 +250,7 @@ all_seen (x ∷ xs) k all lt = subst IsRecord (sym (get_or-map as_seen (x ∷ xs
 
 -- ---- restoring
 
--- a restored program begins a new ring.
+-- a restored program begins a new, empty ring.
 pub restored_ring : (serial : ℕ) (b : Body) (k : StoredProgram) → IsProgramState serial k b.program.value → b.version ≡ k.version → b.vars ≡ k.vars → HasRecordIf serial (present_of (Some b)) []
 restored_ring serial b k is version vars =
     let low = is.1 in
@@ -264,7 +266,7 @@ restored_ring serial b k is version vars =
     } in
     (serial, (b.vars, ring, ap (λ (xs : List ℕ). length xs) vars ∙ is.2))
 
--- a slot that is restored, or else unchanged.
+-- if a slot with a record is restored, or left unchanged, it has a record.
 pub record_either : {X E : Type 0} (r : Result X E) (was now : SlotState) → OnOk r (IsRecord (as_seen now)) → OnErr r (now ≡ was) → IsRecord (as_seen was) → IsRecord (as_seen now)
 record_either (Ok x) was now is same h = is
 record_either (Err e) was now is same h = subst (λ (s : SlotState). IsRecord (as_seen s)) (sym same) h

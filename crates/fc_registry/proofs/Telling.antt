@@ -1,4 +1,4 @@
--- The calls of a notification on the observers come after the advance of their clock.
+-- The calls of a notification on the observers are those after an advance of their clock.
 use Rattle.std.proofs.Common.{◌≡◌, ℕ, Option, Some, None, refl}
 use Rattle.coap_msg.specs.declared.types.Emission.{Emission}
 use Rattle.fc_observe.specs.declared.entry.Turn.{Turn}

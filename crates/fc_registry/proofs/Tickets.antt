@@ -1,4 +1,4 @@
--- A ticket has the data of its job, and the data that its snapshot wrote.
+-- A ticket has the data of its job, and the data that the job's snapshot wrote.
 use Rattle.std.proofs.Common.{◌≡◌, ◌∙◌, ℕ, Bool, true, false, List, Option, Some, None, length, refl, sym, ap, subst}
 use Rattle.fc_observe.specs.Observers.{ObserverList}
 use Rattle.fc_kinds.specs.Meaning.{Program}
@@ -38,11 +38,12 @@ given_as (Some number) kept job slot at w t is = given_out (is_out_at (turn_of j
 pub of_its_job : (job : Job) (readings : List ℕ) (slot : Slot) (at : ℕ) (w : ObserverList) (t : Ticket) → IsSnapshot job readings slot at w (Given t) → IsTicketOfJob job t
 of_its_job job readings slot at w t takes = given_as job.turn (readings_if takes.0 readings) job slot at w t takes.1
 
--- the written data is of this job and of the program in a slot.
+-- the data was written for this job, with these readings, and for a slot with this serial and
+-- contents.
 abbrev IsWritten : Job → List ℕ → ℕ → Body → SlotSnapshot → Type 0
 IsWritten job readings serial b f = (p : Program) → ticket_with p f ≡ ticket_of job readings serial (record { program = p; version = b.version; vars = b.vars })
 
--- with a handle of that program it is the snapshot with enough memory.
+-- the written data and a handle of the program are the result of a snapshot with enough memory.
 pub given_is : (job : Job) (readings : List ℕ) (serial : ℕ) (body : Option Body) (b : Body) (p : Program) (f : SlotSnapshot) →
     body ≡ Some b → p ≡ b.program.value → IsWritten job readings serial b f →
     Given (ticket_with p f) ≡ snapshot (Some readings) job serial (present_of body)
@@ -50,7 +51,7 @@ given_is job readings serial body b p f is same writes =
     ap (λ (q : Program). Given (ticket_with q f)) same
     ∙ (ap Given (writes b.program.value) ∙ sym (ap (λ (x : Option Body). snapshot (Some readings) job serial (present_of x)) is))
 
--- the variables are as many as the program has.
+-- the written data has as many variables as the program.
 pub sized_is : (job : Job) (readings : List ℕ) (serial : ℕ) (b : Body) (p : Program) (f : SlotSnapshot) →
     p ≡ b.program.value → IsWritten job readings serial b f → IsSized p f
 sized_is job readings serial b p f same writes =

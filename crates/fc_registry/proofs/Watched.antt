@@ -1,4 +1,4 @@
--- No slot of a shard that isn't watched has an observer.
+-- No slot has an observer if its shard isn't watched.
 use Rattle.std.proofs.Common.{◌≡◌, ℕ, zero, suc, ◌+◌, ◌<◌, List, [], ◌∷◌, ◌++◌, length, map, set, get_or, Bool, true, false, Option, Some, None, refl, sym, ap, ◌∙◌, subst, ⊎_elim}
 use Rattle.std.specs.Prelude.{◌&&◌, ◌||◌, find, if◌then◌else◌, is_none, is_some, max, nat_lt, not}
 use Rattle.std.specs.List.{list_any}
@@ -42,7 +42,8 @@ signal_enters false to id = tt
 
 -- ---- places
 
--- the observers at a place are replaced, by none if there were none.
+-- if the observers at a place are replaced, by none if there were none, the flag still fits the
+-- lists.
 pub watched_there : (b : Bool) (ws : List ObserverList) (k : ℕ) (was w : ObserverList) → k < length ws → was ≡ get_or ws k was → (was.held ≡ [] →
     w.held ≡ []) → AreWatched b ws → AreWatched b (set ws k w)
 watched_there true ws k was w lt is keeps none = tt
@@ -58,14 +59,15 @@ pub true_of_not : (b : Bool) → not b ≡ false → b ≡ true
 true_of_not true is = refl
 true_of_not false is = absurd (cc is)
 
--- the same, if it is known whether there are none.
+-- if the observers at a place are replaced, the flag fits the lists once it is set for observers
+-- there.
 pub watched_if : (b some : Bool) (ws : List ObserverList) (k : ℕ) (was w : ObserverList) → k < length ws → was ≡ get_or ws k was → (some ≡ false →
     w.held ≡ []) → AreWatched b ws → AreWatched (b || some) (set ws k w)
 watched_if true some ws k was w lt is seen none = tt
 watched_if false true ws k was w lt is seen none = tt
 watched_if false false ws k was w lt is seen none = watched_there false ws k was w lt is (λ old. seen refl) none
 
--- a signal to the observers at each place.
+-- a signal to the observers at each place keeps an unwatched shard without observers.
 pub watched_everywhere : (b reset : Bool) (to : Endpoint) (id : ℕ) (ws : List ObserverList) → AreWatched b ws →
     AreWatched b (map (observers_after (signal_call reset to id)) ws)
 watched_everywhere true reset to id ws none = tt

@@ -1,5 +1,5 @@
--- The results of a shard's calls, and the changes that they make. The slot that a call finds
--- decides its result and its changes, by one function for each call.
+-- The results of a shard's calls, and the changes that these calls make. One function for each call
+-- determines both from the slot that the call finds.
 use Rattle.std.specs.Prelude.{◌≡◌, ℕ, ◌+◌, ◌/◌, ◌==◌, ◌&&◌, ◌<◌, ◌≤◌, Bool, true, false, if◌then◌else◌, nat_lt, List, [], ◌∷◌, ◌++◌, Option, Some, None, is_none, is_some, max}
 use Rattle.coap_msg.specs.Codes.{code}
 use Rattle.coap_opts.specs.Values.{Place}
@@ -37,42 +37,44 @@ use Rattle.fc_registry.specs.Watches.{watch_at, with_calls}
 
 -- ---- snapshots
 
--- the request that a job asks a program to answer; it is empty if the job requests no run.
+-- the request that a job asks a program to answer; an empty one if the job runs no program.
 abbrev pub request_of : Ask → Request
 request_of (Run request) = request
 request_of other = no_request
 
--- a ticket of a slot's contents at a serial, with the readings passed to the snapshot.
+-- the ticket of a slot's contents at this serial, with the readings passed to the snapshot.
 abbrev pub ticket_of : Job → List ℕ → ℕ → Present → Ticket
 ticket_of job readings serial found = record { origin = job.origin; turn = job.turn; token = job.token; request = request_of job.ask; block = job.block; observe = job.observe; serial = serial; found = found; readings = readings }
 
--- the readings that a ticket keeps, if there is memory for a ticket.
+-- the readings that a snapshot keeps; none if there is no memory for a ticket.
 abbrev pub readings_if : Bool → List ℕ → Option (List ℕ)
 readings_if true readings = Some readings
 readings_if false readings = None
 
--- a snapshot gives a ticket of the slot's contents, if there is memory for it; an empty slot needs
--- no memory.
+-- the result of a snapshot: a ticket of the slot's contents, if there is memory for one. An empty
+-- slot needs no memory.
 abbrev pub snapshot : Option (List ℕ) → Job → ℕ → Option Present → Taken
 snapshot kept job serial None = Missing
 snapshot (Some readings) job serial (Some found) = Given (ticket_of job readings serial found)
 snapshot None job serial (Some found) = Refused
 
--- the lease with this number of the observers of a job's slot.
+-- the lease with this number, of an observer of a job's slot.
 abbrev pub turn_of : Job → ℕ → Turn
 turn_of job number = record { slot = job.origin.slot; number = number }
 
--- the snapshot of a lease that isn't active is stale, whatever the slot's contents.
+-- the result of a lease's snapshot. It is stale if the lease isn't active, whatever the slot's
+-- contents.
 abbrev pub turn_snapshot : Bool → Option (List ℕ) → Job → ℕ → Option Present → Taken
 turn_snapshot true kept job serial present = snapshot kept job serial present
 turn_snapshot false kept job serial present = Stale
 
--- an active lease whose snapshot finds the slot empty is marked as missing.
+-- the call that marks a lease as missing. The lease is active, and its snapshot finds the slot
+-- empty.
 abbrev pub mark_missing_calls : Bool → Turn → Option Present → List ObserverCall
 mark_missing_calls true turn None = MarkMissing turn ∷ []
 mark_missing_calls out turn present = []
 
--- the lease is active at a time.
+-- whether the lease is active at this time.
 abbrev pub is_out_at : Turn → ℕ → ObserverList → Bool
 is_out_at turn at w = is_some (entry_out turn (list_at_time at w))
 
@@ -80,18 +82,18 @@ is_out_at turn at w = is_some (entry_out turn (list_at_time at w))
 abbrev pub turn_calls : Turn → ℕ → Option Present → ObserverList → List ObserverCall
 turn_calls turn at present w = mark_missing_calls (is_out_at turn at w) turn present ++ Advance at ∷ []
 
--- the snapshot of a slot with these observers, at a time, for a request or for the lease with this
--- number.
+-- the result of the snapshot of a slot with these observers, at this time. It is for a request, or
+-- for the lease with this number.
 abbrev pub snapshot_by : Option ℕ → Option (List ℕ) → Job → Slot → ℕ → ObserverList → Taken
 snapshot_by None kept job slot at w = snapshot kept job slot.serial slot.present
 snapshot_by (Some number) kept job slot at w = turn_snapshot (is_out_at (turn_of job number) at w) kept job slot.serial slot.present
 
--- the snapshot's calls on the observers, the newest first.
+-- the calls of that snapshot on the observers, the newest first.
 abbrev pub snapshot_calls_by : Option ℕ → Job → Slot → ℕ → ObserverList → List ObserverCall
 snapshot_calls_by None job slot at w = []
 snapshot_calls_by (Some number) job slot at w = turn_calls (turn_of job number) at slot.present w
 
--- the snapshot of a job.
+-- the result of a job's snapshot, for a request or a lease.
 abbrev pub snapshot_at : Option (List ℕ) → Job → Slot → ℕ → ObserverList → Taken
 snapshot_at kept job slot at w = snapshot_by job.turn kept job slot at w
 
@@ -99,19 +101,21 @@ snapshot_at kept job slot at w = snapshot_by job.turn kept job slot at w
 abbrev pub snapshot_calls : Job → Slot → ℕ → ObserverList → List ObserverCall
 snapshot_calls job slot at w = snapshot_calls_by job.turn job slot at w
 
--- the result of a job's snapshot of a slot, with memory for a ticket or without.
+-- the result of a request's snapshot of a slot, with memory for a ticket or without.
 abbrev pub IsFinding : Job → List ℕ → Slot → Taken → Type 0
 IsFinding job readings slot taken = (memory : Bool) × (taken ≡ snapshot (readings_if memory readings) job slot.serial slot.present)
 
--- the same for the snapshot of a lease; the result is stale if the lease isn't active.
+-- the result of a lease's snapshot of a slot, with memory or without; it is stale if the lease
+-- isn't active.
 abbrev pub IsTurnSnapshot : Turn → ℕ → ObserverList → Job → List ℕ → Slot → Taken → Type 0
 IsTurnSnapshot turn at w job readings slot taken = (memory : Bool) × (taken ≡ turn_snapshot (is_out_at turn at w) (readings_if memory readings) job slot.serial slot.present)
 
--- the same for the job of a request or of a lease.
+-- the result of a snapshot for the job of a request or a lease, with memory or without.
 abbrev pub IsSnapshot : Job → List ℕ → Slot → ℕ → ObserverList → Taken → Type 0
 IsSnapshot job readings slot at w taken = (memory : Bool) × (taken ≡ snapshot_at (readings_if memory readings) job slot at w)
 
--- a snapshot at a shard, with these readings: of the job's slot and its observers.
+-- the result of a job's snapshot at a shard, with these readings, of the job's slot and its
+-- observers.
 abbrev pub TakesAt : Job → List ℕ → Shard → Taken → Type 0
 TakesAt job readings shard taken = IsSnapshot job readings (slot_in shard job.origin.slot) shard.now (watch_at shard (job.origin.slot / 8)) taken
 
@@ -126,13 +130,13 @@ pub record Called (A : Type 0) : Type 0 where
 
 -- ---- install
 
--- the variables that an install is to leave; `Zeros` for any other action.
+-- the variables that an install is to leave; `Zeros` if the action is another one.
 abbrev pub initial_vars_of : Ask → InitialVars
 initial_vars_of (Install image initial) = initial
 initial_vars_of other = Zeros
 
--- an install changes a slot that is below the last serial. Its result has the new serial, and
--- whether the slot was empty.
+-- an install changes a slot that is below the last serial. The install's result has the new serial,
+-- and whether the slot was empty.
 abbrev pub put_by : Bool → Slot → Program → InitialVars → Called Made
 put_by true slot p initial = record { answer = Raised (slot.serial + 1) (is_none slot.present); changes = Installed p initial ∷ [] }
 put_by false slot p initial = record { answer = AtEnd; changes = [] }
@@ -143,8 +147,8 @@ install_in slot p initial = put_by (nat_lt slot.serial last_serial) slot p initi
 
 -- ---- remove
 
--- the removal of a program changes a slot that is below the last serial, and its result has the new
--- serial. An empty slot doesn't change.
+-- the removal of a program changes a slot that is below the last serial, and the result has the new
+-- serial. The removal from an empty slot changes nothing.
 abbrev pub clear_by : Bool → ℕ → Option Present → Called Removal
 clear_by below serial None = record { answer = removals.Absent; changes = [] }
 clear_by true serial (Some p) = record { answer = removals.Removed (serial + 1); changes = Removed ∷ [] }
@@ -167,16 +171,17 @@ receipt_at (Some p) = Some (receipt_of p.program p.version)
 
 -- ---- the meaning of a ticket's run
 
--- the request is a POST.
+-- whether the request is a POST.
 abbrev pub is_post : Method → Bool
 is_post Get = false
 is_post Post = true
 
--- a run that answers a POST with a code of class 2 wants to write.
+-- whether a run wants to write: it answers a POST with a code of class 2.
 abbrev pub wants_by : Ran → Bool
 wants_by ran = is_post ran.input.request.method && (code_class (meaning_of ran).code == 2)
 
--- the input of a ticket's run: its request, and the variables and readings of its snapshot.
+-- the input of a ticket's run: the ticket's request, and the variables and readings of the
+-- snapshot.
 abbrev pub input_of : Ticket → Input
 input_of t = input_with t.request t.found.vars t.readings
 
@@ -184,75 +189,77 @@ input_of t = input_with t.request t.found.vars t.readings
 abbrev pub run_of : Ticket → Ran
 run_of t = record { program = t.found.program; input = input_of t }
 
--- the ticket's run wants to write.
+-- whether the ticket's run wants to write.
 abbrev pub wants : Ticket → Bool
 wants t = wants_by (run_of t)
 
--- the meaning of the ticket's program for its request, and for the variables and readings of its
--- snapshot.
+-- the meaning of the ticket's program for the ticket's request, and for the variables and readings
+-- of the snapshot.
 abbrev pub meaning_at : Ticket → Meaning
 meaning_at t = meaning_of (run_of t)
 
 -- ---- observe
 
--- the option has this value.
+-- whether the option has this value.
 abbrev pub has_observe : ℕ → Option ℕ → Bool
 has_observe value None = false
 has_observe value (Some own) = own == value
 
--- the requested block is the first.
+-- whether the requested block is the first one, or none is requested.
 abbrev pub is_first_block : Option Place → Bool
 is_first_block None = true
 is_first_block (Some block) = block.number == 0
 
--- the size of the requested block, as an exponent.
+-- the size of the requested block, as an exponent, if a block is requested.
 abbrev pub szx_of : Option Place → Option ℕ
 szx_of None = None
 szx_of (Some block) = Some block.szx
 
--- the client is registered as an observer: Observe 0, the first block, and a 2.05 (Content)
--- response (RFC 7641, section 4.1).
+-- whether the run registers the client as an observer: Observe 0, the first block, and a 2.05
+-- (Content) response (RFC 7641, section 4.1).
 abbrev pub is_registration : Ticket → Bool
 is_registration t = has_observe observe.REGISTER t.observe && (is_first_block t.block && ((meaning_at t).code == code 2 5))
 
--- the client is removed: Observe 1, whatever the code (RFC 7641, section 3.6).
+-- whether the run removes the client from the observers: Observe 1, whatever the code (RFC 7641,
+-- section 3.6).
 abbrev pub is_cancellation : Ticket → Bool
 is_cancellation t = has_observe observe.CANCEL t.observe
 
--- the call of a registration or of a cancellation on the observers, if it is one.
+-- the call of a registration or of a cancellation on the observers; none for any other run.
 abbrev pub observe_calls_by : Bool → Bool → ℕ → Ticket → List ObserverCall
 observe_calls_by true cancel now t = Register now t.origin.endpoint t.token t.request (szx_of t.block) t.serial ∷ []
 observe_calls_by false true now t = Cancel t.origin.endpoint t.token.items ∷ []
 observe_calls_by false false now t = []
 
--- the calls on the observers of a slot, at a time, by a run that has nothing to write.
+-- the calls of a run that has nothing to write on the observers of its slot, at this time.
 abbrev pub observe_calls : ℕ → Ticket → List ObserverCall
 observe_calls now t = observe_calls_by (is_registration t) (is_cancellation t) now t
 
--- the registration is made.
+-- whether a registration was made.
 abbrev pub is_entered : Registered → Bool
 is_entered Full = false
 is_entered other = true
 
--- from now on the client observes the slot, whose observers are these.
+-- whether the client observes the slot, with these observers, from now on.
 abbrev pub is_observed : Ticket → ObserverList → Bool
 is_observed t w = is_registration t && is_entered (registration t.origin.endpoint t.token.items w)
 
 -- ---- commit
 
--- nothing has changed since the ticket's snapshot.
+-- the slot is still as the ticket's snapshot found it.
 pub record IsCurrent (t : Ticket) (slot : Slot) : Type 0 where
   pub serial : slot.serial ≡ t.serial
   pub present : slot.present ≡ Some t.found
 
--- the outcome of a commit at a slot.
+-- the outcome of a commit of the ticket's run at this slot.
 abbrev pub ComesTo : Ticket → Slot → CommitOutcome → Type 0
 ComesTo t slot Keeps = wants t ≡ false
 ComesTo t slot Overtakes = (wants t ≡ true) × (IsCurrent t slot → ⊥)
 ComesTo t slot Ends = (wants t ≡ true) × IsCurrent t slot × (last_serial ≤ slot.serial)
 ComesTo t slot Writes = (wants t ≡ true) × IsCurrent t slot × (slot.serial < last_serial)
 
--- the outcome by serials: they decide the outcome at a slot that gave the ticket.
+-- the outcome by three tests: the run wants to write, the slot is current, and it is below the last
+-- serial.
 abbrev pub outcome_by : Bool → Bool → Bool → CommitOutcome
 outcome_by false current below = Keeps
 outcome_by true false below = Overtakes
@@ -263,36 +270,36 @@ outcome_by true true true = Writes
 abbrev pub outcome : Ticket → Slot → CommitOutcome
 outcome t slot = outcome_by (wants t) (slot.serial == t.serial) (nat_lt slot.serial last_serial)
 
--- the slot gave the ticket. The slot's serial isn't below the ticket's. If both are equal, the slot
--- has the program and the variables that the snapshot found.
+-- the slot may have given the ticket. The slot's serial isn't below the ticket's. If both serials
+-- are equal, the slot has the program and the variables that the snapshot found.
 pub record HasGiven (slot : Slot) (t : Ticket) : Type 0 where
   pub serial : t.serial ≤ slot.serial
   pub present : t.serial ≡ slot.serial → slot.present ≡ Some t.found
 
--- the mark of the ticket's job, at a slot of this serial.
+-- the mark of a commit of the ticket's run, at a slot of this serial.
 abbrev pub mark_of : Ticket → ℕ → Bool → Bool → Mark
 mark_of t serial changed observed = record { origin = t.origin; found = t.serial; serial = serial; changed = changed; observed = observed }
 
--- a commit that writes leaves just the variables of the run's meaning, and has that meaning's
--- notify flag.
+-- the commit of a ticket's run: it leaves just the variables of the run's meaning, and has the
+-- notify flag of that meaning.
 abbrev pub commit_of : Ticket → Commit
 commit_of t = record { request = t.request; readings = t.readings; before = t.found.vars; after = (meaning_at t).vars; notice = (meaning_at t).notice }
 
--- the commit at a slot of this serial and with these observers.
+-- the result and the changes of a commit, at a slot of this serial and with these observers.
 abbrev pub commits : CommitOutcome → Ticket → ℕ → ObserverList → Called Committed
 commits Writes t serial w = record { answer = Done (mark_of t (serial + 1) true false); changes = Wrote (commit_of t) ∷ [] }
 commits Keeps t serial w = record { answer = Done (mark_of t serial false (is_observed t w)); changes = [] }
 commits Overtakes t serial w = record { answer = Overtaken; changes = [] }
 commits Ends t serial w = record { answer = Ended; changes = [] }
 
--- a commit's calls on the observers, at a time. A commit that is done and changed nothing may
--- register or remove a GET's client.
+-- the calls of a commit on the observers, at this time. A commit that is done and changed nothing
+-- may register or remove the client of a GET.
 abbrev pub commit_calls : Committed → ℕ → Ticket → List ObserverCall
 commit_calls (Done m) now t = if m.changed then [] else observe_calls now t
 commit_calls other now t = []
 
 -- the outcome is that of a run of the ticket's program, with the ticket's request, variables and
--- readings. The ticket's serial isn't above the slot's.
+-- readings. The ticket's serial isn't above this serial, the slot's.
 pub record IsRunOf (ran : Ran) (t : Ticket) (serial : ℕ) : Type 0 where
   pub program : ran.program ≡ t.found.program
   pub request : ran.input.request ≡ t.request
@@ -305,24 +312,24 @@ pub record IsOwn (ran : Ran) (t : Ticket) (slot : Slot) : Type 0 where
   pub asked : t.turn ≡ None
   pub run : IsRunOf ran t slot.serial
 
--- the commit of an outcome that belongs to the ticket.
+-- a commit whose outcome belongs to the ticket, and the slot after it.
 pub record IsCommitOf (t : Ticket) (slot : Slot) (w : ObserverList) (c : Committed) (after : Slot) : Type 0 where
   pub comes_to : CommitOutcome
   pub is : ComesTo t slot comes_to
   pub answer : c ≡ (commits comes_to t slot.serial w).answer
   pub after_is : after ≡ after_changes slot (commits comes_to t slot.serial w).changes
 
--- the commit of a run would write: the run is the ticket's and wants to write, and its slot is as
--- the snapshot found it, below the last serial.
+-- the commit of a run would write. The run is that of the ticket and wants to write, and the slot
+-- is as the snapshot found it, below the last serial.
 abbrev pub WouldWrite : Ran → Ticket → Slot → Type 0
 WouldWrite ran t slot = (wants_by ran ≡ true) × IsOwn ran t slot × ComesTo t slot Writes
 
--- an outcome that doesn't belong to the ticket changes nothing.
+-- the outcome doesn't belong to the ticket, and the commit changes nothing.
 pub record IsStranger (ran : Ran) (t : Ticket) (slot : Slot) (after : Slot) : Type 0 where
   pub stranger : IsOwn ran t slot → ⊥
   pub after_is : after ≡ slot
 
--- an outcome that belongs to the ticket, and its commit.
+-- the outcome belongs to the ticket, and this is the result of its commit.
 abbrev pub IsOwnCommit : Ran → Ticket → Slot → ObserverList → Committed → Slot → Type 0
 IsOwnCommit ran t slot w c after = IsOwn ran t slot × IsCommitOf t slot w c after
 
@@ -331,8 +338,8 @@ abbrev pub IsCommit : Ran → Ticket → Slot → ObserverList → Committed →
 IsCommit ran t slot w Stranger after = IsStranger ran t slot after
 IsCommit ran t slot w c after = IsOwnCommit ran t slot w c after
 
--- a commit at a time: it changes only the shard's time, the ticket's slot, and that slot's
--- observers.
+-- the result of a commit at this time. The commit changes only the shard's time, the ticket's slot,
+-- and the observers of that slot.
 pub record CommitsTo (ran : Ran) (t : Ticket) (old : Shard) (now : ℕ) (c : Committed) (new : Shard) : Type 0 where
   pub after : Slot
   pub commit : IsCommit ran t (slot_in old t.origin.slot) (watch_at old (t.origin.slot / 8)) c after

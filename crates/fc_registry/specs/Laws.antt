@@ -1,5 +1,5 @@
--- Definitions for the laws of a slot and its changes, a ticket and its job, and a lease's job and
--- its observer.
+-- Definitions for three kinds of laws: of a slot and its changes, of a ticket and its job, and of a
+-- lease's job and observer.
 use Rattle.std.specs.Prelude.{◌≡◌, ℕ, ◌+◌, ◌<◌, false, if◌then◌else◌, Some, None, List, [], ◌∷◌, ◌++◌, length}
 use Rattle.fc_help.specs.Request.{Request}
 use Rattle.fc_observe.specs.Views.{Interest}
@@ -17,7 +17,7 @@ AllCommits (Committed c ∷ cs) = AllCommits cs
 AllCommits (Installed p initial ∷ cs) = ⊥
 AllCommits (Removed ∷ cs) = ⊥
 
--- the variables that the newest commit left, or these if there is none.
+-- the variables that the newest commit left, or these variables if there is no commit.
 abbrev pub vars_left : List ℕ → List Change → List ℕ
 vars_left vars [] = vars
 vars_left vars (Committed c ∷ cs) = c.after
@@ -31,8 +31,8 @@ vars_begun serial (Installed p initial ∷ cs) = (installed (after_changes (new_
 vars_begun serial (Committed c ∷ cs) = vars_begun serial cs
 vars_begun serial (Removed ∷ cs) = vars_begun serial cs
 
--- the ring of the slot after these changes counts from the newest install, and begins with the
--- variables that the install left.
+-- the ring of the slot after these changes counts from the newest install. It begins with the
+-- variables that this install left.
 abbrev pub RingBegins : ℕ → List Change → Slot → Type 0
 RingBegins serial cs slot = (p : Present) → slot.present ≡ Some p → HasRingSince p.version slot.serial (vars_begun serial cs) p slot.ring
 
@@ -42,9 +42,9 @@ abbrev pub notify_serial : ℕ → List Change → ℕ
 notify_serial serial [] = serial
 notify_serial serial (c ∷ cs) = if is_noticed c then serial + length (c ∷ cs) else notify_serial serial cs
 
--- the changes of a slot, the newest first, contain the install of this program, and only commits
--- have followed it. The version is the serial of that install. The variables are those that the
--- install or the newest commit left.
+-- the program was installed by one of these changes, the newest first, and only commits have
+-- followed. The version is the serial of that install. The variables are those that the install or
+-- the newest commit left.
 pub record FollowsInstall (serial : ℕ) (cs : List Change) (p : Present) : Type 0 where
   pub later : List Change
   pub earlier : List Change
@@ -63,9 +63,8 @@ pub record IsTicketOfJob (j : Job) (t : Ticket) : Type 0 where
   pub observe : t.observe ≡ j.observe
   pub request : (request : Request) → j.ask ≡ Run request → t.request ≡ request
 
--- a lease's job for an observer answers the observer's request again, from the first block on. The
--- block size is the one that the registration requested, if it requested one. A size has an
--- exponent of three bits.
+-- the job of a lease answers the observer's request again, from the first block on. The size of the
+-- block is the one that the registration requested, if any. A size has an exponent of three bits.
 pub record IsTurnFor (j : Job) (o : Interest) : Type 0 where
   pub endpoint : j.origin.endpoint ≡ o.endpoint
   pub token : j.token ≡ o.token

@@ -26,31 +26,31 @@ use Rattle.fc_registry.specs.Watches.{at_time, watch_at, with_calls}
 
 -- ---- the content
 
--- the ticket of the notified run; none if the slot was found empty.
+-- the ticket of the run that is notified; `None` if the slot was empty.
 abbrev pub ticket_told : Notification → Option Ticket
 ticket_told (tells.Ran outcome ticket) = Some ticket.now
 ticket_told tells.Gone = None
 
--- a run's response, with the snapshot's serial as its sequence number, and the block that its
--- request asks for; 4.04 for an empty slot.
+-- the response of a notification. That of a run has the snapshot's serial as its sequence number,
+-- and the block that the ticket's request names. That of an empty slot is 4.04.
 abbrev pub note_response : Option Ticket → Response
 note_response None = bare (code 4 4)
 note_response (Some t) = ran_response (meaning_at t).code (cut_for t.block (meaning_at t).reply) t.serial true
 
--- only a 2.05 (Content) response leaves the observer in the list.
+-- whether the observer stays in the list: only if the response is 2.05 (Content).
 abbrev pub keeps_observer : Option Ticket → Bool
 keeps_observer None = false
 keeps_observer (Some t) = (meaning_at t).code == code 2 5
 
 -- ---- the observer
 
--- the observer with an active lease. It is notified of an empty slot only if the lease's snapshot
--- found the slot empty.
+-- the observer that a lease notifies, if the lease is active. If the content is an empty slot, the
+-- lease's snapshot must have found the slot empty.
 abbrev pub observer_told : Option Ticket → Turn → ObserverList → Option Interest
 observer_told None turn w = if is_missing turn w then option_map interest_of (entry_out turn w) else None
 observer_told (Some t) turn w = option_map interest_of (entry_out turn w)
 
--- a notification is confirmable or not (RFC 7641, section 4.5).
+-- the type of a notification, which is confirmable or not (RFC 7641, section 4.5).
 abbrev pub note_kind : Bool → MessageType
 note_kind true = Confirmable
 note_kind false = NonConfirmable
@@ -59,32 +59,33 @@ note_kind false = NonConfirmable
 abbrev pub note_envelope : ℕ → Bool → Interest → Envelope
 note_envelope id confirmable o = record { to = o.endpoint; kind = note_kind confirmable; id = id; token = o.token.items }
 
--- the notification of an observer.
+-- the notification that is sent to this observer, with this message ID.
 abbrev pub note_to : ℕ → Bool → Option Ticket → Interest → Emission
 note_to id confirmable found o = sent_in (note_envelope id confirmable o) (note_response found)
 
--- the notification of a lease, if one may be sent, at the observers' own time.
+-- the notification of a lease, if one may be sent, at the time of these observers.
 abbrev pub note_in : Turn → ℕ → Option Ticket → ObserverList → Option Emission
 note_in turn id found w = option_map (note_to id (must_confirm_turn turn w) found) (observer_told found turn w)
 
--- the same, at a time.
+-- the notification of a lease, if one may be sent, at this time.
 abbrev pub note_at : Turn → ℕ → ℕ → Option Ticket → ObserverList → Option Emission
 note_at turn id at found w = note_in turn id found (list_at_time at w)
 
 -- ---- the end of the lease
 
--- the serial that an observer was sent.
+-- the serial that the observer was sent; 0 for an empty slot.
 abbrev pub serial_told : Option Ticket → ℕ
 serial_told None = 0
 serial_told (Some t) = t.serial
 
--- a notification with these bytes ends its lease; if the response isn't 2.05 (Content), the
--- observer is removed.
+-- the call that ends the lease of a notification with these bytes. If the response isn't 2.05
+-- (Content), the observer is removed.
 abbrev pub told_call : Bool → Turn → ℕ → ℕ → ℕ → ℕ → ArrayVec ℕ → ObserverCall
 told_call true turn id random at serial bytes = Notify at turn id serial random bytes
 told_call false turn id random at serial bytes = End turn
 
--- the same for a message that is sent at a time, if one is.
+-- the call that ends the lease of a notification that is sent at this time; none if nothing is
+-- sent.
 abbrev pub told_calls : Turn → ℕ → ℕ → ℕ → Option Ticket → Option Emission → List ObserverCall
 told_calls turn id random at found None = []
 told_calls turn id random at found (Some e) = told_call (keeps_observer found) turn id random at (serial_told found) e.bytes ∷ []
@@ -95,7 +96,7 @@ note_calls turn id random at found sent = told_calls turn id random at found sen
 
 -- ---- the result
 
--- the message that is sent, if one is.
+-- the message that is sent, if the result has one.
 abbrev pub sent_of : Noted → Option Emission
 sent_of (Send emission) = Some emission
 sent_of other = None
@@ -106,12 +107,13 @@ noted_as outcomes.Sent emission = Send emission
 noted_as outcomes.Stale emission = Stale
 noted_as outcomes.Stranger emission = Stranger
 
--- a notification that isn't sent leaves the old message unchanged.
+-- the message is unchanged unless a notification was sent.
 abbrev pub IsKeptUnlessSent : NoteOutcome → Emission → Emission → Type 0
 IsKeptUnlessSent outcomes.Sent old new = Unit {0}
 IsKeptUnlessSent other old new = new ≡ old
 
--- the ticket is this lease's, and the outcome is of that ticket, at this serial of the slot.
+-- the ticket is that of this lease, and the outcome is that of the ticket, at this serial of the
+-- slot.
 pub record IsRunOfTurn (turn : Turn) (ran : Ran) (t : Ticket) (serial : ℕ) : Type 0 where
   pub slot : t.origin.slot ≡ turn.slot
   pub number : t.turn ≡ Some turn.number
@@ -127,19 +129,19 @@ abbrev pub IsSentOrStale : Noted → Type 0
 IsSentOrStale Stranger = ⊥
 IsSentOrStale other = Unit {0}
 
--- the result of a notification, at the observers' own time. The first test is whether the lease may
--- be notified, the second whether the notification belongs to the lease.
+-- the result of a notification, at the time of these observers. The first test is whether the lease
+-- may be notified, the second whether the notification belongs to the lease.
 abbrev pub IsNotedIn : Notification → Turn → ℕ → ℕ → ObserverList → Noted → Type 0
 IsNotedIn told turn id serial w Stale = observer_told (ticket_told told) turn w ≡ None
 IsNotedIn told turn id serial w Stranger = (is_some (observer_told (ticket_told told) turn w) ≡ true) × (IsOfTurn turn serial told → ⊥)
 IsNotedIn told turn id serial w (Send emission) = IsOfTurn turn serial told × (Some emission ≡ note_in turn id (ticket_told told) w)
 
--- the same, at a time.
+-- the result of a notification, at this time.
 abbrev pub IsNoted : Notification → Turn → ℕ → ℕ → ℕ → ObserverList → Noted → Type 0
 IsNoted told turn id at serial w noted = IsNotedIn told turn id serial (list_at_time at w) noted
 
--- a notification at a time: it changes only the shard's time, and the observers of the lease's
--- slot.
+-- the result of a notification at this time. The notification changes only the shard's time, and
+-- the observers of the lease's slot.
 pub record NotesTo (told : Notification) (turn : Turn) (id random : ℕ) (old : Shard) (now : ℕ) (noted : Noted) (new : Shard) : Type 0 where
   pub is : IsNoted told turn id (max old.now now) (slot_in old turn.slot).serial (watch_at old (turn.slot / 8)) noted
   pub after : new ≡ with_calls (note_calls turn id random (max old.now now) (ticket_told told) (sent_of noted)) turn.slot (at_time old now)

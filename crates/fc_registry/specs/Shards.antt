@@ -32,11 +32,11 @@ abbrev pub empty_shard : ℕ → ℕ → ℕ → Shard
 empty_shard serial confirm_after index =
     record { index = index; now = 0; slots = replicate 8 (new_slot serial); watches = new_watches index confirm_after 8 }
 
--- such shards, with the indices below n.
+-- the shards of empty slots with the indices below n.
 abbrev pub empty_shards : ℕ → ℕ → ℕ → List Shard
 empty_shards serial confirm_after zero = []
 empty_shards serial confirm_after (suc n) = empty_shards serial confirm_after n ++ (empty_shard serial confirm_after n ∷ [])
 
--- the shards of a new server, every slot at this serial.
+-- the shards of a new server; every slot is at this serial.
 abbrev pub first_shards : ℕ → ℕ → List Shard
 first_shards serial confirm_after = empty_shards serial confirm_after 8

@@ -8,7 +8,7 @@ use Rattle.fc_observe.specs.Observers.{ObserverList}
 use Rattle.fc_registry.specs.declared.job.Origin.{Origin}
 use Rattle.fc_registry.specs.declared.ring.Entry.{Entry}
 
--- a program in a slot: its version is the serial of its install.
+-- a program in a slot, with the serial of the program's install as its version.
 pub record Present : Type 0 where
   pub program : Program
   pub version : ℕ
@@ -19,14 +19,14 @@ abbrev pub version_in : Option Present → Option ℕ
 version_in None = None
 version_in (Some p) = Some p.version
 
--- the variables of the present program; none if the slot is empty.
+-- the variables of the present program; no bytes if the slot is empty.
 abbrev pub vars_in : Option Present → List ℕ
 vars_in None = []
 vars_in (Some p) = p.vars
 
--- a slot: its serial counts its changes, and the notify serial is that of the last change that
--- observers are notified of. Its ring holds the last eight commits since its install, the oldest
--- first.
+-- a slot. Its serial counts its changes. The notify serial is that of the last change that
+-- observers are notified of. The ring holds the last eight commits since the program's install, the
+-- oldest first.
 pub record Slot : Type 0 where
   pub serial : ℕ
   pub notify_serial : ℕ
@@ -41,8 +41,8 @@ last_serial = 9223372036854775807
 abbrev pub new_slot : ℕ → Slot
 new_slot serial = record { serial = serial; notify_serial = serial; present = None; ring = [] }
 
--- a shard: the greatest time passed to it, and its slots and their observers. Slot n and its
--- observers are at place n / 8.
+-- a shard: the greatest time passed to it, its slots, and their observers. Slot n and the observers
+-- of slot n are at place n / 8.
 pub record Shard : Type 0 where
   pub index : ℕ
   pub now : ℕ
@@ -54,17 +54,17 @@ pub record IsOwned (shard : Shard) (n : ℕ) : Type 0 where
   pub slot : n < 64
   pub index : n % 8 ≡ shard.index
 
--- the slot with this number.
+-- slot n of its shard.
 abbrev pub slot_in : Shard → ℕ → Slot
 slot_in shard n = slice_index_or shard.slots (n / 8) (new_slot 0)
 
--- the shard with another state of slot n, and of no other.
+-- the shard with this state of slot n; the other slots are unchanged.
 abbrev pub with_slot : Shard → ℕ → Slot → Shard
 with_slot shard n slot = record shard { slots = slice_set shard.slots (n / 8) slot }
 
 -- a ticket: the slot's serial, its program with version and variables, and the readings, as a
--- snapshot found them. It also has the request with its token, the response block that the request
--- asks for, and the request's Observe value. The ticket of a lease has the lease's number.
+-- snapshot found them. It also has the request with the token, the response block that the request
+-- names, and the Observe value. The ticket of a lease has the lease's number.
 pub record Ticket : Type 0 where
   pub origin : Origin
   pub turn : Option ℕ
@@ -76,8 +76,8 @@ pub record Ticket : Type 0 where
   pub found : Present
   pub readings : List ℕ
 
--- the mark of a commit; a response consumes it. It has the serial that the snapshot found, the
--- serial at the commit, and whether the commit changed the slot. It also has whether the client
+-- the mark of a commit, which a response consumes. It has the serial that the snapshot found, the
+-- serial at the commit, and whether the commit changed the slot. It also says whether the client
 -- that sent the request observes the slot from now on.
 pub record Mark : Type 0 where
   pub origin : Origin

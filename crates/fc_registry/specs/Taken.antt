@@ -9,7 +9,7 @@ use Rattle.fc_registry.specs.Slots.{Ticket}
 
 -- the result of a snapshot.
 pub data Taken : Type 0 where
-  -- a program.
+  -- the ticket of the slot's program.
   Given : (ticket : Ticket) → Taken
   -- the slot is empty.
   Missing : Taken
@@ -18,8 +18,8 @@ pub data Taken : Type 0 where
   -- memory for another handle of the program can't be allocated.
   Refused : Taken
 
--- the data that a snapshot writes: a ticket without its program; the program's handle is the
--- snapshot's result.
+-- the data that a snapshot writes: a ticket without the program, whose handle is the snapshot's
+-- result.
 pub record SlotSnapshot : Type 0 where
   pub origin : Origin
   pub turn : Option ℕ
@@ -32,7 +32,7 @@ pub record SlotSnapshot : Type 0 where
   pub vars : List ℕ
   pub readings : List ℕ
 
--- together with a program it is the ticket.
+-- the ticket that a program and the data of its snapshot make.
 abbrev pub ticket_with : Program → SlotSnapshot → Ticket
 ticket_with p f = record {
   origin = f.origin;
@@ -46,6 +46,6 @@ ticket_with p f = record {
   readings = f.readings;
 }
 
--- the number of variables is the program's.
+-- the data has as many variables as the program.
 abbrev pub IsSized : Program → SlotSnapshot → Type 0
 IsSized p f = length f.vars ≡ p.vars_size

@@ -1,5 +1,5 @@
--- The leases of a slot's observers, as jobs: each answers its observer's request again (RFC 7641,
--- section 4.2).
+-- The leases of a slot's observers, as jobs. The job of a lease answers the observer's request
+-- again (RFC 7641, section 4.2).
 use Rattle.std.specs.Prelude.{ℕ, ◌+◌, ◌*◌, ◌%◌, Bool, true, false, Option, Some, None, []}
 use Rattle.std.specs.Option.{option_map}
 use Rattle.coap_opts.specs.Values.{Place}
@@ -30,12 +30,12 @@ turn_job n number o = record {
   ask = Run o.request;
 }
 
--- the job of a lease, for the entry that has it.
+-- the job of a lease that was granted to an observer of slot n, if one was.
 abbrev pub job_of_turn : ℕ → Option Turn → ObserverList → Option Job
 job_of_turn n None w = None
 job_of_turn n (Some turn) w = option_map (turn_job n turn.number) (option_map interest_of (entry_out turn w))
 
--- the job of the lease that is granted at a time to one of these observers of slot n, about this
+-- the job of the lease that is granted at this time to one of these observers of slot n, about this
 -- notify serial.
 abbrev pub turn_given_to : ℕ → ℕ → ℕ → ObserverList → Option Job
 turn_given_to n now notify_serial w = job_of_turn n (next_turn notify_serial (list_at_time now w)) (observers_after (NextDue now notify_serial) w)
@@ -45,7 +45,7 @@ abbrev pub written_if : Bool → Job → Option Job
 written_if true job = Some job
 written_if false job = None
 
--- the job of the lease that is granted at a place of a shard.
+-- the job of the lease that is granted at a place of a shard; `None` without a place.
 abbrev pub due_job : Option ℕ → Shard → Option Job
 due_job None shard = None
 due_job (Some k) shard = turn_given_to (8 * k + shard.index) shard.now (noticed_at shard k) (watch_at shard k)

@@ -1,4 +1,4 @@
--- Views of the fields of a shard.
+-- The views of the fields of a shard.
 use Rattle.std.specs.Prelude.{Option, Some, None}
 use Rattle.fc_registry.specs.declared.body.Body.{Body}
 use Rattle.fc_registry.specs.declared.slot.SlotState.{SlotState}
@@ -17,14 +17,14 @@ present_of (Some b) = Some (record { program = b.program.value; version = b.vers
 abbrev pub as_seen : SlotState → Slot
 as_seen s = record { serial = s.serial; notify_serial = s.notify_serial; present = present_of s.body; ring = s.ring }
 
--- the result of a snapshot, with the data that it wrote.
+-- the result of a snapshot, with the data that the snapshot wrote.
 abbrev pub taken_with : Taken → SlotSnapshot → spec.Taken
 taken_with (Given program) f = spec.Given (ticket_with program.value f)
 taken_with Missing f = spec.Missing
 taken_with Stale f = spec.Stale
 taken_with Refused f = spec.Refused
 
--- a program that a snapshot gives has as many variables as were written.
+-- if the snapshot gave a program, the program has as many variables as were written.
 abbrev pub HasSize : Taken → SlotSnapshot → Type 0
 HasSize (Given program) f = IsSized program.value f
 HasSize other f = Unit {0}

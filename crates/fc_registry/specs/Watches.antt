@@ -10,12 +10,13 @@ use Rattle.fc_observe.specs.Observers.{ObserverList, list_at_time, overdue_entry
 use Rattle.fc_observe.specs.Quiet.{AreIdleUntil}
 use Rattle.fc_registry.specs.Slots.{Shard, Slot, new_slot}
 
--- the observers at the first places of a new shard: those at place k are of slot 8 k + index.
+-- the lists of observers at the first places of a new shard. The list at place k is that of slot 8
+-- k + index.
 abbrev pub new_watches : ℕ → ℕ → ℕ → List ObserverList
 new_watches index confirm_after zero = []
 new_watches index confirm_after (suc k) = new_watches index confirm_after k ++ no_observers (8 * k + index) confirm_after ∷ []
 
--- a shard to which a time was passed: its time never goes back.
+-- the shard after this time was passed to it; its time never goes back.
 abbrev pub at_time : Shard → ℕ → Shard
 at_time shard now = record shard { now = max shard.now now }
 
@@ -27,7 +28,7 @@ watch_at shard k = slice_index_or shard.watches k (no_observers 0 0)
 abbrev pub noticed_at : Shard → ℕ → ℕ
 noticed_at shard k = (slice_index_or shard.slots k (new_slot 0)).notify_serial
 
--- the shard after a call on the observers at a place, and on no others.
+-- the shard after a call on the observers at place k; the observers at other places are unchanged.
 abbrev pub watch_called : ObserverCall → ℕ → Shard → Shard
 watch_called c k shard = record shard { watches = slice_set shard.watches k (observers_after c (watch_at shard k)) }
 
@@ -37,7 +38,8 @@ abbrev pub watches_called : List ObserverCall → ℕ → List ObserverList → 
 watches_called [] k watches = watches
 watches_called (c ∷ cs) k watches = slice_set watches k (after_calls (c ∷ cs) (slice_index_or watches k (no_observers 0 0)))
 
--- the shard after these calls on the observers of slot n, and on no others.
+-- the shard after these calls on the observers of slot n; the observers of other slots are
+-- unchanged.
 abbrev pub with_calls : List ObserverCall → ℕ → Shard → Shard
 with_calls cs n shard = record shard { watches = watches_called cs (n / 8) shard.watches }
 
@@ -48,40 +50,42 @@ place_from p (suc n) k = if p k then Some k else place_from p n (k + 1)
 
 -- ---- time
 
--- a notification at a place has timed out.
+-- whether a notification at place k has timed out.
 abbrev pub has_overdue : Shard → ℕ → Bool
 has_overdue shard k = is_some (overdue_entry (list_at_time shard.now (watch_at shard k)))
 
--- the first such place.
+-- the first place with a notification that has timed out, if there is one.
 abbrev pub overdue_place : Shard → Option ℕ
 overdue_place shard = place_from (has_overdue shard) 8 0
 
--- the effect of a tick at a place.
+-- the effect of a tick at a place; none without a place.
 abbrev pub ticked_in : Option ℕ → Shard → Ticked
 ticked_in None shard = Quiet
 ticked_in (Some k) shard = ticked (list_at_time shard.now (watch_at shard k))
 
--- the shard after that tick.
+-- the shard after a tick at a place; without a place, it is unchanged.
 abbrev pub shard_after_tick : Option ℕ → Shard → Shard
 shard_after_tick None shard = shard
 shard_after_tick (Some k) shard = watch_called (Tick shard.now) k shard
 
 -- ---- leases
 
--- an observer at a place has a pending notification.
+-- whether an observer at place k has a pending notification.
 abbrev pub has_due : Shard → ℕ → Bool
 has_due shard k = is_some (next_turn (noticed_at shard k) (list_at_time shard.now (watch_at shard k)))
 
--- the first such place.
+-- the first place with an observer that has a pending notification, if there is one.
 abbrev pub due_place : Shard → Option ℕ
 due_place shard = place_from (has_due shard) 8 0
 
--- no notification at a place has timed out, and no observer there has a pending one.
+-- whether place k is idle: no notification there has timed out, and no observer there has a pending
+-- one.
 abbrev pub is_idle_at : Shard → ℕ → Bool
 is_idle_at shard k =
     is_none (overdue_entry (list_at_time shard.now (watch_at shard k))) && is_none (next_turn (noticed_at shard k) (list_at_time shard.now (watch_at shard k)))
 
--- the shard is idle: no notification in it has timed out, and no observer has a pending one.
+-- whether the shard is idle: no notification in it has timed out, and no observer has a pending
+-- one.
 abbrev pub is_idle : Shard → Bool
 is_idle shard = is_none (overdue_place shard) && is_none (due_place shard)
 
@@ -101,13 +105,13 @@ abbrev pub signal_call : Bool → Endpoint → ℕ → ObserverCall
 signal_call true to id = Reset to id
 signal_call false to id = Acknowledge to id
 
--- a signal is a call on the observers of every slot.
+-- the shard after a signal, which is a call on the observers of every slot.
 abbrev pub signalled : ObserverCall → Shard → Shard
 signalled c shard = record shard { watches = map (observers_after c) shard.watches }
 
 -- ---- idle shards
 
--- no slot has an observer, if the shard isn't watched.
+-- if the flag says that the shard isn't watched, no slot has an observer.
 abbrev pub AreWatched : Bool → List ObserverList → Type 0
 AreWatched true watches = Unit {0}
 AreWatched false watches = (k : ℕ) → (slice_index_or watches k (no_observers 0 0)).held ≡ []

@@ -5,6 +5,7 @@ use fc_help::Vars;
 use fc_verify::Verified;
 use std::sync::Arc;
 
+// A program in a slot, with its version, and with as many variables as the program declares.
 #[derive(Drop)]
 pub(crate) struct Body {
     pub(crate) program: Arc<Verified>,

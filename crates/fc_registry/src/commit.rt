@@ -6,7 +6,7 @@ use crate::ticket::Mark;
 pub enum CommitOutcome {
     /// The commit writes.
     ///
-    /// The run answered a POST with a code of class 2, nothing has changed since the ticket's
+    /// The run answered a POST with a code of class 2. Nothing has changed since the ticket's
     /// snapshot, and the slot is below its last serial.
     Writes,
     /// The run has nothing to write.
@@ -32,7 +32,7 @@ pub enum Committed {
     Ended,
     /// The outcome or the ticket doesn't belong to this commit.
     ///
-    /// The outcome isn't of the ticket's program, request, variables and readings, or the ticket is
-    /// a lease's, or the ticket's serial is above the slot's.
+    /// The outcome isn't of the ticket's program, request, variables and readings. Or the ticket is
+    /// that of a lease, or the ticket's serial is above the slot's.
     Stranger,
 }

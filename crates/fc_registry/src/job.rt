@@ -20,8 +20,8 @@ pub struct Opening {
 
 /// The origin of a job.
 ///
-/// It has the job's exchange, endpoint and message ID, and the slot that its request names. The
-/// slot is 0 if the request names none.
+/// The origin has the job's exchange, endpoint and message ID, and the slot that the job's request
+/// names. The slot is 0 if the request names none.
 #[derive(Clone, Copy, Default, PartialEq, Eq)]
 pub struct Origin {
     pub opening: Opening,
@@ -59,7 +59,7 @@ impl Ask {
 
     /// Returns the variables that an install is to leave.
     ///
-    /// It is the argument of [`crate::Shard::install`]. For any other action it is `Zeros`.
+    /// The result is the argument of [`crate::Shard::install`]. For any other action it is `Zeros`.
     pub fn initial_vars(&self) -> InitialVars
         ensures { result ≡ initial_vars_of self.now }
     {
@@ -73,28 +73,28 @@ impl Ask {
 /// A job: a request to answer, or an observer's notification lease.
 ///
 /// The job of a request has an open exchange. The job of a lease answers the observer's request
-/// again. It has no exchange: its origin names the observer's endpoint and its slot.
+/// again. This job has no exchange; its origin has the observer's endpoint and slot.
 #[derive(Drop)]
 pub struct Job {
     pub origin: Origin,
-    /// The lease's number among those of its slot's observers.
+    /// The number of the job's lease among the leases of its slot's observers.
     ///
     /// It is `None` for a request.
     pub turn: Option<u64>,
-    /// Whether its request is confirmable.
+    /// Whether the job's request is confirmable.
     pub confirmable: bool,
     pub token: Token,
-    /// The serials that a GET names as ETags (RFC 7252, section 5.10.6.2).
+    /// The serials that a GET has as ETags (RFC 7252, section 5.10.6.2).
     ///
-    /// Its client has the responses of these serials.
+    /// The client has the responses of these serials.
     pub etags: ArrayVec<u64, ETAGS>,
-    /// The block that its request names (RFC 7959).
+    /// The block that the job's request names (RFC 7959).
     ///
     /// For a PUT it is the last block of the body, for a GET the requested block.
     pub block: Option<Block>,
     /// The value of Observe in a GET of a slot (RFC 7641, section 2).
     ///
-    /// 0 registers its client as an observer, 1 cancels.
+    /// 0 registers the client as an observer, 1 cancels the registration.
     pub observe: Option<u32>,
     pub ask: Ask,
 }

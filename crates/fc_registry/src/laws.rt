@@ -31,7 +31,7 @@ ghost use Rattle.fc_registry.specs.Calls.{HasGiven, ComesTo, IsSnapshot, install
 ghost use Rattle.std.specs.List.{Any};
 ghost use Rattle.std.specs.Prelude.{List, [], None, Some, length, replicate, true, ℕ, ◌∷◌, ◌++◌, ◌+◌, ◌≤◌, ◌≡◌};
 
-/// A slot's serial counts its changes, from its first serial on.
+/// A slot's serial is its first serial, plus the number of the slot's changes.
 pub fn serials_count_changes()
     ensures { (serial : ℕ) (cs : List Change) → (after_changes (new_slot serial) cs).serial ≡ serial + length cs }
 {}
@@ -39,7 +39,8 @@ pub fn serials_count_changes()
 /// The notify serial is that of the newest change that observers are notified of.
 ///
 /// Such a change is an install, a removal, or a commit whose run set the notify flag. Without one,
-/// the notify serial is the slot's first serial. It is never above the slot's serial.
+/// the notify serial is the slot's first serial. The notify serial is never above the slot's
+/// serial.
 pub fn noticed_serials_are_of_notices()
     ensures serial { (serial : ℕ) (cs : List Change) → (after_changes (new_slot serial) cs).notify_serial
         ≡ notify_serial serial cs }
@@ -49,8 +50,8 @@ pub fn noticed_serials_are_of_notices()
 
 /// The program in a slot is that of the newest install.
 ///
-/// No removal has come since. The program's version is the serial of that install. The install left
-/// the variables as requested, and only commits have written them since.
+/// No removal has come since then. The program's version is the serial of that install. The install
+/// left the variables as requested, and only commits have written them since then.
 pub fn versions_are_installs()
     ensures { (serial : ℕ) (cs : List Change) (p : Present) →
         (after_changes (new_slot serial) cs).present ≡ Some p → FollowsInstall serial cs p }
@@ -58,10 +59,11 @@ pub fn versions_are_installs()
 
 /// An install keeps the variables, or sets them to zeros.
 ///
-/// An install that keeps the variables leaves them byte for byte if they are as many as the new
-/// program has. The variables are zeros if their number differs from the new program's, if the slot
-/// was empty, and after every other install. So a program always has the number of variables that
-/// it declares. Everything else is the same after either install, and so is its result.
+/// An install that keeps the variables leaves each byte of them unchanged if the new program has as
+/// many bytes. Otherwise it sets the variables to zeros, as it does if the slot was empty. Every
+/// other install sets them to zeros. So a program always has the number of variables that it
+/// declares. Whether an install keeps the variables changes nothing else of the slot, and not the
+/// install's result.
 pub fn installs_keep_or_zero_variables()
     ensures kept { (slot : Slot) (found : Present) (p : Program) → slot.present ≡ Some found → length found.vars ≡ p.vars_size →
         vars_in (changed slot (Installed p Kept)).present ≡ found.vars }
@@ -77,19 +79,19 @@ pub fn installs_keep_or_zero_variables()
     ensures answer { (slot : Slot) (p : Program) → (install_in slot p Kept).answer ≡ (install_in slot p Zeros).answer }
 {}
 
-/// A commit adds one entry to its slot's ring, which keeps eight.
+/// A commit adds one entry to its slot's ring, which keeps eight entries.
 ///
-/// The entry has the commit's serial and request, the readings of its snapshot, and the variables
-/// before and after it.
+/// The entry has the commit's serial and request, the readings of the commit's snapshot, and the
+/// variables before and after the commit.
 pub fn entries_are_of_their_commits()
     ensures { (slot : Slot) (c : Commit) → (changed slot (Committed c)).ring
         ≡ keep_last 8 (slot.ring ++ record { serial = slot.serial + 1; request = c.request; readings = c.readings; before = c.before; after = c.after } ∷ []) }
 {}
 
-/// The ticket's serial decides the outcome of its commit.
+/// The serials of a ticket and its slot decide the outcome of the ticket's commit.
 ///
-/// This holds at the slot that gave the ticket. The slot has changed since the snapshot exactly if
-/// its serial isn't the ticket's.
+/// This holds if the slot gave the ticket. Then the slot has changed since the snapshot exactly if
+/// its serial isn't that of the ticket.
 pub fn serials_decide()
     ensures { (t : Ticket) (slot : Slot) (o : CommitOutcome) → HasGiven slot t → ComesTo t slot o → o ≡ outcome t slot }
 {}
@@ -107,8 +109,8 @@ pub fn idle_shards_do_nothing()
 
 /// A ticket has the data of its job.
 ///
-/// These are the token, the block and the Observe value of the job's request, the job's client and
-/// lease, and the request that the slot's program is to answer.
+/// This data is the job's origin and lease, and the request that the slot's program is to answer.
+/// It also has the token, the block and the Observe value of the job's request.
 pub fn tickets_are_of_their_jobs()
     ensures { (job : Job) (readings : List ℕ) (slot : Slot) (at : ℕ) (w : ObserverList) (t : Ticket) →
         IsSnapshot job readings slot at w (Given t) → IsTicketOfJob job t }
@@ -116,9 +118,9 @@ pub fn tickets_are_of_their_jobs()
 
 /// A notification ends its lease.
 ///
-/// A 2.05 (Content) notification (code 69) ends it with the message ID, the serial and the bytes
-/// that were sent. Any other notification, and that of an empty slot, ends it by removing the
-/// observer (RFC 7641, section 4.2).
+/// A 2.05 (Content) notification, code 69, ends the lease and records the message ID, the serial
+/// and the bytes that were sent. A notification of another code, or of an empty slot, ends the
+/// lease and removes the observer (RFC 7641, section 4.2).
 pub fn notifications_end_their_turns()
     ensures content { (turn : Turn) (id random at : ℕ) (t : Ticket) (e : Emission) → (meaning_at t).code ≡ 69 →
         note_calls turn id random at (Some t) (Some e) ≡ Notify at turn id t.serial random e.bytes ∷ Advance at ∷ [] }
@@ -128,10 +130,10 @@ pub fn notifications_end_their_turns()
         note_calls turn id random at None (Some e) ≡ End turn ∷ Advance at ∷ [] }
 {}
 
-/// The job of a lease has the request of a registration in its slot.
+/// The job of a lease has the request of a registration in the lease's slot.
 ///
-/// It requests the first block, of the size in the Block2 option of that registration, if there was
-/// one (RFC 7959, section 2.6). A registration keeps that size.
+/// The job requests the first block, of the size in the Block2 option of that registration, if
+/// there was one (RFC 7959, section 2.6). A registration stores that size.
 pub fn turns_ask_what_was_registered()
     ensures turn { (shard : Shard) (k : ℕ) (j : Job) → due_job (Some k) shard ≡ Some j →
         Any (λ (o : Entry). IsTurnFor j (interest_of o)) (watch_at shard k).held }
@@ -143,17 +145,17 @@ pub fn turns_ask_what_was_registered()
 
 /// The update of a change makes the stored state that of the changed slot.
 ///
-/// This holds if it is applied to the slot's stored state, and has an image of the change's
-/// program.
+/// This holds if the update is applied to the slot's stored state, and if an install's update has
+/// an image of the program.
 pub fn plans_keep_what_changes_make()
     ensures { (slot : Slot) (k : StoredSlot) (n : ℕ) (c : Change) (s : SlotUpdate) → IsStoredOf slot k → IsPlanned slot n c s → SavesImage c s.program
         → IsStoredOf (changed slot c) (slot_after s k) }
 {}
 
-/// The ring of a slot that was new has the commits since its last install.
+/// The ring of a slot that was new has the commits since the slot's last install.
 ///
-/// It has the last eight of them. If the ring has all of them, the first commit found the variables
-/// that the install left. An install that keeps no variables left zeros.
+/// The ring has the last eight of these commits. If it has all of them, the first commit found the
+/// variables that the install left. An install that keeps no variables left zeros.
 pub fn new_slots_have_full_rings()
     ensures ring { (serial : ℕ) (cs : List Change) → IsChain (new_slot serial) cs → IsRing (after_changes (new_slot serial) cs) }
     ensures begins { (serial : ℕ) (cs : List Change) → IsChain (new_slot serial) cs →

@@ -1,9 +1,9 @@
 //! Slots in shards: jobs, snapshots, commits, installs, rings and observers.
 //!
 //! Shard `n mod 8` owns slot `n`. A job takes a snapshot of its slot, which is the job's ticket,
-//! and runs the ticket's program. The commit of the run writes only if nothing has changed since.
-//! No call waits. Once a shard is made, only snapshots (for a handle of the program) and
-//! [`Shard::restore`] allocate memory.
+//! and runs the ticket's program. The commit of the run writes only if nothing has changed since
+//! the snapshot. No call waits. Once a shard is made, only snapshots (for a handle of the program)
+//! and [`Shard::restore`] allocate memory.
 //!
 //! ```rust
 //! ghost use Rattle.fc_registry.specs.Slots.{IsOwned};
@@ -27,40 +27,41 @@
 //!
 //! # What is proved
 //!
-//! - A snapshot has the slot's contents, with the readings that are passed to it. Its ticket has
-//!   these readings, its job's client and lease, and the request's token, block and Observe value.
-//! - A run with readings other than its ticket's doesn't match the ticket (`Stranger`). A commit
-//!   writes the variables of the program's meaning, to its slot alone, if nothing has changed since
-//!   the snapshot.
+//! - A snapshot has the slot's contents, with the readings that are passed to the snapshot. Its
+//!   ticket has these readings, the job's origin and lease, and the request's token, block and
+//!   Observe value.
+//! - A run with readings that aren't those of the ticket doesn't match the ticket (`Stranger`). A
+//!   commit writes the variables of the program's meaning, to its own slot, if nothing has changed
+//!   since the snapshot.
 //! - An install raises the serial by one, and sets the variables to zeros. An install that keeps
 //!   the variables doesn't change them if they have the new program's size.
 //! - A removal leaves the slot without a program, and raises the serial by one.
-//! - A receipt is that of the present program, with the serial of its install.
+//! - A receipt is that of the slot's program, with the serial of the program's install.
 //! - Serials count changes. A slot's notify serial is that of its last install, removal, or commit
 //!   whose run set the notify flag.
-//! - A slot's ring holds the last eight commits of its program since its install, or since the slot
-//!   was restored. Each of these commits begins with the variables that the one before it left.
-//!   Each left the variables that the program means for the request and the readings of the
+//! - A slot's ring holds the last eight commits since the program's install, or since the slot was
+//!   restored. Each of these commits begins with the variables that the one before it left. Each
+//!   commit left the variables that the program means for the request and the readings of the
 //!   commit's ticket.
-//! - A lease goes to the first observer with a pending notification. Its job answers the observer's
-//!   request again, and requests blocks of the size that was registered.
+//! - A lease goes to the first observer with a pending notification. The lease's job answers the
+//!   observer's request again, and requests blocks of the size that was registered.
 //! - A tick concerns the first notification that has timed out, by slot and then by registration. A
 //!   signal goes to the observers of every slot.
-//! - A commit of a GET registers its client or removes it, if the request asks for that. The
-//!   commit's mark has whether the client was registered; there may be no room.
-//! - The notification of an active lease has the meaning of its ticket's run, or 4.04 if its
-//!   snapshot found the slot empty. The notification ends the lease. A response that isn't 2.05
-//!   (Content) has no sequence number, and removes the observer.
+//! - A commit of a GET registers the client as an observer or removes it, if the request asks for
+//!   that. The mark of the commit says whether the client was registered; there may be no room.
+//! - The notification of an active lease has the meaning of the run of the lease's ticket. If the
+//!   lease's snapshot found the slot empty, the notification is 4.04. The notification ends the
+//!   lease. A response that isn't 2.05 (Content) has no sequence number, and removes the observer.
 //! - A lease that isn't active sends nothing. The ticket of another lease is refused.
-//! - No observer was sent a serial above its slot's. An idle shard has no retransmission to send,
-//!   and no observer with a pending notification. Unless the shard is called, it has neither before
-//!   the time that `idle_until` returns.
+//! - No observer was sent a serial above that of its slot. An idle shard has no retransmission to
+//!   send, and no observer with a pending notification. Before the time that `idle_until` returns,
+//!   a shard that isn't called has neither.
 //! - Before a change is made, its update is known: the slot's next serial, and the variables that
 //!   the change leaves. A store that applies the update, with an image of the program, has the
-//!   state of the changed slot.
-//! - A restored slot has the serial, the version and the variables of its stored state, and the
-//!   program of its image, which is verified again. Its serial is never lowered. A slot that isn't
-//!   restored doesn't change.
+//!   state of the slot after the change.
+//! - A restored slot has the serial, the version and the variables of its stored state. Its program
+//!   is that of the stored image, which is verified again. The slot's serial is never lowered. A
+//!   slot that can't be restored doesn't change.
 //!
 //! By the contracts of `plan_install`, `plan_commit`, `plan_removal`, `Shard::restore`, `take`,
 //! `take_into`, `would_write`, `commit`, `install`, `remove`, `receipt`, `next_due`, `note`,

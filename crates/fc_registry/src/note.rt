@@ -1,6 +1,6 @@
 //! Notifications of observers (RFC 7641, section 4.2).
 //!
-//! [`note`] writes them, for `Shard::note` and `write_note`.
+//! `Shard::note` and `write_note` call [`note`], which writes the notifications.
 ghost use Rattle.std.specs.Prelude.{◌≡◌, ◌↔◌, ℕ, IsTrue, None, Some};
 ghost use Rattle.fc_observe.specs.Calls.{after_calls, observers_after};
 ghost use Rattle.fc_observe.specs.Views.{interest};
@@ -25,13 +25,13 @@ pub enum Notification<'a> {
 /// The result of a notification.
 #[derive(Drop)]
 pub enum Noted {
-    /// The notification is sent, and the lease is over.
+    /// The notification is to be sent, and the lease has ended.
     Send(Emission),
     /// The lease isn't active, or its snapshot didn't find the slot empty.
     ///
-    /// The second reason applies to [`Notification::Gone`] alone. No observer changed.
+    /// Only [`Notification::Gone`] can have the second reason. No observer changed.
     Stale,
-    /// The ticket isn't of this lease, or the outcome isn't of the ticket.
+    /// The ticket isn't that of the lease, or the outcome isn't that of the ticket.
     ///
     /// No observer changed.
     Stranger,
@@ -40,7 +40,7 @@ pub enum Noted {
 /// The result of a notification written over the caller's emission.
 #[derive(Clone, Copy, PartialEq, Eq)]
 pub enum NoteOutcome {
-    /// The notification is to be sent, and the lease is over.
+    /// The notification is to be sent, and the lease has ended.
     Sent,
     /// See [`Noted::Stale`]. The emission is unchanged.
     Stale,
@@ -49,9 +49,8 @@ pub enum NoteOutcome {
 }
 
 // Notifies the observer that has the lease `turn` with the content `told`, for `Shard::write_note`.
-//
-// `serial` is the slot's. The message is written over `emission`, which is unchanged unless the
-// result is `Sent`. The list's clock advances to `now`, whatever the result.
+// `serial` is that of the slot. The message is written over `emission`, which is unchanged unless
+// the result is `Sent`. The clock of `watch` advances to `now`, whatever the result.
 pub(crate) fn note(
     watch: &mut Observers,
     now: u64,
@@ -94,8 +93,8 @@ pub(crate) fn note(
 }
 
 // Ends a lease whose notification was written as `bytes`. After a 2.05 (Content) response the
-// observer stays, and the list records the notification; after any other code, the observer is
-// removed.
+// observer stays in the list, and the list records the notification. After any other code, the
+// observer is removed.
 fn end_turn(
     watch: &mut Observers,
     now: u64,
@@ -117,8 +116,9 @@ fn end_turn(
     }
 }
 
-// Notifies the observer that its slot was found empty, and removes it. The result is `Stale`, and
-// nothing changes, if the lease isn't active or its snapshot didn't find the slot empty.
+// Notifies the observer with a 4.04 that its slot was empty, and removes the observer. The result
+// is `Stale`, and nothing changes, if the lease isn't active or its snapshot didn't find the slot
+// empty.
 fn note_gone(watch: &mut Observers, turn: Turn, id: u16, emission: &mut Emission) -> NoteOutcome
     ensures sent { sent_of (noted_as result emission.new) ≡ note_in turn id None watch.old }
     ensures noted { IsSentOrStale (noted_as result emission.new) }
@@ -137,8 +137,8 @@ fn note_gone(watch: &mut Observers, turn: Turn, id: u16, emission: &mut Emission
     NoteOutcome::Sent
 }
 
-// Writes the notification of a run over `emission`: the run's code, and with 2.05 (Content) or 2.04
-// (Changed) the requested block of its reply.
+// Writes the notification of a run over `emission`. It has the run's code, and with 2.05 (Content)
+// or 2.04 (Changed) the requested block of the run's reply.
 fn write_run(
     observer: &Observer<'_>,
     id: u16,
@@ -177,7 +177,7 @@ fn write_gone(observer: &Observer<'_>, id: u16, emission: &mut Emission)
     emission.to = observer.endpoint;
 }
 
-// Returns the header of an observer's notification.
+// Returns the header of a notification of this observer, with the message ID `id`.
 fn envelope<'a>(observer: &Observer<'a>, id: u16) -> Envelope<'a>
     ensures { result ≡ note_envelope id observer.now.confirmable (interest observer.now) }
 {
@@ -200,8 +200,8 @@ fn note_kind(confirmable: bool) -> MessageType
     }
 }
 
-// Returns whether `ticket` is of the lease, `outcome` is of the ticket, and the ticket's serial
-// isn't above `serial`. `note` refuses any other run as `Stranger`.
+// Returns whether `ticket` is that of the lease, `outcome` is that of the ticket, and the ticket's
+// serial isn't above `serial`, the slot's. `note` refuses any other run as `Stranger`.
 fn is_run_of_turn(outcome: &Outcome<'_>, ticket: &Ticket<'_>, turn: Turn, serial: u64) -> bool
     ensures own { IsTrue result ↔ IsRunOfTurn turn outcome.now ticket.now serial }
     ensures run { IsTrue result → outcome.now ≡ run_of ticket.now }

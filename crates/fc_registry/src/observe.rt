@@ -10,10 +10,10 @@ use coap_opts::Block;
 use fc_machine::Outcome;
 use fc_observe::{Observers, Registered};
 
-/// Value of the Observe option that registers (RFC 7641, section 2).
+/// The value of the Observe option that registers (RFC 7641, section 2).
 pub const REGISTER: u32 = 0;
 
-/// Value of the Observe option that cancels (RFC 7641, section 2).
+/// The value of the Observe option that cancels (RFC 7641, section 2).
 pub const CANCEL: u32 = 1;
 
 /// Returns whether an Observe option has this value; `false` if there is none.
@@ -26,8 +26,8 @@ pub fn has_observe(value: u32, observe: Option<u32>) -> bool
     }
 }
 
-// Registers the client of a run that has nothing to write, or removes the client's entry, if the
-// request asks for that. Returns whether the client observes the slot from now on.
+// Registers the client of a run that has nothing to write as an observer, or removes the client's
+// entry, if the request asks for that. Returns whether the client observes the slot from now on.
 pub(crate) fn observe(
     watch: &mut Observers,
     now: u64,
@@ -47,8 +47,8 @@ pub(crate) fn observe(
     false
 }
 
-// Returns whether the run registers its client as an observer. It does if its request has Observe 0
-// and is for the first block, and its response is 2.05 (Content).
+// Returns whether the run registers the client as an observer. It does if the request has Observe 0
+// and is for the first block, and the response is 2.05 (Content).
 fn is_registration(outcome: &Outcome<'_>, ticket: &Ticket<'_>) -> bool
     requires { outcome.now ≡ run_of ticket.now }
     ensures { result ≡ is_registration ticket.now }
@@ -58,8 +58,8 @@ fn is_registration(outcome: &Outcome<'_>, ticket: &Ticket<'_>) -> bool
         && outcome.code() == Code::CONTENT.byte
 }
 
-// Registers the client of the ticket's request. Returns whether there was room for it; if not, no
-// entry of `watch` changes.
+// Registers the client of the ticket's request. Returns whether there was room for the client; if
+// not, no entry of `watch` changes.
 fn register(watch: &mut Observers, now: u64, ticket: &Ticket<'_>) -> bool
     ensures room { result ≡ is_entered (registration ticket.now.origin.endpoint ticket.now.token.items watch.old) }
     ensures watch { watch.new ≡ observers_after
@@ -77,7 +77,7 @@ fn register(watch: &mut Observers, now: u64, ticket: &Ticket<'_>) -> bool
     is_entered(registered)
 }
 
-// Returns whether a client is registered: the list wasn't full.
+// Returns whether a client is registered, that is, whether the list wasn't full.
 fn is_entered(registered: Registered) -> bool
     ensures { result ≡ is_entered registered }
 {

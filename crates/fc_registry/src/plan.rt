@@ -1,6 +1,6 @@
 //! Updates that a server with a store (`fc_store`) saves before it changes a slot.
 //!
-//! No function here changes a shard.
+//! No function of this module changes a shard.
 ghost use Rattle.std.specs.Prelude.{◌≡◌, ◌+◌, ◌<◌, ◌≤◌, None, IfSome};
 ghost use Rattle.fc_registry.specs.Calls.{WouldWrite, commit_of, install_in, remove_from};
 ghost use Rattle.fc_registry.specs.Changes.{Committed};
@@ -18,7 +18,8 @@ use fc_verify::Verified;
 
 /// Returns the update of an install, or `None` if the slot is at its last serial.
 ///
-/// The update has the variables that the install leaves. `image` should be an image of `program`.
+/// The update has the variables that the install leaves, and `image`, which should be an image of
+/// `program`.
 pub fn plan_install<'a>(
     shard: &'a Shard,
     slot: SlotNumber,

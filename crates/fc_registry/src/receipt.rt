@@ -6,8 +6,8 @@ use fc_verify::Verified;
 
 /// The description of an installed program.
 ///
-/// It has the serial of the install, the program's cost and budget in steps, and the size of its
-/// variables in bytes.
+/// A receipt has the serial of the install, the program's cost and budget in steps, and the size of
+/// the program's variables in bytes.
 #[derive(Clone, Copy, PartialEq, Eq)]
 pub struct Receipt {
     pub version: u64,

@@ -16,14 +16,12 @@ use fc_verify::{Refusal, Verified, verify};
 use std::alloc::Global;
 use std::sync::Arc;
 
-/// The reason why a stored slot isn't restored.
-///
-/// The slot is unchanged.
+/// The reason why a stored slot isn't restored; the slot is unchanged.
 #[derive(Clone, Copy, Debug, PartialEq, Eq)]
 pub enum RestoreError {
     /// No history can leave this state.
     ///
-    /// Its serial, the program's version or the number of its variables is wrong.
+    /// The slot's serial, the program's version or the number of variables is wrong.
     State,
     /// The verifier refuses the image.
     Image(Refusal),
@@ -31,8 +29,9 @@ pub enum RestoreError {
     Memory,
 }
 
-// Returns the program of a stored slot with its version and variables, or `None` if it has none.
-// The image is verified again. The error is the reason why the program isn't restored.
+// Returns the program of a stored slot with its version and variables, or `None` if the slot is
+// stored as empty. The image is verified again. Returns an error with the reason if the program
+// isn't restored.
 pub(crate) fn restored(alloc: Global, stored: &StoredSlot) -> Result<Option<Body>, RestoreError>
     ensures program { IfOk result (λ b. IsStoredProgram (present_of b) stored.now.program) }
     ensures record { IfOk result (λ b. HasRecordIf stored.now.serial (present_of b) []) }
@@ -45,7 +44,8 @@ pub(crate) fn restored(alloc: Global, stored: &StoredSlot) -> Result<Option<Body
 }
 
 // Verifies the image of a stored program, and returns the program with its version and variables.
-// `serial` is that of the stored slot. The error is the reason why the program isn't restored.
+// `serial` is that of the stored slot. Returns an error with the reason if the program isn't
+// restored.
 fn restored_program(
     alloc: Global,
     serial: u64,

@@ -7,13 +7,13 @@ use fc_help::{Readings, Request, Vars};
 use std::alloc::{AllocError, Global};
 use std::marker::Model;
 
-/// Number of commits that a slot keeps.
+/// The number of commits that a slot keeps.
 pub const RING: usize = 8;
 
 /// A commit in a slot's ring.
 ///
-/// It has the slot's serial after it, the request that it answered, the readings of its snapshot,
-/// and the variables that it found and left.
+/// An entry has the slot's serial after the commit, and the variables that the commit found and
+/// left. It also has the run's request, and the readings of the run's snapshot.
 #[derive(Drop)]
 pub struct Entry {
     pub serial: u64,
@@ -41,6 +41,7 @@ impl Model for Ring {
 }
 
 impl Ring {
+    // Makes an empty ring. Returns an error if memory can't be allocated.
     pub(crate) fn new(alloc: Global) -> Result<Ring, AllocError>
         ensures { IfOk result (λ r. r ≡ []) }
     {
@@ -48,7 +49,7 @@ impl Ring {
         Ok(Ring { entries })
     }
 
-    // Adds a commit, and drops the oldest if there are eight.
+    // Adds a commit, and drops the oldest one if there are eight already.
     pub(crate) fn push(&mut self, entry: Entry)
         ensures { self.new ≡ keep_last 8 (self.old ++ entry ∷ []) }
     {

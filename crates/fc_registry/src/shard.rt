@@ -38,19 +38,19 @@ use std::alloc::{AllocError, Global};
 use std::marker::Model;
 use std::sync::Arc;
 
-// Number of slots of a shard. A slot's place is its index in the shard's list.
+// The number of slots of a shard. A slot's place is its index in the shard's list.
 const PLACES: usize = 8;
 
 /// The slots of one shard, each with its observers.
 ///
-/// They are the slots whose number has the shard's index as its remainder by 8.
+/// The shard with index `i` has the slots whose numbers have the remainder `i` by 8.
 #[derive(Drop)]
 pub struct Shard {
     index: u8,
     now: u64,
     slots: Vec<SlotState>,
     watches: Vec<Observers>,
-    // Whether a slot may have an observer.
+    // If this is `false`, no slot has an observer.
     watched: bool,
 }
 
@@ -86,9 +86,9 @@ pub enum Taken {
     Refused,
 }
 
-/// The result of a snapshot, with the data that it wrote.
+/// The result of a snapshot, with the data that the snapshot wrote.
 ///
-/// A clause sees the ticket, if there is one.
+/// In contracts this is the ticket if the snapshot gave one, or else the result alone.
 #[derive(Drop)]
 pub struct Took {
     pub taken: Taken,
@@ -110,7 +110,7 @@ impl Model for Took {
 /// The result of an install.
 #[derive(Clone, Copy, PartialEq, Eq)]
 pub enum Made {
-    /// The slot's new serial, and whether it was empty before.
+    /// The slot's new serial, and whether the slot was empty before.
     Raised { serial: u64, created: bool },
     /// The slot is at its last serial; nothing changed.
     AtEnd,
@@ -130,7 +130,7 @@ pub enum Removal {
 impl Shard {
     /// Makes a shard of empty slots, each at `first_serial`.
     ///
-    /// Its notifications are confirmable after `confirm_after` milliseconds (see
+    /// The shard's notifications are confirmable after `confirm_after` milliseconds (see
     /// [`Observers::new`]).
     ///
     /// # Errors
@@ -160,8 +160,9 @@ impl Shard {
 
     /// Returns whether a commit of the run would write, for [`crate::plan_commit`].
     ///
-    /// It wouldn't if the run has nothing to write or isn't the ticket's. Nor would it if the slot
-    /// has changed since the snapshot or is at its last serial. Nothing changes here.
+    /// The result is `false` if the run has nothing to write or isn't that of the ticket. It is
+    /// `false` too if the slot has changed since the snapshot or is at its last serial. Nothing
+    /// changes.
     pub fn would_write(&self, outcome: &Outcome<'_>, ticket: &Ticket<'_>) -> bool
         ensures { IsTrue result ↔ WouldWrite outcome.now ticket.now (slot_in self.entry.now ticket.now.origin.slot) }
     {
@@ -172,7 +173,8 @@ impl Shard {
     ///
     /// Only a handle of the program needs memory. The job's lease is checked first, at the shard's
     /// time: if it isn't active, the result is `Stale`. If the snapshot of an active lease finds
-    /// the slot empty, the lease records that. The snapshot of a request changes nothing.
+    /// the slot empty, the lease is marked as missing. The snapshot of a request changes nothing.
+    /// See [`Taken`].
     pub fn take(&mut self, job: &Job, readings: &Readings) -> Took
         requires { IsOwned self.old job.now.origin.slot }
         ensures taken { TakesAt job.now readings.now self.old result }
@@ -185,8 +187,8 @@ impl Shard {
 
     /// Takes a snapshot as `take` does, and writes it over `found`.
     ///
-    /// The data is written in place, and isn't moved. If the result is a program, this program and
-    /// `found` are the ticket. For any other result the contract says nothing of `found`.
+    /// The data is written in place, and isn't moved. If the result is `Given`, its program and
+    /// `found` make the ticket. For any other result the contract says nothing of `found`.
     pub fn take_into(&mut self, job: &Job, readings: &Readings, found: &mut SlotSnapshot) -> Taken
         requires { IsOwned self.old job.now.origin.slot }
         ensures taken { TakesAt job.now readings.now self.old (taken_with result found.new) }
@@ -214,21 +216,22 @@ impl Shard {
 
     /// Commits a run, at a time in milliseconds.
     ///
-    /// A run of the ticket writes exactly if these conditions hold:
+    /// A run of the ticket writes exactly if three conditions hold:
     ///
-    /// - It answered a POST with a code of class 2.
+    /// - The run answered a POST with a code of class 2.
     /// - Nothing has changed since the ticket's snapshot.
     /// - The slot is below its last serial.
     ///
-    /// `Overtaken`, `Ended` and `Stranger` leave the slot unchanged. The ticket of a lease gives
-    /// `Stranger`. The shard's clock advances to `now`, whatever the result.
+    /// The result is then `Done`, as it is for a run that has nothing to write. Every other result
+    /// leaves the slot unchanged. The ticket of a lease gives `Stranger`. The shard's clock
+    /// advances to `now`, whatever the result.
     ///
-    /// The variables that a GET's run wrote are dropped, and so is its notify flag. A commit that
-    /// writes makes the new serial the notify serial if its run set the flag.
+    /// The variables that a GET's run wrote are dropped, and so is the run's notify flag. After a
+    /// commit that writes, the new serial is the notify serial too if the run set the flag.
     ///
-    /// A GET with Observe 0 registers its client as an observer if its response is 2.05 (Content),
-    /// it requests the first block, and there is room. Observe 1 removes the entry, whatever the
-    /// code.
+    /// A GET with Observe 0 registers the client as an observer under three conditions: the
+    /// response is 2.05 (Content), the first block is requested, and there is room. Observe 1
+    /// removes the client's entry, whatever the code.
     pub fn commit(&mut self, now: u64, outcome: &Outcome<'_>, ticket: &Ticket<'_>) -> Committed
         requires { IsOwned self.old ticket.now.origin.slot }
         ensures { CommitsTo outcome.now ticket.now self.old now result self.new }
@@ -249,8 +252,8 @@ impl Shard {
     /// last commits is empty.
     ///
     /// # Errors
-    /// Returns why the slot isn't restored; the shard is unchanged. `State` is also returned if the
-    /// stored serial is below the present one.
+    /// Returns why the slot isn't restored; the shard is unchanged then. `State` is also returned
+    /// if the stored serial is below the present one, or above the last one.
     pub fn restore(
         &mut self,
         alloc: Global,
@@ -266,11 +269,11 @@ impl Shard {
         restore(state, alloc, stored)
     }
 
-    /// Installs a program.
+    /// Installs a program in a slot, and returns the slot's new serial.
     ///
-    /// Its variables are zeros. If `initial` is `Kept` and the previous program's variables have
-    /// the new program's size, the new program has those instead. At the last serial nothing
-    /// changes, and the result is `AtEnd`.
+    /// The program's variables are zeros. If `initial` is `Kept` and the previous program's
+    /// variables have the new program's size, the new program has those variables instead. At the
+    /// last serial nothing changes, and the result is `AtEnd`.
     pub fn install(
         &mut self,
         slot: SlotNumber,
@@ -288,8 +291,9 @@ impl Shard {
 
     /// Removes the program of a slot, with its variables and its ring.
     ///
-    /// If the slot is empty, nothing changes, and the result is `Absent`. At the last serial a
-    /// program stays, and the result is `AtEnd`.
+    /// Returns the slot's new serial. If the slot is empty, nothing changes, and the result is
+    /// `Absent`. If a program is at the last serial, nothing changes either, and the result is
+    /// `AtEnd`.
     pub fn remove(&mut self, slot: SlotNumber) -> Removal
         requires { IsOwned self.old slot }
         ensures answer { result ≡ (remove_from (slot_in self.old slot)).answer }
@@ -310,7 +314,7 @@ impl Shard {
 
     /// Returns the serial of a slot of this shard.
     ///
-    /// For the slot of another shard, it is the serial of the slot at the same place here.
+    /// For the slot of another shard, the result is the serial of the slot at the same place here.
     pub fn serial(&self, slot: SlotNumber) -> u64
         ensures { result ≡ (slot_in self.entry.now slot).serial }
     {
@@ -320,8 +324,9 @@ impl Shard {
 
     /// Returns the notify serial of a slot of this shard.
     ///
-    /// It is the serial of the last change that observers are notified of: an install, a removal,
-    /// or a commit whose run set the notify flag. Before any such change, it is the first serial.
+    /// The notify serial is that of the last change that observers are notified of: an install, a
+    /// removal, or a commit whose run set the notify flag. Before any such change, it is the first
+    /// serial.
     pub fn notify_serial(&self, slot: SlotNumber) -> u64
         ensures { result ≡ (slot_in self.entry.now slot).notify_serial }
     {
@@ -339,8 +344,8 @@ impl Shard {
 
     /// Returns the variables that an install of `program` would leave in a slot.
     ///
-    /// They are zeros, or with `Kept` the present ones if these have the program's size. Nothing is
-    /// installed: [`crate::plan_install`] asks for the variables to save.
+    /// The variables are zeros, or with `Kept` the present ones if these have the program's size.
+    /// Nothing is installed; [`crate::plan_install`] calls this for the variables to save.
     pub fn vars_installed(
         &self,
         slot: SlotNumber,
@@ -363,9 +368,9 @@ impl Shard {
 
     /// Grants a lease to the first observer with a pending notification.
     ///
-    /// Observers are in the order of their slots, and then of their registrations. The time is in
-    /// milliseconds. The job answers the observer's request again, from the first block on. Returns
-    /// `None` if no lease is granted.
+    /// Observers are in the order of their slots, and then of their registrations. The shard's
+    /// clock advances to `now`, in milliseconds. Returns the job of the lease, which answers the
+    /// observer's request again, from the first block on. Returns `None` if no lease is granted.
     pub fn next_due(&mut self, now: u64) -> Option<Job>
         ensures job { result ≡ due_job (due_place (at_time self.old now)) (at_time self.old now) }
         ensures after { self.new ≡ after_due (due_place (at_time self.old now)) (at_time self.old now) }
@@ -378,9 +383,9 @@ impl Shard {
         }
     }
 
-    /// Grants a lease as `next_due` does, and writes its job over `job`.
+    /// Grants a lease as `next_due` does, and writes the lease's job over `job`.
     ///
-    /// The job is written in place, and isn't moved. Returns whether a lease was granted; otherwise
+    /// The job is written in place, and isn't moved. Returns whether a lease was granted; if not,
     /// `job` is unchanged.
     pub fn write_due(&mut self, now: u64, job: &mut Job) -> bool
         ensures job { written_if result job.new ≡ due_job (due_place (at_time self.old now)) (at_time self.old now) }
@@ -399,17 +404,17 @@ impl Shard {
 
     /// Notifies the observer that has this lease, with the content `told`.
     ///
-    /// The notification has the message ID `id`, and the time is in milliseconds. A 2.05 (Content)
-    /// response has the snapshot's serial as its sequence number, and then the lease is over. Any
-    /// other response, such as 4.04 for an empty slot, has no sequence number, and removes the
-    /// observer.
+    /// The notification has the message ID `id`, and `now` is in milliseconds. A 2.05 (Content)
+    /// response has the snapshot's serial as its sequence number, and the lease ends. Any other
+    /// response, such as 4.04 for an empty slot, has no sequence number, and removes the observer.
     ///
     /// The notification is confirmable if the shard's `confirm_after` has passed since the
-    /// registration or the last confirmable one (RFC 7641, section 4.5). A confirmable notification
-    /// waits for an acknowledgement, with a timeout that `random` determines.
+    /// observer's registration or last confirmable notification (RFC 7641, section 4.5). A
+    /// confirmable notification waits for an acknowledgement, with a timeout that `random`
+    /// determines.
     ///
-    /// Returns the message, for the caller to send. Otherwise returns the reason why nothing is sent
-    /// (see [`Noted`]): `Stale` is tested before `Stranger`, and neither changes an observer.
+    /// Returns the message, which the caller has to send, or the reason why nothing is sent (see
+    /// [`Noted`]). `Stale` is tested before `Stranger`, and neither changes an observer.
     pub fn note(
         &mut self,
         turn: Turn,
@@ -434,8 +439,8 @@ impl Shard {
 
     /// Notifies an observer as `note` does, and writes the message over `emission`.
     ///
-    /// The message is written in place, and isn't moved. `emission` is unchanged if nothing is
-    /// sent.
+    /// The message is written in place, and isn't moved. `emission` is unchanged unless the result
+    /// is `Sent`.
     pub fn write_note(
         &mut self,
         turn: Turn,
@@ -458,8 +463,8 @@ impl Shard {
 
     /// Releases a lease, at a time in milliseconds.
     ///
-    /// Its observer has a pending notification again at a later time. If the lease isn't active,
-    /// only the clock advances.
+    /// The lease's observer has a pending notification again at a later time. If the lease isn't
+    /// active, only the clock advances.
     pub fn give_up(&mut self, turn: Turn, now: u64)
         requires { IsOwned self.old turn.slot }
         ensures { self.new ≡ after_given_up turn (at_time self.old now) }
@@ -470,7 +475,7 @@ impl Shard {
 
     /// Passes an Acknowledgement or a Reset message to the observers of every slot.
     ///
-    /// The message is a Reset if `reset`, and has the message ID `id`.
+    /// The message is a Reset if `reset` is `true`, and has the message ID `id`.
     pub fn signal(&mut self, endpoint: Endpoint, id: u16, reset: bool)
         ensures { self.new ≡ signalled (signal_call reset endpoint id) self.old }
     {
@@ -480,8 +485,8 @@ impl Shard {
     /// Retransmits the first notification that has timed out, or removes its observer.
     ///
     /// Notifications are in the order of their slots, and then of their observers' registrations.
-    /// The time is in milliseconds. Returns which of the two happened, or `Quiet` if no
-    /// notification has timed out.
+    /// The clock advances to `now`, in milliseconds. Returns which of the two happened, or `Quiet`
+    /// if no notification has timed out.
     pub fn tick(&mut self, now: u64) -> Ticked
         ensures answer { result ≡ ticked_in (overdue_place (at_time self.old now)) (at_time self.old now) }
         ensures after { self.new ≡ shard_after_tick (overdue_place (at_time self.old now)) (at_time self.old now) }
@@ -504,9 +509,9 @@ impl Shard {
 
     /// Advances the clock to `now`, in milliseconds, if the shard is idle then.
     ///
-    /// It is idle if no notification has timed out and no observer has a pending one. Then `tick`
-    /// and `next_due` would do nothing but advance the clock. Returns whether the clock was
-    /// advanced.
+    /// A shard is idle if no notification has timed out and no observer has a pending one. Then
+    /// `tick` and `next_due` would do nothing but advance the clock. Returns whether the clock was
+    /// advanced; if not, nothing changes.
     pub fn advance_if_idle(&mut self, now: u64) -> bool
         ensures idle { result ≡ is_idle (at_time self.old now) }
         ensures after { self.new ≡ (if result then at_time self.old now else self.old) }
@@ -521,8 +526,8 @@ impl Shard {
 
     /// Returns a time before which the shard stays idle, unless it is called.
     ///
-    /// Before that time no notification has timed out, and no observer has a pending one. It
-    /// needn't be the latest such time. It is in milliseconds; 2^64 - 1 means that neither is
+    /// Before that time no notification has timed out, and no observer has a pending one. The time
+    /// is in milliseconds, and needn't be the latest such time. 2^64 - 1 means that neither is
     /// expected.
     pub fn idle_until(&self) -> u64
         ensures { StaysIdleUntil result self.entry.now }
@@ -545,8 +550,8 @@ impl Shard {
         self.watches[place].idle_until(self.noticed_at(place))
     }
 
-    // Returns whether the shard is idle at a time. If it is idle, checks again whether the shard
-    // has observers. Without observers, later calls needn't look at each place.
+    // Returns whether the shard is idle at `now`. If it is, updates `watched`: without observers,
+    // later calls needn't look at each place.
     fn check_idle(&mut self, now: u64) -> bool
         ensures idle { result ≡ is_idle (record self.old { now = now }) }
         ensures after { self.new ≡ self.old }
@@ -563,8 +568,8 @@ impl Shard {
         true
     }
 
-    // Returns whether the observers at `place` are idle at `now`: none has a notification that has
-    // timed out, and none has a pending one.
+    // Returns whether the observers at `place` are idle at `now`: no notification has timed out,
+    // and no observer has a pending one.
     fn check_idle_at(&mut self, now: u64, place: usize) -> bool
         requires { place < 8 }
         ensures idle { result ≡ is_idle_at (record self.old { now = now }) place }
@@ -591,8 +596,8 @@ impl Shard {
         self.watches[place].is_overdue(now)
     }
 
-    // Returns the first place with an observer that has a pending notification at a time, or
-    // `None`.
+    // Returns the first place with an observer that has a pending notification at `now`, or `None`
+    // if there is none.
     fn due_place(&self, now: u64) -> Option<usize>
         ensures place { result ≡ due_place (record self.entry.now { now = now }) }
         ensures within { IfSome result (λ k. k < 8) }
@@ -600,7 +605,7 @@ impl Shard {
         (0..PLACES).find(|place| self.is_due_at(now, *place))
     }
 
-    // Returns the first place with a notification that has timed out at a time, or `None`.
+    // Returns the first place with a notification that has timed out at `now`, or `None`.
     fn overdue_place(&self, now: u64) -> Option<usize>
         ensures place { result ≡ overdue_place (record self.entry.now { now = now }) }
         ensures within { IfSome result (λ k. k < 8) }
@@ -610,9 +615,10 @@ impl Shard {
 
     /// The ring of each slot is a chain, after any calls in any order.
     ///
-    /// Its entries are the last commits of the present program since its install, or since the slot
-    /// was restored. Each begins with the variables that the one before it left. The last entry
-    /// left the present variables. The call does nothing: its contract states this of every shard.
+    /// The entries of a ring are the last commits of the present program since its install, or
+    /// since the slot was restored. Each entry begins with the variables that the one before it
+    /// left. The last entry left the present variables. The call does nothing; its contract states
+    /// this of every shard.
     pub fn rings_are_chains(&self)
         ensures { (n : ℕ) → IsOwned self.entry.now n → IsRecord (slot_in self.entry.now n) }
     {
@@ -622,8 +628,8 @@ impl Shard {
     /// No observer of a slot was sent a serial above the slot's.
     ///
     /// This holds after any calls in any order. The serial last sent to an observer, by the
-    /// response to its registration or by a notification, isn't that of a state yet to come. The
-    /// call does nothing: its contract states this of every shard.
+    /// response to its registration or by a notification, isn't that of a later state. The call
+    /// does nothing; its contract states this of every shard.
     pub fn no_observer_is_ahead(&self)
         ensures { (n : ℕ) → IsOwned self.entry.now n → IsSentUpTo (slot_in self.entry.now n).serial (watch_at self.entry.now (n / 8)) }
     {
@@ -643,8 +649,8 @@ fn make_watches(alloc: Global, index: u8, confirm_after: u64) -> Result<Vec<Obse
     Ok(watches)
 }
 
-// Returns whether a slot has an observer. The contract says only that no slot has an observer if
-// the result is `false`.
+// Returns whether a slot has an observer. The contract says only that no slot has one if the result
+// is `false`.
 fn have_observers(watches: &[Observers]) -> bool
     ensures { AreWatched result watches.now }
 {

@@ -9,8 +9,8 @@ use std::alloc::{AllocError, Global};
 
 /// Makes eight shards, in the order of their indices.
 ///
-/// Their slots are empty, each at `first_serial`. Their notifications are confirmable after
-/// `confirm_after` milliseconds.
+/// The slots are empty, each at `first_serial`. Notifications are confirmable after `confirm_after`
+/// milliseconds.
 ///
 /// # Errors
 /// Returns `AllocError` if memory can't be allocated.

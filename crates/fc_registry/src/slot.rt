@@ -29,14 +29,13 @@ use fc_verify::Verified;
 use std::alloc::{AllocError, Global};
 use std::sync::Arc;
 
-// The variables of the largest size that a program may have, each of them zero.
+// Zeros for the variables of the largest size that a program may have.
 const ZEROS: [u8; VARS] = [0; VARS];
 
 /// The greatest serial.
 pub const LAST_SERIAL: u64 = 9_223_372_036_854_775_807;
 
-// A slot: its serial, the serial of the last change that observers are notified of, its program,
-// and its last commits.
+// A slot: its serial, its notify serial, its program, and the last commits of the program.
 #[derive(Drop)]
 pub(crate) struct SlotState {
     pub(crate) serial: u64,
@@ -45,7 +44,8 @@ pub(crate) struct SlotState {
     pub(crate) ring: Ring,
 }
 
-// Makes a slot in which nothing was installed, at this serial.
+// Makes a slot in which nothing was installed, at this serial. Returns an error if memory can't be
+// allocated.
 pub(crate) fn empty_slot(alloc: Global, serial: u64) -> Result<SlotState, AllocError>
     ensures { IfOk result (λ s. as_seen s ≡ new_slot serial) }
 {
@@ -64,7 +64,7 @@ pub(crate) fn serial_of(slot: &SlotState) -> u64
     slot.serial
 }
 
-// Returns a slot's notify serial: that of its last change that observers are notified of.
+// Returns a slot's notify serial: that of the last change that observers are notified of.
 pub(crate) fn noticed_of(slot: &SlotState) -> u64
     ensures { result ≡ (as_seen slot.now).notify_serial }
 {
@@ -92,8 +92,8 @@ pub(crate) fn vars_of(slot: &SlotState) -> &[u8]
 }
 
 // Takes the snapshot of the lease `turn`, for `Shard::take_into`, at the shard's time. The result
-// is `Stale` if the lease isn't active; if it is and the slot is empty, the lease records that. See
-// `find` for the other results.
+// is `Stale` if the lease isn't active. If the lease is active and the slot is empty, the lease is
+// marked as missing. See `find` for the other results.
 pub(crate) fn take_turn(
     watch: &mut Observers,
     now: u64,
@@ -117,9 +117,9 @@ pub(crate) fn take_turn(
     find(job, readings, slot, found)
 }
 
-// Takes a job's snapshot of a slot, and writes it over an earlier one, `found`. The result is
-// `Missing` if the slot is empty, and `Refused` if memory for a handle of its program can't be
-// allocated.
+// Takes a job's snapshot of a slot, and writes it over `found`. The result is `Missing` if the slot
+// is empty, `Refused` if memory for a handle of the program can't be allocated, and otherwise
+// `Given`.
 pub(crate) fn find(
     job: &Job,
     readings: &Readings,
@@ -190,8 +190,8 @@ pub(crate) fn install(slot: &mut SlotState, program: Arc<Verified>, initial: Ini
     Made::Raised { serial, created }
 }
 
-// Sets the program of a slot with its variables, or none, at a serial that observers are notified
-// of. The ring starts empty.
+// Sets a slot to this program with its variables, or to none, at this serial. Observers are
+// notified of this change. The slot's ring is empty then.
 fn put(slot: &mut SlotState, serial: u64, body: Option<Body>)
     ensures { as_seen slot.new ≡ record { serial = serial; notify_serial = serial; present = present_of body; ring = [] } }
 {
@@ -201,8 +201,8 @@ fn put(slot: &mut SlotState, serial: u64, body: Option<Body>)
     slot.body = body;
 }
 
-// Sets a slot to its stored state, with an empty ring. The error is the reason why it isn't; then
-// the slot is unchanged. The slot's serial never falls.
+// Sets a slot to its stored state, with an empty ring. Returns the reason if it can't; then the
+// slot is unchanged. The slot's serial never falls.
 pub(crate) fn restore(
     slot: &mut SlotState,
     alloc: Global,
@@ -249,9 +249,9 @@ pub(crate) fn receipt_in(slot: &SlotState) -> Option<Receipt>
     }
 }
 
-// Returns whether the ticket isn't a lease's, the outcome is of the ticket's program, request,
-// variables and readings, and the ticket's serial isn't above the slot's. A commit of any other is
-// `Stranger`.
+// Returns whether an outcome belongs to a ticket at this slot. The ticket isn't a lease's, and its
+// serial isn't above the slot's. The outcome is of the ticket's program, request, variables and
+// readings. If not, the result of the commit is `Stranger`.
 fn is_own(outcome: &Outcome<'_>, ticket: &Ticket<'_>, slot: &SlotState) -> bool
     ensures own { IsTrue result ↔ IsOwn outcome.now ticket.now (as_seen slot.now) }
     ensures run { IsTrue result → outcome.now ≡ run_of ticket.now }
@@ -273,7 +273,7 @@ fn is_post(method: Method) -> bool
     method == Method::Post
 }
 
-// Returns whether the slot still has the serial, the program, its version and the variables that
+// Returns whether the slot still has the serial, the program, the version and the variables that
 // the ticket's snapshot found.
 fn is_current(ticket: &Ticket<'_>, slot: &SlotState) -> bool
     ensures { IsTrue result ↔ IsCurrent ticket.now (as_seen slot.now) }
@@ -306,8 +306,9 @@ fn outcome_of(outcome: &Outcome<'_>, ticket: &Ticket<'_>, slot: &SlotState) -> C
     }
 }
 
-// Commits a run to its slot, for `Shard::commit`. A run that has nothing to write may register or
-// remove its client as an observer, at the shard's time. Only `Done` changes anything.
+// Commits a run to its slot, for `Shard::commit`. A run that has nothing to write may register the
+// client as an observer or remove it, at the shard's time. Nothing changes unless the result is
+// `Done`.
 pub(crate) fn committed(
     slot: &mut SlotState,
     watch: &mut Observers,
@@ -329,8 +330,8 @@ pub(crate) fn committed(
     }
 }
 
-// Returns whether a commit of the run would write. For a run that has nothing to write, the ticket
-// and the slot aren't compared.
+// Returns whether a commit of the run would write; nothing changes. For a run that has nothing to
+// write, the ticket and the slot aren't compared.
 pub(crate) fn would_write(outcome: &Outcome<'_>, ticket: &Ticket<'_>, slot: &SlotState) -> bool
     ensures { IsTrue result ↔ WouldWrite outcome.now ticket.now (as_seen slot.now) }
 {
@@ -339,8 +340,8 @@ pub(crate) fn would_write(outcome: &Outcome<'_>, ticket: &Ticket<'_>, slot: &Slo
         && matches!(outcome_of(outcome, ticket, slot), CommitOutcome::Writes)
 }
 
-// Commits a run that has nothing to write: registers or removes its client as an observer if the
-// request asks for that. Returns the mark.
+// Commits a run that has nothing to write: registers the client as an observer or removes it, if
+// the request asks for that. Returns the mark of the commit.
 fn keep(
     slot: &SlotState,
     watch: &mut Observers,
@@ -356,8 +357,9 @@ fn keep(
     mark(ticket, slot.serial, false, observed)
 }
 
-// Writes a run's final variables to its slot, at the next serial, and adds the commit to the ring.
-// If the run set the notify flag, the new serial is the notify serial. Returns the mark.
+// Writes a run's final variables to the slot, at the next serial, and adds the commit to the ring.
+// If the run set the notify flag, the new serial is the notify serial too. Returns the mark of the
+// commit.
 fn write(slot: &mut SlotState, outcome: &Outcome<'_>, ticket: &Ticket<'_>) -> Mark
     requires own { IsOwn outcome.now ticket.now (as_seen slot.old) }
     requires current { IsCurrent ticket.now (as_seen slot.old) }
@@ -387,12 +389,12 @@ fn vars_after(outcome: &Outcome<'_>) -> Vars
     ensures vars { result ≡ (meaning_of outcome.now).vars }
     ensures size { length result ≡ outcome.now.program.vars_size }
 {
-    // From this call the checker learns the greatest number of bytes of the variables.
+    // This call tells the prover the greatest number of bytes of the variables.
     let _size = outcome.program().vars_size();
     Vars::of(outcome.after())
 }
 
-// Makes the mark of a commit from its ticket.
+// Makes the mark of a commit from the commit's ticket.
 fn mark(ticket: &Ticket<'_>, serial: u64, changed: bool, observed: bool) -> Mark
     ensures { result ≡ mark_of ticket.now serial changed observed }
 {

@@ -3,15 +3,15 @@ ghost use Rattle.std.specs.Prelude.{◌≡◌, ◌<◌, ◌/◌, ◌%◌};
 
 use std::marker::Model;
 
-/// Number of slots of a server.
+/// The number of slots of a server.
 pub const SLOTS: u8 = 64;
 
-/// Number of shards of a server, and of slots of a shard.
+/// The number of shards of a server, and of slots of a shard.
 pub const SHARDS: u8 = 8;
 
 /// The number of a slot: 0 to 63.
 ///
-/// A clause sees the number itself.
+/// In contracts it is the number itself.
 #[derive(Clone, Copy, Default, PartialEq, Eq)]
 pub struct SlotNumber {
     number: u8,

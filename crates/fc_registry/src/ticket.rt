@@ -15,7 +15,8 @@ use std::marker::Model;
 /// The data that a snapshot writes: data of its job, and of the slot.
 ///
 /// Together with the handle of the program, which is the snapshot's result, this data is a ticket.
-/// It is written over the data of the last snapshot. Later installs and commits don't change it.
+/// A snapshot overwrites the data of an earlier one. Later installs and commits don't change the
+/// data.
 #[derive(Drop)]
 pub struct SlotSnapshot {
     origin: Origin,
@@ -66,8 +67,8 @@ impl SlotSnapshot {
         }
     }
 
-    // Writes the data of a job, and of a slot with this serial and with a program of this version
-    // and these variables.
+    // Writes the data of a job and its readings, and of a slot with this serial. The slot has a
+    // program of this version with these variables.
     pub(crate) fn write(
         &mut self,
         job: &Job,
@@ -102,7 +103,7 @@ fn copy_token(token: &Token) -> Token
 }
 
 // Writes the request that a job asks a program to answer over `request`. For a job that runs no
-// program it is an empty GET of slot 0.
+// program, writes an empty GET of slot 0.
 fn write_request(ask: &Ask, request: &mut Request)
     ensures { request.new ≡ request_of ask.now }
 {
@@ -114,9 +115,9 @@ fn write_request(ask: &Ask, request: &mut Request)
 
 /// A ticket: a view of a program, and of the data of a snapshot.
 ///
-/// If one snapshot gave both, the ticket is the slot's state that the snapshot found, for the
-/// snapshot's job. A commit compares the ticket's program, version, variables and serial with the
-/// slot's. Later installs and commits don't change the ticket.
+/// If one snapshot gave both, the ticket is the state of the slot that the snapshot found, for the
+/// snapshot's job. A commit compares the ticket's program, version, variables and serial with those
+/// of the slot. Later installs and commits don't change the ticket.
 #[derive(Drop)]
 pub struct Ticket<'a> {
     program: &'a Verified,
@@ -152,7 +153,7 @@ impl<'a> Ticket<'a> {
         found.origin
     }
 
-    /// Returns the number of the job's lease, or `None` for a request.
+    /// Returns the number of the lease of the job, or `None` for a request's job.
     pub fn turn(&self) -> Option<u64>
         ensures { result ≡ self.now.turn }
     {
@@ -168,7 +169,7 @@ impl<'a> Ticket<'a> {
         &found.request
     }
 
-    /// Returns the block of the response that the request asks for, or `None`.
+    /// Returns the block that the request names, or `None` if it names none.
     pub fn block(&self) -> Option<Block>
         ensures { result ≡ self.now.block }
     {
@@ -184,7 +185,7 @@ impl<'a> Ticket<'a> {
         &found.token
     }
 
-    /// Returns the value of the request's Observe option, or `None` if it had none.
+    /// Returns the value of the request's Observe option, or `None` if there is none.
     pub fn observe(&self) -> Option<u32>
         ensures { result ≡ self.now.observe }
     {
@@ -200,14 +201,14 @@ impl<'a> Ticket<'a> {
         found.serial
     }
 
-    /// Returns the program that was found.
+    /// Returns the program that the snapshot found.
     pub fn program(&self) -> &'a Verified
         ensures { result.now ≡ self.now.found.program }
     {
         self.program
     }
 
-    // Returns the version of the program that was found.
+    // Returns the version of the program that the snapshot found.
     pub(crate) fn version(&self) -> u64
         ensures { result ≡ self.now.found.version }
     {
@@ -215,7 +216,7 @@ impl<'a> Ticket<'a> {
         found.version
     }
 
-    /// Returns the variables that were found.
+    /// Returns the variables that the snapshot found.
     pub fn vars(&self) -> &'a Vars
         ensures vars { result.now ≡ self.now.found.vars }
         ensures size { length result.now ≡ self.now.found.program.vars_size }
@@ -234,8 +235,8 @@ impl<'a> Ticket<'a> {
 }
 
 // Returns whether an outcome is of a ticket's program, request, variables and readings, and the
-// ticket's serial isn't above `serial`, the slot's. A commit or a notification of any other is
-// `Stranger`.
+// ticket's serial isn't above `serial`, the slot's. If not, the result of a commit or notification
+// is `Stranger`.
 pub(crate) fn is_run_of(outcome: &Outcome<'_>, ticket: &Ticket<'_>, serial: u64) -> bool
     ensures of { IsTrue result ↔ IsRunOf outcome.now ticket.now serial }
     ensures run { IsTrue result → outcome.now ≡ run_of ticket.now }
@@ -247,10 +248,10 @@ pub(crate) fn is_run_of(outcome: &Outcome<'_>, ticket: &Ticket<'_>, serial: u64)
         && ticket.serial() <= serial
 }
 
-/// The mark of a commit: a token that the response of its run consumes.
+/// The mark of a commit: a token that the response of the run consumes.
 ///
-/// The response of a run isn't made without the run's commit. Only a commit makes a mark, a mark
-/// can't be copied, and only `into_serial` consumes it.
+/// The response of a run isn't made without a mark of the run's commit. Only a commit makes a mark,
+/// a mark can't be copied, and only `into_serial` consumes it.
 #[must_use]
 pub struct Mark {
     pub(crate) origin: Origin,

@@ -14,7 +14,7 @@ use fc_help::Request;
 use fc_observe::{Observer, Observers};
 
 // Grants a lease to the first observer of a slot that has a pending notification about this notify
-// serial. Writes its job over `job`. Returns whether a lease was granted; if not, `job` is
+// serial. Writes the lease's job over `job`. Returns whether a lease was granted; if not, `job` is
 // unchanged.
 pub(crate) fn next_turn(
     watch: &mut Observers,
@@ -51,8 +51,8 @@ pub(crate) fn no_job() -> Job {
     }
 }
 
-// Writes the job of the lease with this number: the observer's request, answered from the first
-// block on.
+// Writes the job of the lease with this number over `job`: it answers the observer's request again,
+// from the first block on.
 fn write_turn(observer: &Observer<'_>, number: u64, slot: SlotNumber, job: &mut Job)
     ensures { job.new ≡ turn_job slot number (interest observer.now) }
 {
@@ -71,7 +71,7 @@ fn write_turn(observer: &Observer<'_>, number: u64, slot: SlotNumber, job: &mut 
     ask_anew(observer.request, &mut job.ask);
 }
 
-// Writes a token over another.
+// Writes `token` over another one.
 fn write_token(token: &Token, over: &mut Token)
     ensures { over.new ≡ token.now }
 {
@@ -79,8 +79,8 @@ fn write_token(token: &Token, over: &mut Token)
     let _fits = over.try_extend_from_slice(token.as_slice());
 }
 
-// Sets a job's action to answering this request; the request is written over an earlier one if
-// there is one.
+// Sets a job's action to answering this request. If the action is already a run, its request is
+// overwritten in place.
 fn ask_anew(request: &Request, ask: &mut Ask)
     ensures { ask.new ≡ Run request.now }
 {
@@ -96,8 +96,8 @@ fn ask_anew(request: &Request, ask: &mut Ask)
     }
 }
 
-// Returns the first block of the size with this exponent (SZX), of which three bits count. There is
-// no block without an exponent.
+// Returns the first block of the size with this exponent (SZX), of which three bits count. Returns
+// `None` without an exponent.
 fn first_block(szx: Option<u8>) -> Option<Block>
     ensures { result ≡ first_block szx }
 {

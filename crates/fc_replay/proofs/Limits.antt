@@ -1,4 +1,4 @@
--- A policy with the networks and limits of some parts.
+-- A policy that is made of networks, and of the limits and seconds that parts give, has all these.
 use Rattle.std.proofs.Common.{◌≡◌, ℕ, ◌^◌, List, Option, Some, None, IfSome, MatchOption, refl, sym, subst}
 use Rattle.std.specs.Prelude.{codes}
 use Rattle.fc_core.specs.declared.policy.Policy.{Policy}

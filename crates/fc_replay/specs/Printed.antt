@@ -1,4 +1,4 @@
--- Output of a replay.
+-- The output of a replay.
 use Rattle.std.specs.Prelude.{◌≡◌, ℕ, List, [], ◌∷◌, ◌++◌, Option, Some, None, ◌==◌, if◌then◌else◌, codes}
 use Rattle.std.specs.Fmt.{decimal}
 use Rattle.coap_msg.specs.declared.types.Emission.{Emission}
@@ -7,12 +7,12 @@ use Rattle.fc_lines.specs.Emissions.{printed}
 use Rattle.fc_replay.specs.declared.printer.SlotLine.{SlotLine}
 use Rattle.hex.specs.Hex.{encode_lower}
 
--- output for the emission of an event.
+-- the line for the emission of an event, or `none`.
 abbrev pub emitted_line : Option Emission → List ℕ
 emitted_line None = codes "none\n"
 emitted_line (Some emission) = printed emission
 
--- the printed data of a slot are its state.
+-- the printed data of a slot are the serial, version and variables of the slot's state.
 pub record IsSlotLine (slot : Slot) (line : SlotLine) : Type 0 where
   pub serial : line.serial ≡ slot.serial
   pub version : line.version ≡ version_in slot.present
@@ -28,11 +28,12 @@ abbrev pub vars_text : List ℕ → List ℕ
 vars_text [] = codes "-"
 vars_text (b ∷ bs) = encode_lower (b ∷ bs)
 
+-- the line for a slot with this number, serial, version and variables.
 abbrev pub line_at : ℕ → ℕ → Option ℕ → List ℕ → List ℕ
 line_at number serial version vars =
     codes "slot " ++ (decimal number ++ (codes " serial " ++ (decimal serial ++ (codes " version " ++ (version_text version
     ++ (codes " vars " ++ (vars_text vars ++ (10 ∷ []))))))))
 
--- a line for a slot that was changed: nothing at serial 0.
+-- the line for a slot, or nothing if the slot's serial is 0.
 abbrev pub slot_text : ℕ → SlotLine → List ℕ
 slot_text number slot = if slot.serial == 0 then [] else line_at number slot.serial slot.version slot.vars.now

@@ -1,5 +1,5 @@
--- Result of a list of events: each line is its event, all of them are executed on one server, and
--- their results are printed.
+-- The replay of a list: each line is an event, the events are executed on one server, and the
+-- results are printed.
 use Rattle.std.specs.Prelude.{◌≡◌, ◌≢◌, ◌⊎◌, All, ℕ, zero, suc, ◌<◌, ◌==◌, List, [], ◌∷◌, ◌++◌, flat_map, if◌then◌else◌, length, map, Option, IfSome}
 use Rattle.std.specs.Io.KnownBytes.{Appends}
 use Rattle.std.specs.List.{slice_split}
@@ -15,11 +15,11 @@ use Rattle.fc_world.specs.Histories.{history_from}
 use Rattle.fc_replay.specs.Listed.{AreOfEvent, Bytes, SaysBegin, line_words}
 use Rattle.fc_replay.specs.Printed.{emitted_line, line_at}
 
--- lines of a list, which are separated by line feeds.
+-- the lines of a list, which are separated by line feeds.
 abbrev pub listed_lines : Bytes → List Bytes
 listed_lines list = slice_split (λ b. b == 10) list
 
--- a text is a list, with or without a line feed at its end.
+-- the text is the list, with or without a line feed at the end.
 abbrev pub IsText : Bytes → Bytes → Type 0
 IsText text list = (text ≡ list) ⊎ (text ≡ list ++ 10 ∷ [])
 
@@ -27,36 +27,37 @@ IsText text list = (text ≡ list) ⊎ (text ≡ list ++ 10 ∷ [])
 abbrev pub IsFirstLine : Bytes → Bytes → Bytes → Type 0
 IsFirstLine text line rest = All (λ b. b ≢ 10) line × ((text ≡ line ++ 10 ∷ rest) ⊎ ((text ≡ line) × (rest ≡ [])))
 
--- the first line is the server's initial state.
+-- the first line of the text gives the server's initial state, and `rest` follows it.
 pub record HasBeginLine (text : Bytes) (begin : Begin) (rest : Bytes) : Type 0 where
   pub line : Bytes
   pub first : IsFirstLine text line rest
   pub says : SaysBegin (line_words line) begin
 
--- the server's initial state, and the text of the events: without such a first line, serial 0 and
--- message ID 0.
+-- the server's initial state, and the text of the events. The state is that of the first line, or
+-- the default one: serial 0, message ID 0 and the default policy.
 abbrev pub HasBeginning : Bytes → Begin → Bytes → Type 0
 HasBeginning text begin rest = ((rest ≡ text) × (begin ≡ record { serial = 0; id = 0; policy = default_policy })) ⊎ HasBeginLine text begin rest
 
--- each line is its event, by the words of the line.
+-- there are as many lines as events, and the words of each line are the event at the same place.
 abbrev pub AreEvents : List (List Bytes) → List Event → Type 0
 AreEvents [] [] = Unit {0}
 AreEvents (words ∷ lines) (event ∷ events) = AreOfEvent words event × AreEvents lines events
 AreEvents lines events = ⊥
 
--- output for a slot that was changed.
+-- the output for a slot: a line, or nothing if the slot's serial is 0.
 abbrev pub told_of : ℕ → Slot → List ℕ
 told_of number slot = if slot.serial == 0 then [] else line_at number slot.serial (version_in slot.present) (vars_in slot.present)
 
--- output for each slot below a number, in increasing order.
+-- the output for each slot below a number, in increasing order.
 abbrev pub told_below : ℕ → List Shard → List ℕ
 told_below zero shards = []
 told_below (suc n) shards = told_below n shards ++ told_of n (slot_in_shards shards n)
 
+-- the output for all 64 slots.
 abbrev pub told_of_all : List Shard → List ℕ
 told_of_all shards = told_below 64 shards
 
--- the events of a list were executed in their order, on a server with this initial state: their
+-- the events of a list were executed in their order, on a server with this initial state. Their
 -- emissions were printed, and then the output for each slot.
 pub record AreReplayed (begin : Begin) (list : Bytes) (before after : Option (List ℕ)) : Type 0 where
   pub events : List Event
@@ -68,7 +69,7 @@ pub record AreReplayed (begin : Begin) (list : Bytes) (before after : Option (Li
   pub slots : (n : ℕ) → n < 64 → slot_in_shards shards n ≡ slot_at (seen (history_from begin events emissions)) n
   pub printed : Appends before after (flat_map emitted_line emissions ++ told_of_all shards)
 
--- a text was read and replayed; for one without events nothing is printed.
+-- a text was read and replayed. If the text has no events, nothing was printed.
 pub record IsReplayed (known before after : Option (List ℕ)) : Type 0 where
   pub text : Bytes
   pub read : IfSome known (λ bytes. text ≡ bytes)

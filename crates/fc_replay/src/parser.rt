@@ -1,7 +1,7 @@
 //! Events as lines of text: a name, and its parts as `key=value`, in any order.
 //!
-//! [`crate::replay::replay`] reads lists of them. The clauses say what a line that is read means.
-//! They don't say which lines give `None`.
+//! [`crate::replay::replay`] reads lists of such lines. The contracts say what an accepted line
+//! means. They don't say which lines are refused.
 ghost use Rattle.std.specs.List.{slice_split};
 ghost use Rattle.std.specs.Prelude.{◌≡◌, ◌==◌, ◌≤◌, ◌++◌, ◌∷◌, ◌^◌, length, codes, IfOk, IfSome};
 ghost use Rattle.fc_registry.specs.Slots.{last_serial};
@@ -20,7 +20,7 @@ use fc_world::Event;
 use std::alloc::{AllocError, Global};
 use std::marker::Model;
 
-/// A line's words, and its datagram if one of its parts is `data=hex`.
+/// The words of a line, and the datagram in the word `data=hex`, if there is one.
 #[derive(Drop)]
 pub struct ListedEvent<'a> {
     words: Vec<&'a str>,
@@ -40,7 +40,7 @@ impl<'a> Model for ListedEvent<'a> {
 }
 
 impl<'a> ListedEvent<'a> {
-    /// Reads a line; its words are separated by single spaces.
+    /// Reads an event's line, whose words are separated by single spaces.
     ///
     /// # Errors
     /// Returns `Bad` if the line is no event or its data aren't hex digits, and `NoMemory` if
@@ -74,12 +74,12 @@ impl<'a> ListedEvent<'a> {
     }
 }
 
-/// Parses a server's initial state from `Begin serial=S id=I`, in any order.
+/// Parses a server's initial state from `Begin serial=S id=I`.
 ///
-/// Three more parts may give its policy: `managers=A.B.C.D/BITS`, up to four of these separated by
-/// commas, `exchanges=N` and `share=N`. A fourth such part may give the seconds until a
-/// notification is confirmable: `confirm-after=N`, by default 86,400. Returns `None` if the line
-/// has none of these forms.
+/// Three more parts may give the server's policy: `exchanges=N`, `share=N`, and `managers=` with up
+/// to four networks `A.B.C.D/BITS` separated by commas. A further part, `confirm-after=N`, may give
+/// the seconds until a notification is confirmable, by default 86,400. The parts may be in any
+/// order. Returns `None` if the line has none of these forms.
 ///
 /// # Errors
 /// Returns `AllocError` if memory can't be allocated.
@@ -93,7 +93,7 @@ pub fn begin_in(alloc: Global, line: &[u8]) -> Result<Option<Begin>, AllocError>
     }
 }
 
-// Returns the initial state of a line's words, or `None` if the words give none. See `begin_in`.
+// Returns the initial state that a line's words give, or `None` if they give none. See `begin_in`.
 fn begin_of(alloc: Global, words: &[&str]) -> Result<Option<Begin>, AllocError>
     ensures { IfOk result (λ found. IfSome found (SaysBegin (texts words.now))) }
 {
@@ -106,8 +106,8 @@ fn begin_of(alloc: Global, words: &[&str]) -> Result<Option<Begin>, AllocError>
     }
 }
 
-// Returns the initial state from two of the parts, with this policy. It is `None` if the name isn't
-// `Begin` or one of the two is missing or malformed.
+// Returns the initial state with this policy, and with the parts `serial=S` and `id=I`. Returns
+// `None` if the name isn't `Begin`, or if one of these parts is missing or malformed.
 fn begin_with(name: &str, parts: &[&str], policy: Policy) -> Option<Begin>
     requires { HasPolicy (texts parts.now) policy }
     ensures { IfSome result (IsBeginOf name.now (texts parts.now)) }
@@ -122,8 +122,9 @@ fn begin_with(name: &str, parts: &[&str], policy: Policy) -> Option<Begin>
     }
 }
 
-// Returns the default policy if there are two parts, and the policy of the other three or four
-// parts if there are five or six. Returns `None` for any other parts.
+// Returns the default policy if there are two parts, and the policy that the parts give if there
+// are five or six. Returns `None` for any other number of parts, or if five or six parts give no
+// policy. Returns an error if memory can't be allocated.
 fn policy_of(alloc: Global, parts: &[&str]) -> Result<Option<Policy>, AllocError>
     ensures { IfOk result (λ found. IfSome found (HasPolicy (texts parts.now))) }
 {
@@ -136,8 +137,9 @@ fn policy_of(alloc: Global, parts: &[&str]) -> Result<Option<Policy>, AllocError
     }
 }
 
-// Returns the seconds after which a notification is confirmable: the default if there are five
-// parts, and the sixth part's if there are six. Returns `None` for any other parts.
+// Returns the seconds after which a notification is confirmable. These are the default if there are
+// five parts, and the number of the part `confirm-after=N` if there are six. Returns `None` for any
+// other number of parts, or if that part is missing or malformed.
 fn seconds(parts: &[&str]) -> Option<u64>
     ensures { IfSome result (HasSeconds (texts parts.now)) }
 {
@@ -148,8 +150,9 @@ fn seconds(parts: &[&str]) -> Option<u64>
     }
 }
 
-// Returns the policy of three of five parts, or of four of six, with these seconds, or `None` if
-// the parts give none.
+// Returns the policy with these seconds, and with the networks and limits of the parts `managers=`,
+// `exchanges=N` and `share=N`. Returns `None` if one of these parts is missing or malformed, or if
+// no policy has these values. Returns an error if memory can't be allocated.
 fn policy_said(alloc: Global, parts: &[&str], seconds: u64) -> Result<Option<Policy>, AllocError>
     requires { HasSeconds (texts parts.now) seconds }
     ensures { IfOk result (λ found. IfSome found (SaysPolicy (texts parts.now))) }
@@ -161,7 +164,8 @@ fn policy_said(alloc: Global, parts: &[&str], seconds: u64) -> Result<Option<Pol
     Ok(policy_with(parts, list, &networks, seconds))
 }
 
-// Returns the networks in `list`, the value of `managers=`, which are separated by single commas.
+// Returns the texts in `list`, the value of `managers=`, which are separated by single commas.
+// Returns an error if memory can't be allocated.
 fn between_commas(alloc: Global, list: &str) -> Result<Vec<&str>, AllocError>
     ensures { IfOk result (λ v. texts v.items ≡ slice_split (λ b. b == comma) list.now) }
 {
@@ -171,8 +175,9 @@ fn between_commas(alloc: Global, list: &str) -> Result<Vec<&str>, AllocError>
     }
 }
 
-// Returns the policy with these networks and seconds and the limits of two of the parts. It is
-// `None` if the parts are missing or a policy can't have these values.
+// Returns the policy with these networks and seconds, and with the limits in the parts
+// `exchanges=N` and `share=N`. Returns `None` if one of these parts is missing or malformed, or if
+// no policy has these values.
 fn policy_with(parts: &[&str], list: &str, networks: &[&str], seconds: u64) -> Option<Policy>
     requires networks { texts networks.now ≡ slice_split (λ b. b == comma) list.now }
     requires seconds { HasSeconds (texts parts.now) seconds }
@@ -183,7 +188,8 @@ fn policy_with(parts: &[&str], list: &str, networks: &[&str], seconds: u64) -> O
     policy(networks, exchanges, share, seconds)
 }
 
-// Returns the number of the part `serial=N` if slots may begin with that serial, or `None`.
+// Returns the number of the part `serial=N`, or `None` if there is none or slots can't begin with
+// that serial.
 fn serial(parts: &[&str]) -> Option<u64>
     ensures { IfSome result (λ n. HasNumber (texts parts.now) (codes "serial") (2 ^ 64) n × (n ≤ last_serial)) }
 {
@@ -195,8 +201,8 @@ fn serial(parts: &[&str]) -> Option<u64>
     }
 }
 
-// Returns the words of a line, which are separated by single spaces. The error is `Bad` if the line
-// isn't UTF-8.
+// Returns the words of a line, which are separated by single spaces. Returns `Bad` if the line
+// isn't UTF-8, and `NoMemory` if memory can't be allocated.
 fn words(alloc: Global, line: &[u8]) -> Result<Vec<&str>, LineError>
     ensures { IfOk result (λ v. texts v.items ≡ line_words line.now) }
 {
@@ -209,8 +215,9 @@ fn words(alloc: Global, line: &[u8]) -> Result<Vec<&str>, LineError>
     }
 }
 
-// Returns the datagram of a line's words, or `None` if none of them is `data=..`. The error is
-// `Bad` if that part isn't hex digits.
+// Returns the datagram in the word `data=hex` of a line, or `None` if there is no such word.
+// Returns `Bad` if the text after `data=` isn't hex digits, and `NoMemory` if memory can't be
+// allocated.
 fn datagram(alloc: Global, words: &[&str]) -> Result<Option<Vec<u8>>, LineError>
     ensures { IfOk result (λ found. IfSome found (λ v. HasData (texts words.now) v.items)) }
 {
@@ -220,49 +227,50 @@ fn datagram(alloc: Global, words: &[&str]) -> Result<Option<Vec<u8>>, LineError>
     }
 }
 
-// Returns the value of the first part `key=value`, or `None` if there is none.
+// Returns the value of the first part `key=value`, or `None` if no part has this key.
 fn value<'a>(parts: &[&'a str], key: &str) -> Option<&'a str>
     ensures { IfSome result (λ value. HasPart (texts parts.now) key.now value.now) }
 {
     parts.iter().copied().find_map(|part| value_of(part, key))
 }
 
-// Returns the text after `key=` if the part begins so, or `None`.
+// Returns the text of a part after `key=`, or `None` if the part doesn't begin with `key=`.
 fn value_of<'a>(part: &'a str, key: &str) -> Option<&'a str>
     ensures { IfSome result (λ value. part.now ≡ key.now ++ (equals ∷ value.now)) }
 {
     part.strip_prefix(key)?.strip_prefix("=")
 }
 
-// Returns the number of the part `key=N`, below 2^64, or `None`.
+// Returns the number of the part `key=N`, or `None` if there is none below 2^64.
 fn long(parts: &[&str], key: &str) -> Option<u64>
     ensures { IfSome result (HasNumber (texts parts.now) key.now (2 ^ 64)) }
 {
     number(value(parts, key)?.as_bytes())
 }
 
-// Returns the number of the part `key=N`, such as a job's, or `None`.
+// Returns the number of the part `key=N`, such as a job's, or `None` if there is none that fits
+// into a `usize`.
 fn index(parts: &[&str], key: &str) -> Option<usize>
     ensures { IfSome result (HasNumber (texts parts.now) key.now (2 ^ 64)) }
 {
     usize::try_from(long(parts, key)?).ok()
 }
 
-// Returns the number of the part `key=N`, below 65,536, or `None`.
+// Returns the number of the part `key=N`, or `None` if there is none below 65,536.
 fn short(parts: &[&str], key: &str) -> Option<u16>
     ensures { IfSome result (HasNumber (texts parts.now) key.now 65536) }
 {
     u16::try_from(long(parts, key)?).ok()
 }
 
-// Returns the number of the part `key=N`, below 256, or `None`.
+// Returns the number of the part `key=N`, or `None` if there is none below 256.
 fn octet(parts: &[&str], key: &str) -> Option<u8>
     ensures { IfSome result (HasNumber (texts parts.now) key.now 256) }
 {
     byte(value(parts, key)?.as_bytes())
 }
 
-// Returns the slot of the part `slot=N`, or `None` if there is none below 64.
+// Returns the number of the part `slot=N`, or `None` if there is none below 64.
 fn slot(parts: &[&str]) -> Option<u8>
     ensures { IfSome result (HasNumber (texts parts.now) (codes "slot") 64) }
 {
@@ -270,7 +278,7 @@ fn slot(parts: &[&str]) -> Option<u8>
     if slot < SLOTS { Some(slot) } else { None }
 }
 
-// Returns the flag of the part `key=0` or `key=1`, or `None`.
+// Returns `false` for a part `key=0` and `true` for a part `key=1`, or `None` if there is neither.
 fn flag(parts: &[&str], key: &str) -> Option<bool>
     ensures { IfSome result (HasFlag (texts parts.now) key.now) }
 {
@@ -281,14 +289,14 @@ fn flag(parts: &[&str], key: &str) -> Option<bool>
     }
 }
 
-// Returns the endpoint of the peer in the part `ep=N`, or `None`.
+// Returns the endpoint of peer N in the part `ep=N`, or `None` if there is no N below 256.
 fn peer(parts: &[&str]) -> Option<Endpoint>
     ensures { IfSome result (HasEndpoint (texts parts.now)) }
 {
     Some(endpoint(octet(parts, "ep")?))
 }
 
-// Returns the event with this name and one part, or `None`.
+// Returns the event with this name and this one part, or `None` if no event has them.
 fn with_one<'a>(name: &str, parts: &[&str]) -> Option<Event<'a>>
     requires { length parts.now ≡ 1 }
     ensures { IfSome result (IsEventOf name.now (texts parts.now)) }
@@ -313,7 +321,7 @@ fn with_one<'a>(name: &str, parts: &[&str]) -> Option<Event<'a>>
     }
 }
 
-// Returns the event with this name and two parts, or `None`.
+// Returns the event with this name and these two parts, or `None` if no event has them.
 fn with_two<'a>(name: &str, parts: &[&str]) -> Option<Event<'a>>
     requires { length parts.now ≡ 2 }
     ensures { IfSome result (IsEventOf name.now (texts parts.now)) }
@@ -335,7 +343,7 @@ fn with_two<'a>(name: &str, parts: &[&str]) -> Option<Event<'a>>
     }
 }
 
-// Returns the event with this name, a job and one more part, or `None`.
+// Returns the event with this name, `job` and one more part, or `None` if no event has them.
 fn of_job<'a>(name: &str, parts: &[&str], job: usize) -> Option<Event<'a>>
     requires count { length parts.now ≡ 2 }
     requires job { HasNumber (texts parts.now) (codes "job") (2 ^ 64) job }
@@ -375,7 +383,8 @@ fn of_job<'a>(name: &str, parts: &[&str], job: usize) -> Option<Event<'a>>
     }
 }
 
-// Returns the event with this name and three parts, one of which may be `datagram`, or `None`.
+// Returns the event with this name and these three parts, or `None` if no event has them.
+// `datagram` has the bytes of the part `data=hex`, if there is one.
 fn with_three<'a>(name: &str, parts: &[&str], datagram: &'a Option<Vec<u8>>) -> Option<Event<'a>>
     requires count { length parts.now ≡ 3 }
     requires datagram { IfSome datagram.now (λ v. HasData (name.now ∷ texts parts.now) v.items) }
@@ -404,7 +413,7 @@ fn with_three<'a>(name: &str, parts: &[&str], datagram: &'a Option<Vec<u8>>) -> 
     }
 }
 
-// Returns the event with this name and four parts, or `None`.
+// Returns the event with this name and these four parts, or `None` if no event has them.
 fn with_four<'a>(name: &str, parts: &[&str]) -> Option<Event<'a>>
     requires { length parts.now ≡ 4 }
     ensures { IfSome result (IsEventOf name.now (texts parts.now)) }

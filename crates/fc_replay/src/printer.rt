@@ -14,14 +14,14 @@ use std::io::Write;
 
 /// The printed data of a slot.
 ///
-/// They are its serial, its program's version, if it has one, and its variables.
+/// The data are the slot's serial, and the version and the variables of the slot's program.
 #[derive(Clone, Copy)]
 pub struct SlotLine<'a> {
-    /// The number of its changes.
+    /// The slot's serial.
     pub serial: u64,
-    /// The serial of its program's install, if it has a program.
+    /// The serial at the install of the slot's program, or `None` if the slot is empty.
     pub version: Option<u64>,
-    /// The variables of its program.
+    /// The variables of the slot's program.
     pub vars: &'a [u8],
 }
 
@@ -36,7 +36,7 @@ pub fn slot_line(shard: &Shard, slot: SlotNumber) -> SlotLine<'_>
     }
 }
 
-/// Prints `none`, or an emission as `peer hex`.
+/// Prints an emission as a line `peer hex`, or `none` if there is no emission.
 ///
 /// # Errors
 /// Returns the writer's error.
@@ -49,10 +49,11 @@ pub fn print_emitted<W: Write>(out: &mut W, emitted: &Option<Emission>) -> io::R
     }
 }
 
-/// Prints a line for a slot that was changed; nothing for a slot at serial 0.
+/// Prints a line for a slot, or nothing if the slot's serial is 0.
 ///
 /// # Errors
-/// Returns the writer's error, or that memory for the variables' digits couldn't be allocated.
+/// Returns `Output` if writing fails, and `Memory` if memory for the digits of the variables can't
+/// be allocated.
 pub fn print_slot<W: Write>(
     alloc: Global,
     out: &mut W,

@@ -24,11 +24,11 @@ use std::io::{Read, Write};
 ///
 /// The server begins with empty slots at serial 0. A first line `Begin serial=S id=I` gives another
 /// serial, 0 to 2^63 - 1, and the first message ID that the server draws. The output has a line for
-/// each event, `none` or its emission as `peer hex`, and then a line for each slot whose serial is
-/// above 0. The result is:
+/// each event, the event's emission as `peer hex` or `none`. Then it has a line for each slot whose
+/// serial is above 0. The result is:
 ///
 /// - `Done` if everything is printed;
-/// - `Bad` if a line is bad: `err` gets its number, counted from 1, and nothing is executed;
+/// - `Bad` if a line is bad: `err` gets the line's number, counted from 1. No event is executed;
 /// - `Failed` if reading or writing failed, or memory couldn't be allocated: `err` gets a message.
 pub fn replay<R: Read, W: Write, E: Write>(
     alloc: Global,
@@ -60,8 +60,9 @@ fn replay_list<R: Read, W: Write>(alloc: Global, input: &mut R, out: &mut W) -> 
     Ok(())
 }
 
-// Returns the initial state of a text's server, and the text of its events. Without a first line
-// `Begin` the state is the default one.
+// Returns the server's initial state, and the text of the events. If the first line isn't an
+// initial state, the state is the default one, and the events are all of `text`. Returns an error
+// if memory can't be allocated.
 fn begun(alloc: Global, text: &[u8]) -> Result<(Begin, &[u8]), AllocError>
     ensures begun { IfOk result (λ r. HasBeginning text.now r.0 r.1.now) }
     ensures can_begin { IfOk result (λ r. CanBegin r.0) }
@@ -73,7 +74,7 @@ fn begun(alloc: Global, text: &[u8]) -> Result<(Begin, &[u8]), AllocError>
     }
 }
 
-// Returns the first line of a text, and the text after it.
+// Returns the first line of a text, without its line feed, and the text after the line feed.
 fn first_line(text: &[u8]) -> (&[u8], &[u8])
     ensures { IsFirstLine text.now result.0.now result.1.now }
 {
@@ -83,7 +84,7 @@ fn first_line(text: &[u8]) -> (&[u8], &[u8])
     }
 }
 
-// Returns all bytes of a reader. The error is that of the reader.
+// Returns all bytes of a reader, or `Input` with the reader's error.
 fn read_text<R: Read>(alloc: Global, input: &mut R) -> Result<Vec<u8>, Stop>
     ensures { IfOk result (λ text. IfSome (R.remaining input.old) (λ bytes. text.items ≡ bytes)) }
 {
@@ -94,7 +95,7 @@ fn read_text<R: Read>(alloc: Global, input: &mut R) -> Result<Vec<u8>, Stop>
     }
 }
 
-// Returns the list of a text: the text without the line feed of its last line, if it has one.
+// Returns the list of a text: the text without the line feed at its end, if there is one.
 fn list_of(text: &[u8]) -> &[u8]
     ensures { IsText text.now result.now }
 {
@@ -105,7 +106,7 @@ fn list_of(text: &[u8]) -> &[u8]
 }
 
 // Replays a list that follows `before` lines, and prints the results. If a line is bad, the error
-// has its number, and nothing is executed.
+// is `BadLine` with the line's number, and no event is executed.
 fn replay_lines<W: Write>(
     alloc: Global,
     begin: &Begin,
@@ -124,7 +125,7 @@ fn replay_lines<W: Write>(
     Ok(())
 }
 
-// Prints a line for the emission of each event.
+// Prints a line for each event: its emission, or `none`.
 fn print_emissions<W: Write>(out: &mut W, emissions: &[Option<Emission>]) -> Result<(), Stop>
     ensures { OnOk result (Appends (W.contents out.old) (W.contents out.new) (flat_map emitted_line emissions.now)) }
 {
@@ -134,8 +135,9 @@ fn print_emissions<W: Write>(out: &mut W, emissions: &[Option<Emission>]) -> Res
     Ok(())
 }
 
-// Returns the lines of a list, each of which is an event. They follow `before` lines. The error is
-// the number of the first line that is no event, or that memory can't be allocated.
+// Returns the lines of a list, each of which is an event. The list follows `before` lines. Returns
+// `BadLine` with the number of the first line that is no event, or `Memory` if memory can't be
+// allocated.
 fn lines(alloc: Global, list: &[u8], before: u64) -> Result<Vec<ListedEvent<'_>>, Stop>
     ensures { IfOk result (λ v. map (λ l. l.words) v.items ≡ map line_words (listed_lines list.now)) }
 {
@@ -152,7 +154,8 @@ fn lines(alloc: Global, list: &[u8], before: u64) -> Result<Vec<ListedEvent<'_>>
     Ok(lines)
 }
 
-// Returns the event of each line. The lines follow `before` others. See `lines` for the error.
+// Returns the event of each line. `lines` follow `before` other lines. The errors are those of the
+// function `lines`.
 fn events<'a>(
     alloc: Global,
     lines: &'a [ListedEvent<'_>],
@@ -172,7 +175,7 @@ fn events<'a>(
     Ok(events)
 }
 
-// Prints each slot that was changed, in increasing order.
+// Prints each slot whose serial is above 0, in the order of the slots' numbers.
 fn print_slots<W: Write>(alloc: Global, out: &mut W, shards: &[Shard]) -> Result<(), Stop>
     requires { AreShards shards.now }
     ensures { OnOk result (Appends (W.contents out.old) (W.contents out.new) (told_of_all shards.now)) }

@@ -14,8 +14,8 @@
 //!
 //! # What is proved
 //!
-//! - The rule with a number has this number, and if none is returned, no rule has it. The texts are
-//!   tested.
+//! - The rule that is returned for a number has this number. If no rule is returned, no rule has
+//!   the number. The texts are tested.
 //!
 //! By the contracts of `rule_numbered`.
 #![tactic(auto)]

@@ -1,4 +1,4 @@
--- The beginning: nothing has happened, and every slot is empty.
+-- At the beginning nothing has happened, and every slot is empty.
 use Rattle.std.proofs.Common.{◌≡◌, ℕ, zero, suc, ◌+◌, ◌*◌, ◌<◌, ◌≤◌, ◌/◌, ◌%◌, [], ◌∷◌, ◌++◌, length, get_or, replicate, refl, sym, ap, ◌∙◌, subst, arith, ⊎_elim, length-append}
 use Rattle.std.proofs.lemmas.Bool.{cases_lt}
 use Rattle.std.proofs.lemmas.List.{get_or-replicate, get_or_append_left}
@@ -17,7 +17,7 @@ use Rattle.fc_server.specs.Agreement.{ShardsAgree}
 use Rattle.fc_server.specs.Serving.{Serves}
 use Rattle.fc_server.specs.States.{ServerState}
 
--- an empty shard
+-- an empty shard with this index.
 abbrev empty : ℕ → ℕ → ℕ → Shard
 empty serial confirm_after s = record { index = s; now = 0; slots = replicate 8 (new_slot serial); watches = new_watches s confirm_after 8 }
 
@@ -25,7 +25,7 @@ length-empty_shards : (serial confirm_after n : ℕ) → length (empty_shards se
 length-empty_shards serial confirm_after zero = refl
 length-empty_shards serial confirm_after (suc n) = let e = length-empty_shards serial confirm_after n in length-append (empty_shards serial confirm_after n) (empty serial confirm_after n ∷ []) ∙ omega (arith, e)
 
--- each of the first shards is empty
+-- each of the first shards is empty.
 empty_at : (serial confirm_after n s : ℕ) → s < n → shard_at (empty_shards serial confirm_after n) s ≡ empty serial confirm_after s
 empty_at serial confirm_after zero s lt = absurd (omega arith)
 empty_at serial confirm_after (suc n) s lt =
@@ -46,7 +46,7 @@ length-new_watches : (i confirm_after n : ℕ) → length (new_watches i confirm
 length-new_watches i confirm_after zero = refl
 length-new_watches i confirm_after (suc n) = let e = length-new_watches i confirm_after n in length-append (new_watches i confirm_after n) (no_observers (8 * n + i) confirm_after ∷ []) ∙ omega (arith, e)
 
--- and has no observers
+-- each place of an empty shard has no observers.
 new_watch : (i confirm_after n k : ℕ) → k < n → get_or (new_watches i confirm_after n) k (no_observers 0 0) ≡ no_observers (8 * k + i) confirm_after
 new_watch i confirm_after zero k lt = absurd (omega arith)
 new_watch i confirm_after (suc n) k lt =

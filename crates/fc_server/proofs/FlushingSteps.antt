@@ -28,7 +28,7 @@ is_next_place from to is next overdue = (omega (arith, is, next), λ end. overdu
 seeks_at : (s : Flushing) (k : ℕ) (b : Bool) → s.shard ≡ k → s.notifies ≡ b → sought_at s ≡ (if b then NobodyDue k else NothingOverdue k)
 seeks_at s k b shard notifies = λ i. if notifies i then NobodyDue (shard i) else NothingOverdue (shard i)
 
--- nothing was found, and the position is unchanged.
+-- a step that found nothing leaves the position unchanged.
 pub stays : (s : Flushing) (step : FlushingStep) → s.shard < 8 → sought_in_step step ≡ sought_at s → is_starved step ≡ false → found_in_step step ≡ [] → Moves s step s
 stays s step is seeks fed none = record {
   within = is;
@@ -37,7 +37,7 @@ stays s step is seeks fed none = record {
   reaches = inl (fed, ap (λ (l : List Finding). found_at s ++ l) none ∙ append-nil (found_at s));
 }
 
--- no notification has timed out: its observers are next.
+-- if no notification of the shard has timed out, the next position is at the shard's observers.
 pub finds_nothing_overdue : (from to : Flushing) → from.shard < 8 → from.notifies ≡ false → to.shard ≡ from.shard → to.notifies ≡ true → Moves from (Resent from.shard Quiet) to
 finds_nothing_overdue from to is overdue same due = record {
   within = is;
@@ -50,7 +50,7 @@ finds_nothing_overdue from to is overdue same due = record {
   );
 }
 
--- the shard is idle: the next shard is next.
+-- if the shard is idle, the next position is at the next shard.
 pub passes_over : (from to : Flushing) → from.shard < 8 → from.notifies ≡ false → to.shard ≡ from.shard + 1 → to.notifies ≡ false → Moves from (Passed from.shard) to
 passes_over from to is overdue next later = record {
   within = is;
@@ -63,7 +63,7 @@ passes_over from to is overdue next later = record {
   );
 }
 
--- no observer has a pending notification: the next shard is next.
+-- if no observer of the shard has a pending notification, the next position is at the next shard.
 pub finds_nobody : (from to : Flushing) → from.shard < 8 → from.notifies ≡ true → to.shard ≡ from.shard + 1 → to.notifies ≡ false → Moves from (Asked from.shard Nobody) to
 finds_nobody from to is due next later =
     let k = from.shard in
@@ -78,16 +78,16 @@ finds_nobody from to is due next later =
       );
     }
 
--- a notification was retransmitted, or its observer removed: the position is unchanged.
+-- if a notification was retransmitted, or its observer removed, the position is unchanged.
 pub stays_overdue : (s : Flushing) (ticked : Ticked) → s.shard < 8 → s.notifies ≡ false → found_in_step (Resent s.shard ticked) ≡ [] → Moves s (Resent s.shard ticked) s
 stays_overdue s ticked is overdue none = stays s (Resent s.shard ticked) is (sym (seeks_at s s.shard false refl overdue)) refl none
 
--- an observer was notified, or its lease released: the position is unchanged.
+-- if an observer was notified, or its lease released, the position is unchanged.
 pub stays_due : (s : Flushing) (told : Notified) → s.shard < 8 → s.notifies ≡ true → is_starved (Asked s.shard told) ≡ false → found_in_step (Asked s.shard told) ≡ []
     → Moves s (Asked s.shard told) s
 stays_due s told is due fed none = stays s (Asked s.shard told) is (sym (seeks_at s s.shard true refl due)) fed none
 
--- no message ID is available: the position is the end.
+-- if no message ID is available, the next position is the end.
 pub starves : (from to : Flushing) → from.shard < 8 → from.notifies ≡ true → to.shard ≡ 8 → to.notifies ≡ false → Moves from (Asked from.shard Starved) to
 starves from to is due end overdue = record {
   within = is;
@@ -98,7 +98,7 @@ starves from to is due end overdue = record {
 
 -- ---- the remaining findings
 
--- the findings below a shard are first.
+-- the findings below a shard are the first of those below a later shard.
 found_first : (n d : ℕ) → (rest : List Finding) × (found_below n ++ rest ≡ found_below (n + d))
 found_first n zero = let is : n ≡ n + zero = omega arith in ([], append-nil (found_below n) ∙ ap found_below is)
 found_first n (suc d) =
@@ -107,7 +107,7 @@ found_first n (suc d) =
     let is : suc (n + d) ≡ n + suc d = omega arith in
     (w.0 ++ more, sym (append_assoc (found_below n) w.0 more) ∙ (ap (λ (l : List Finding). l ++ more) w.1 ∙ ap found_below is))
 
--- from a shard on, below 8
+-- the findings at a shard below 8 come after those below the shard.
 left_from : (k : ℕ) → k < 8 → (rest : List Finding) × (found_below k ++ (NothingOverdue k ∷ NobodyDue k ∷ rest) ≡ found_below 8)
 left_from k is =
     let w = found_first (suc k) (7 - k) in
@@ -119,7 +119,7 @@ left_at : (k : ℕ) (b : Bool) → k < 8
 left_at k true is = let w = left_from k is in (w.0, append_assoc (found_below k) (NothingOverdue k ∷ []) (NobodyDue k ∷ w.0) ∙ w.1)
 left_at k false is = let w = left_from k is in (NobodyDue k ∷ w.0, append_assoc (found_below k) [] (NothingOverdue k ∷ NobodyDue k ∷ w.0) ∙ w.1)
 
--- the finding that a position looks for is the first remaining one.
+-- the finding that a position looks for is the first of those that remain.
 left : (s : Flushing) (step : FlushingStep) (steps : List FlushingStep) → s.shard < 8 → found_in_steps steps ≡ found_at s → sought_in_step step ≡ sought_at s
     → (rest : List Finding) × (found_in_steps steps ++ (sought_in_step step ∷ rest) ≡ found_below 8)
 left s step steps is found seeks =
@@ -150,34 +150,34 @@ module _ {S : Type 0} (calls : IngressCalls S) where
   abbrev pub StepsTo : ℕ → List FlushingStep → S → S → Flushing → Type 0
   StepsTo now steps old new at = AreStepsTo calls now steps old new at
 
-  -- no step yet
+  -- without a step, the position is the first one.
   pub no_steps : (now : ℕ) (old : S) (s : Flushing) → s.shard ≡ 0 → s.notifies ≡ false → StepsTo now [] old old s
   no_steps now old s first overdue =
       record { taken = refl; place = is_place s (omega (arith, first)); in_order = tt; reached = inl (refl, sym (at_place s 0 false first overdue)) }
 
-  -- one more step.
+  -- one more step leads from the last position to the next.
   pub one_step : (now : ℕ) (old mid new : S) (from to : Flushing) (steps : List FlushingStep) (step : FlushingStep) → StepsTo now steps old mid from
       → IsStepBy calls now step mid new → Moves from step to → StepsTo now (step ∷ steps) old new to
   one_step now old mid new from to steps step w is m =
       let r = reached_more from to steps step w.in_order w.reached m in
       record { taken = (mid, is, w.taken); place = m.place; in_order = r.0; reached = r.1 }
 
-  -- nothing is left at the end.
+  -- steps that led to the last position fulfil `AreFlushed`.
   pub settled_at_end : (now : ℕ) (old new : S) (s : Flushing) (steps : List FlushingStep) → StepsTo now steps old new s → 8 ≤ s.shard → AreFlushed steps
   settled_at_end now old new s steps w end = settled_by s steps (found_all s w.place end) w.in_order w.reached
 
-  -- and after the greatest number of steps.
+  -- the greatest number of steps fulfils `AreFlushed` too.
   pub settled_at_bound : (now : ℕ) (old new : S) (s : Flushing) (steps : List FlushingStep) → StepsTo now steps old new s → 8192 ≤ length steps → AreFlushed steps
   settled_at_bound now old new s steps w many = (w.in_order, inr (inr many))
 
-  -- at least this many steps, to this position, whose emissions have a property.
+  -- at least `taken` steps led to this position, and their emissions have the property P.
   abbrev pub Steps : (List Emission → Type 0) → ℕ → ℕ → S → S → Flushing → Type 0
   Steps P taken now old new place = (steps : List FlushingStep) × AreStepsTo calls now steps old new place × (taken ≤ length steps) × P (sent_in_steps steps)
 
   abbrev pub Done : (List Emission → Type 0) → ℕ → S → S → Type 0
   Done P now old new = (steps : List FlushingStep) × AreStepsBy calls now steps old new × AreFlushed steps × P (sent_in_steps steps)
 
-  -- one more step.
+  -- one more step leads to the next position, and the emissions have the next property, Q.
   pub next_step : (P Q : List Emission → Type 0) (taken now : ℕ) (old mid new : S) (from to : Flushing) (out : Option Emission) → Steps P taken now old mid from
       → ((step : FlushingStep) × IsStepBy calls now step mid new × (sent_in_step step ≡ out) × Moves from step to)
       → ((emissions : List Emission) → P emissions → Q (emissions ++ option_to_list out)) → Steps Q (taken + 1) now old new to

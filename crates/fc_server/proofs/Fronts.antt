@@ -30,16 +30,16 @@ filter_filter_step p x false ys zs i e = e ∙ drops (p x) i
     drops true j = absurd (let k = j refl in cc)
     drops false j = refl
 
--- an element that passes p passes q.
+-- if each element that passes p passes q, filtering by q first makes no difference.
 filter_of_filter : {X : Type 0} (p q : X → Bool) → ((x : X) → p x ≡ true → q x ≡ true) → (xs : List X) → filter p (filter q xs) ≡ filter p xs
 filter_of_filter p q i [] = refl
 filter_of_filter p q i (x ∷ xs) = filter_filter_step p x (q x) (filter q xs) (filter p xs) (i x) (filter_of_filter p q i xs)
 
--- an exchange that is live later was live before.
+-- an exchange that is live at a later time was live before.
 live_before : (m at : ℕ) → m ≤ at → (e : Exchange) → is_held at e ≡ true → is_held m e ≡ true
 live_before m at le e held = let lt : at < e.at + 247000 = ltb-true at (e.at + 247000) held in lt-ltb m (e.at + 247000) (omega arith)
 
--- a front that advances has the exchanges that are live then.
+-- a front that advances to a time has the exchanges that are live then.
 pub front_advances : (s : Seen) (now : ℕ) → advanced (front_in s s.time) now ≡ front_at s now
 front_advances s now =
     let le : s.time ≤ max s.time now = omega arith in
@@ -64,7 +64,7 @@ opened_live s at (x.Full m) to = refl
 
 -- ---- an exchange is answered
 
--- the exchange with this number, if it is live, is answered where it is stored.
+-- the exchange with this number is answered where it is stored, if it is live.
 kept_one : (at n : ℕ) (bytes : ArrayVec ℕ) (e : Exchange) (rest : List Exchange) (all : List Exchange) (is live : Bool) → (e.number == n) ≡ is → is_held at e ≡ live → map (answered at n bytes) rest ≡ filter (is_held at) all → map (answered at n bytes) (cond live (e ∷ rest) rest) ≡ filter (is_held at) (answered_if is bytes e ∷ all)
 kept_one at n bytes e rest all true true same held more = (λ i. answered_if (same i && held i) bytes e ∷ more i) ∙ ap (λ (b : Bool). cond b (record e { answer = Some bytes } ∷ filter (is_held at) all) (filter (is_held at) all)) (sym held)
 kept_one at n bytes e rest all false true same held more = (λ i. answered_if (same i && held i) bytes e ∷ more i) ∙ ap (λ (b : Bool). cond b (e ∷ filter (is_held at) all) (filter (is_held at) all)) (sym held)
@@ -75,7 +75,7 @@ kept_all : (at n : ℕ) (bytes : ArrayVec ℕ) (es : List Exchange) → map (ans
 kept_all at n bytes [] = refl
 kept_all at n bytes (e ∷ es) = kept_one at n bytes e (filter (is_held at) es) (map (λ e. answered_if (e.number == n) bytes e) es) (e.number == n) (is_held at e) refl refl (kept_all at n bytes es)
 
--- a front with these exchanges, transfers and message IDs.
+-- the front with these exchanges, transfers and message IDs.
 abbrev pub front_of : Policy → ℕ → List Exchange → List Transfer → Ids → FrontState
 front_of p at es ts ids = record { managers = p.managers; limits = p.limits; now = at; opened = length es; held = filter (is_held at) es; transfers = ts; ids = ids }
 
@@ -83,12 +83,12 @@ pub front_keeps : (p : Policy) (at n : ℕ) (em : Option Emission) (es : List Ex
 front_keeps p at n None es ts ids = refl
 front_keeps p at n (Some em) es ts ids = λ i. record { managers = p.managers; limits = p.limits; now = at; opened = sym (length-map es (λ e. answered_if (e.number == n) em.bytes e)) i; held = kept_all at n em.bytes es i; transfers = ts; ids = ids }
 
--- transfers after the added payloads.
+-- the transfers after new payloads are those after the new payloads are added to the earlier ones.
 pub transfers_added : (new before : List Addition) → transfers (new ++ before) ≡ after_added new (transfers before)
 transfers_added [] before = refl
 transfers_added (a ∷ more) before = ap (after_addition a) (transfers_added more before)
 
--- a front that opens a live exchange.
+-- a front after it opened an exchange, if the datagram opens one, has this exchange too.
 pub front_opens : (s : Seen) (at : ℕ) (r : Received) (to : Endpoint) (ts : List Transfer) (ids : Ids) →
     record (front_in s at) { opened = length s.exchanges + length (opened_by r (next_opening (front_in s at)) to); held = filter (is_held at) s.exchanges ++ opened_by r (next_opening (front_in s at)) to; transfers = ts; ids = ids }
     ≡ front_of s.policy at (s.exchanges ++ opened_by r (next_opening (front_in s at)) to) ts ids

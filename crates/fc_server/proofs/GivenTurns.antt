@@ -1,5 +1,5 @@
--- A lease that a shard has just granted is out. So if its slot is empty, its snapshot finds that,
--- and it notifies with the message ID that it draws.
+-- A lease that a shard has just granted is active. So if its slot is empty, the lease's snapshot
+-- finds that, and the lease notifies with the message ID that it draws.
 use Rattle.std.proofs.Common.{◌≡◌, ℕ, ◌+◌, ◌*◌, ◌/◌, ◌%◌, ◌<◌, ◌≤◌, max, set, arith, [], ◌∷◌, ◌++◌, List, Bool, true, false, Option, Some, None, if◌then◌else◌, refl, sym, ap, ◌∙◌, subst}
 use Rattle.std.specs.Prelude.{is_some}
 use Rattle.std.specs.Option.{option_map}
@@ -38,7 +38,7 @@ use Rattle.fc_server.proofs.Places.{now_here, watch_here}
 
 -- ---- the new job
 
--- it has this slot and number, and its lease belongs to an entry.
+-- the job has this slot and this lease, and an entry of the list has the lease, active.
 abbrev IsOf : ℕ → Turn → ObserverList → Job → Type 0
 IsOf n turn w job = (job.origin.slot ≡ n) × (job.turn ≡ Some turn.number) × (is_some (entry_out turn w) ≡ true)
 
@@ -52,7 +52,7 @@ given_by : (n : ℕ) (b : Bool) (t w : ObserverList) (job : Job) → job_of_turn
 given_by n false t w job is = absurd (cc is)
 given_by n true t w job is = made_by n t.turns (entry_out (record { slot = t.slot; number = t.turns }) w) job is
 
--- at a place of a shard
+-- the lease that is granted at a place of a shard.
 abbrev turn_at_place : Shard → ℕ → Turn
 turn_at_place shard k = record { slot = (watch_at shard k).slot; number = (watch_at shard k).turns }
 
@@ -65,7 +65,7 @@ placed shard (Some k) job is =
     let t = list_at_time shard.now (watch_at shard k) in
     (k, refl, given_by (8 * k + shard.index) (gives_turn (noticed_at shard k) t) t (asked_there shard k) job is)
 
--- ---- it is out at the shard
+-- ---- the lease is active at the shard
 
 module _ (s : Seen) (i now : ℕ) (low : i < 8) (old new : List Shard) (a : ShardsAgree s old) (shards : new ≡ set old i (shard_asked now (shard_at old i)))
     (job : Job) (comes : Some job ≡ shard_turn now (shard_at old i)) where
@@ -98,14 +98,14 @@ module _ (s : Seen) (i now : ℕ) (low : i < 8) (old new : List Shard) (a : Shar
       let below = place_below (has_due asked) 8 0 place given.1 in
       get_or-set_same asked.watches place (asked_there asked place) (no_observers 0 0) (omega (arith, eight, below))
 
-  -- its lease is the job's.
+  -- the lease that the shard granted is that of the job.
   same_turn : turn_at_place asked place ≡ turn_of job (watch_at asked place).turns
   same_turn =
       let below = place_below (has_due asked) 8 0 place given.1 in
       let own = ap (λ (w : ObserverList). w.slot) (a.watch i place low (omega (arith, below))) ∙ slot_is (8 * place + i) s.policy.confirm_after (s.calls (8 * place + i)) ∙ sym slot_of_job in
       ap (λ (n : ℕ). let t : Turn = record { slot = n; number = (watch_at asked place).turns } in t) own
 
-  -- the time was passed already.
+  -- the time of the request was passed to the observers already, so they are unchanged by it.
   rests : list_at_time asked.now (asked_there asked place) ≡ asked_there asked place
   rests =
       let w = asked_there asked place in
@@ -119,7 +119,7 @@ module _ (s : Seen) (i now : ℕ) (low : i < 8) (old new : List Shard) (a : Shar
       ∙ ap (λ (t : Turn). is_some (entry_out t (asked_there asked place))) (sym same_turn)
       ∙ given.2.2
 
-  -- a task that begins with the job needs the snapshot of its lease.
+  -- a task that begins with the job needs the snapshot of its lease, which is active.
   pub given_out : (front : ServerState) → front.shards ≡ new → IsOutToTake now front (new_task job)
   given_out server is =
       subst (λ (l : List Shard). IsOutToTake now (record server { shards = l }) (new_task job)) (sym is) (record {
@@ -131,13 +131,13 @@ module _ (s : Seen) (i now : ℕ) (low : i < 8) (old new : List Shard) (a : Shar
             ∙ out_there;
       })
 
-  -- and finds the earlier state of its slot.
+  -- the task finds the state that its slot had before the request.
   pub found_before : slot_in_shards new job.origin.slot ≡ slot_in (shard_at old i) job.origin.slot
   found_before =
       ap (λ (m : ℕ). slot_in (shard_at new m) job.origin.slot) owner
       ∙ ap (λ (x : Shard). slot_in x job.origin.slot) asked_here
 
--- ---- if its slot is empty
+-- ---- if the lease's slot is empty
 
 some_entry : (f : Interest → Emission) (e : Option Entry) → is_missing_by e ≡ true → is_some (option_map f (if is_missing_by e then option_map interest_of e else None)) ≡ true
 some_entry f None missing = absurd (cc missing)
@@ -160,7 +160,7 @@ module _ (k now random : ℕ) (memory : Bool) (readings : List ℕ) (server : Se
   abbrev take : Event
   take = Take k memory readings
 
-  -- its snapshot finds that.
+  -- the snapshot of the lease finds the slot empty.
   taken : transition take inputs ≡ effect_of take inputs (Some (TakesTurn o.turn Missing))
   taken =
       ap (λ (st : Stage). effect_of take inputs (call_at take inputs st)) o.stage
@@ -172,7 +172,7 @@ module _ (k now random : ℕ) (memory : Bool) (readings : List ℕ) (server : Se
   calls_taken : (transition take inputs).calls ≡ MarkMissing o.turn ∷ Advance at ∷ []
   calls_taken = ap (λ (m : Effect). m.calls) taken ∙ (λ j. mark_missing_calls (o.out j) o.turn (none j) ++ Advance at ∷ [])
 
-  -- and it notifies, if it drew a message ID.
+  -- the lease is marked as missing after its snapshot, so it notifies if it drew a message ID.
   missed : is_missing o.turn (turn_missed o.turn (list_at_time at w)) ≡ true
   missed = missing_after o.turn (list_at_time at w) o.out
 
@@ -195,12 +195,12 @@ module _ (k now random : ℕ) (memory : Bool) (readings : List ℕ) (server : Se
       ∙ ap (λ (x : ObserverList). is_some (note_at o.turn id (max (shard_at moved (n % 8)).now now) None x)) watched
       ∙ noted id (max (shard_at moved (n % 8)).now now) (omega (arith, time, past))
 
-  -- a lease that needs no message ID then has drawn one.
+  -- if a lease needs no message ID after its draw, it has drawn one.
   pub has_drawn : (free : Option ℕ) (st : Stage) → st ≡ ToTell o.turn (turns.ToDraw None) → needs_id (drew free st) ≡ false → (id : ℕ) × (drew free st ≡ ToTell o.turn (turns.ToNote None id))
   has_drawn None st is has = let needs : needs_id (drew None st) ≡ true = ap (λ (x : Stage). needs_id (drew None x)) is in absurd (cc (needs, has))
   has_drawn (Some id) st is has = (id, ap (drew (Some id)) is)
 
--- a value that isn't none exists.
+-- an option that isn't `None` has a value.
 pub is_there : {A : Type 0} (o : Option A) → (o ≡ None → ⊥) → is_some o ≡ true
 is_there None some = absurd (some refl)
 is_there (Some x) some = refl

@@ -1,4 +1,4 @@
--- Each call as an event: for a job that arrived, for one that never did, and for none.
+-- Each call as an event: for a job that arrived, for a job that never did, and for no job.
 use Rattle.std.proofs.Common.{◌≡◌, ℕ, ◌<◌, ◌≤◌, ◌%◌, arith, max, get_or, List, [], ◌∷◌, ◌++◌, length, set, Bool, true, false, Option, Some, None, refl, sym, ap, ◌∙◌, subst, Bor}
 use Rattle.std.specs.Prelude.{◌==◌, is_some}
 use Rattle.std.proofs.lemmas.List.{append-nil, get_or_default, get_or_past, set-get_or, set_past}
@@ -30,11 +30,11 @@ use Rattle.fc_server.specs.Steps.{DeliveredTo, Done, EmitsAt, IsOfJob, IsSafeIn,
 
 -- ---- a transition that changes no slot
 
--- the shards after it are unchanged.
+-- the shards are unchanged after a transition that changes no slot.
 pub unwritten : (stage : Stage) (n : ℕ) (shards : List Shard) → shards_moved (goes_to stage) n shards ≡ shards
 unwritten stage n shards = ap (λ (x : Shard). set shards (n % 8) x) (same_slot (shard_at shards (n % 8)) n) ∙ set-get_or shards (n % 8) no_shard
 
--- an event that changes no slot and raises no head word
+-- an event that changes no slot and raises no head word has only the effect on its task.
 pub does_quietly : (e : Event) (old new : ServerState) (task later : Task) (st : Stage) → transition e (inputs_in old task) ≡ goes_to st → None ≡ sends e (inputs_in old task) → later ≡ task_moved task (transition e (inputs_in old task)) → new ≡ old → Does e old task new later None
 does_quietly e old new task later st idle silent is same = subst (λ (s : ServerState). Does e old task s later None) (sym same) (record {
   front = refl;
@@ -45,15 +45,15 @@ does_quietly e old new task later st idle silent is same = subst (λ (s : Server
   emits = silent;
 })
 
--- the shard that was read at a place, if it owns the slot.
+-- the shard that was read at a place is the owner of the slot.
 pub owner_read : (shards : List Shard) (n k : ℕ) (found : Shard) → length shards ≡ 8 → k < 8 → k ≡ n % 8 → found ≡ get_or shards k found → found ≡ shard_at shards (n % 8)
 owner_read shards n k found eight lt place is = is ∙ (get_or_default shards k found no_shard (omega (arith, eight, lt)) ∙ ap (shard_at shards) place)
 
--- and is written unchanged.
+-- if the owner of a slot is written unchanged, the shards are unchanged.
 pub owner_same : (shards : List Shard) (k : ℕ) (found now : Shard) → now ≡ found → found ≡ get_or shards k found → set shards k now ≡ shards
 owner_same shards k found now same is = ap (λ (x : Shard). set shards k x) (same ∙ is) ∙ set-get_or shards k found
 
--- a call that changes its job alone, if it is one.
+-- if a call changes its job alone, so does the call under a condition.
 call_idle : (e : Event) (x : Inputs) (c : Call) → effect_of e x (Some c) ≡ goes_to (next_stage c) → (b : Bool) → effect_of e x (call_if b c) ≡ goes_to (effect_of e x (call_if b c)).stage
 call_idle e x c idle true = idle
 call_idle e x c idle false = refl
@@ -86,7 +86,7 @@ draw_idle k now x other = refl
 
 -- ---- a job that arrived
 
--- an event on a job without an effect on the front.
+-- an event on a job, without an effect on the front, has the effect of its task.
 pub does_done : (e : Event) (k : ℕ) → IsOfJob e k → (old new : ServerState) (tasks later : List Task) (was now : Task) (out : Option Emission) → was ≡ task_at tasks k → later ≡ set tasks k now → Does e old was new now out → Done e (with_tasks old tasks) out (with_tasks new later)
 does_done e k (rests, calm, named) old new tasks later was now out at is d =
     let p : Parts = with_tasks old tasks in
@@ -132,7 +132,7 @@ draws_done k now old new tasks later was next same is d =
       safe = subst (λ (m : Effect). AllSafe m.changes) (sym idle) tt;
     }
 
--- an event of this job, with any effect on the front.
+-- an event of job k, with any effect on the front, has the effect of its task.
 pub works_done : (e : Event) (k : ℕ) → names e ≡ Some k → (old new : ServerState) (tasks later : List Task) (was next : Task) (out : Option Emission) → was ≡ task_at tasks k → later ≡ set tasks k next → Works e old was new next out → Done e (with_tasks old tasks) out (with_tasks new later)
 works_done (Answer j now) k named old new tasks later was next out same is d =
     let number : k ≡ j = cc in
@@ -211,6 +211,6 @@ past_works (Answer j now) k w named = record { front = refl; task_is = refl; sha
 past_works (Fresh j now) k w named = (record { front = refl; task_is = refl; shards = refl; words = refl }, refl)
 past_works other k w named = past_does other w
 
--- an event of a job that never arrived.
+-- an event of a job that never arrived has no effect.
 pub past_done : (e : Event) (k : ℕ) (w : ServerState) (tasks : List Task) → names e ≡ Some k → length tasks ≤ k → Done e (with_tasks w tasks) None (with_tasks w tasks)
 past_done e k w tasks named le = works_done e k named w w tasks tasks no_task no_task None (sym (get_or_past tasks k no_task le)) (sym (set_past tasks k no_task le)) (past_works e k w named)

@@ -1,4 +1,4 @@
--- A transition of a job of one slot, for all sixty-four slots.
+-- The transition of a job of one slot, for all sixty-four slots.
 use Rattle.std.proofs.Common.{◌≡◌, ℕ, ◌+◌, ◌*◌, ◌<◌, ◌/◌, ◌%◌, List, length, get_or, set, sym, ap, ◌∙◌, subst, ⊎_elim, arith, length-set}
 use Rattle.std.proofs.lemmas.Bool.{cases_eq}
 use Rattle.std.proofs.lemmas.List.{get_or-set_same, get_or-set_other}
@@ -28,7 +28,7 @@ module _ (shards : List Shard) (are : AreShards shards) (n : ℕ) (lt : n < 64) 
   room : n / 8 < length (shard_at shards (n % 8)).slots
   room = let size = are.size (n % 8) (omega arith) in omega (arith, size)
 
-  -- the observers of the slot after the calls
+  -- the observers of the slot after the calls.
   abbrev called : ObserverList
   called = after_calls m.calls (watch_at (shard_at shards (n % 8)) (n / 8))
 
@@ -41,7 +41,7 @@ module _ (shards : List Shard) (are : AreShards shards) (n : ℕ) (lt : n < 64) 
   pub watch_here : watch_at (shard_at written (n % 8)) (n / 8) ≡ after_calls m.calls (watch_at (shard_at shards (n % 8)) (n / 8))
   watch_here = ap (λ (ws : List ObserverList). get_or ws (n / 8) (no_observers 0 0)) watches_here ∙ get_or-set_same (shard_at shards (n % 8)).watches (n / 8) called (no_observers 0 0) held
 
-  -- those of the other slots are unchanged.
+  -- the observers of the other slots are unchanged.
   pub watch_there : (i k : ℕ) → i < 8 → (8 * k + i ≡ n → ⊥) → watch_at (shard_at written i) k ≡ watch_at (shard_at shards i) k
   watch_there i k low ne = ⊎_elim
       (λ (e : i ≡ n % 8).
@@ -68,11 +68,11 @@ module _ (shards : List Shard) (are : AreShards shards) (n : ℕ) (lt : n < 64) 
         (cases_eq i (n % 8));
   }
 
-  -- the slot that was written
+  -- the slot that was written has the changes.
   pub slot_here : slot_in_shards written n ≡ after_changes (slot_in_shards shards n) m.changes
   slot_here = ap (λ (x : Shard). slot_in x n) at_place ∙ get_or-set_same (shard_at shards (n % 8)).slots (n / 8) _ (new_slot 0) room
 
-  -- another slot, of the same shard or of another
+  -- another slot, of the same shard or of another one, is unchanged.
   pub slot_there : (k : ℕ) → (k ≡ n → ⊥) → slot_in_shards written k ≡ slot_in_shards shards k
   slot_there k ne = ⊎_elim
       (λ (e : k % 8 ≡ n % 8).
@@ -81,7 +81,7 @@ module _ (shards : List Shard) (are : AreShards shards) (n : ℕ) (lt : n < 64) 
       (λ (ne8 : k % 8 ≡ n % 8 → ⊥). ap (λ (x : Shard). slot_in x k) (elsewhere (k % 8) ne8))
       (cases_eq (k % 8) (n % 8))
 
-  -- the shards' times.
+  -- the time of the slot's shard is advanced if the transition passes one.
   pub now_here : (shard_at written (n % 8)).now ≡ handed m.hands (shard_at shards (n % 8)).now
   now_here = ap (λ (x : Shard). x.now) at_place
 

@@ -37,18 +37,18 @@ use Rattle.fc_server.specs.Steps.{DeliveredTo, Done, IsOfJob, IsReached, resent_
 use Rattle.fc_server.proofs.Others.{delivered_done, does_done, draws_done, fired_done, responds_done, shard_done, ticked_done}
 use Rattle.fc_server.proofs.Stepping.{goes_on}
 
--- an event on a task leaves its job
+-- an event leaves the job of its task unchanged.
 pub kept_by : {e : Event} {old new : ServerState} {task later : Task} {out : Option Emission} → Does e old task new later out → later.job ≡ task.job
 kept_by d = ap (λ (t : Task). t.job) d.task_is
 
--- and so does its answer
+-- the answer leaves the job of its task unchanged.
 pub kept_by_answer : {now : ℕ} {old new : ServerState} {task later : Task} {out : Option Emission} → Responds now old task new later out → later.job ≡ task.job
 kept_by_answer d = ap (λ (t : Task). t.job) d.task_is
 
 seam : (rest : List Task) (task : Task) → task_at (rest ++ task ∷ []) (length rest) ≡ task
 seam rest task = get_or-append_seam rest task [] no_task
 
--- a task that a server may run.
+-- a server that agrees with a history may run a task of the history.
 pub at_seen : (s : Seen) (p : Parts) (k : ℕ) (task : Task) → Agrees s p → task_at s.tasks k ≡ task → AtWork (record { front = p.front; shards = p.shards; words = p.words }) task
 at_seen s p k task a is =
     let P : Task → Type 0 = λ t. AtWork (record { front = p.front; shards = p.shards; words = p.words }) t in
@@ -61,7 +61,7 @@ at_seen s p k task a is =
       stage = subst (λ (x : Slot). FitsStage was.job x was.stage) (sym (a.shards.slot was.job.origin.slot low)) (a.sound.stages k);
     })
 
--- and the one with any number, for a state that some history leaves.
+-- a server that some history leaves may run the task with any number.
 pub reached_at_work : (p : Parts) (k : ℕ) → IsReached p → AtWork (record { front = p.front; shards = p.shards; words = p.words }) (task_at p.tasks k)
 reached_at_work p k r = at_seen r.seen p k (task_at p.tasks k) r.agrees (ap (λ (ts : List Task). task_at ts k) (sym r.agrees.tasks))
 
@@ -71,7 +71,7 @@ at_work {h} {s} rest {task} v = at_seen (seen h) (with_tasks s (rest ++ task ∷
 pub begun_on : {h : History} {s : ServerState} (rest : List Task) {task : Task} → Serves h s (rest ++ task ∷ []) → IsBegun s task
 begun_on {h} rest v = record { history = h; rest = rest; serves = v }
 
--- one more event.
+-- one more event continues the history that leaves the server.
 serves_on : (h : History) (e : Event) (old : ServerState) (tasks : List Task) (out : Option Emission) (new : ServerState) (later : List Task) → Done e (with_tasks old tasks) out (with_tasks new later) → Serves h old tasks → Serves (next h e out) new later
 unfolding seen
 serves_on h e old tasks out new later done v =
@@ -145,11 +145,12 @@ module _ (i : ℕ) (low : i < 8) (old new : ServerState) (front : new.front ≡ 
 
 -- ---- a delivery
 
--- the result determines the emission, and the new jobs.
+-- the emission of a delivery with this result.
 abbrev pub sent_by : Delivered → Option Emission
 sent_by (Reply emission) = Some emission
 sent_by other = None
 
+-- the jobs that a delivery with this result makes.
 abbrev pub jobs_by : Delivered → List Job
 jobs_by (Brings job) = job ∷ []
 jobs_by other = []
@@ -186,7 +187,7 @@ handed_jobs (x.Silenced m) f to = refl
 handed_jobs (x.Immediate m asked response) f to = jobs_or (sent (x.Immediate m asked response) f to)
 handed_jobs (x.Refused m answer) f to = jobs_or (sent (x.Refused m answer) f to)
 
--- state after a delivery, by the front's result.
+-- the state after a delivery, by the front's result.
 pub delivered_to : (now : ℕ) (to : Endpoint) (bytes : List ℕ) (old new : ServerState) (tasks : List Task) (d : Delivered) → delivered (advanced old.front now) to bytes ≡ d → new.front ≡ after_delivered (advanced old.front now) to bytes → new.shards ≡ old.shards → new.words ≡ old.words → DeliveredTo now to bytes (with_tasks old tasks) (with_tasks new (tasks ++ map new_task (jobs_by d))) (sent_by d)
 delivered_to now to bytes old new tasks d is front shards words =
     let f = advanced old.front now in
@@ -202,7 +203,7 @@ pub delivered_on : (now : ℕ) (to : Endpoint) (b : Bor (List ℕ)) (old new : S
 delivered_on now to b old new d is front shards words h tasks v =
     serves_on h (Deliver now to b) old tasks (sent_by d) new (tasks ++ map new_task (jobs_by d)) (delivered_done now to b (with_tasks old tasks) (with_tasks new (tasks ++ map new_task (jobs_by d))) (sent_by d) (delivered_to now to b.now old new tasks d is front shards words)) v
 
--- it produces neither a job nor a signal.
+-- the delivery produces neither a job nor a signal.
 abbrev pub IsJobless : Delivered → Type 0
 IsJobless (Brings job) = ⊥
 IsJobless (Signals id reset) = ⊥
@@ -213,13 +214,13 @@ handled_jobless readings h k now to b new out (Brings job) none w = absurd none
 handled_jobless readings h k now to b new out (Signals id reset) none w = absurd none
 handled_jobless readings h k now to b new out other none w = w
 
--- a delivery that produces no job.
+-- a delivery that produces no job and no signal is handled by its event alone.
 pub handled_on : (readings : List ℕ) (now : ℕ) (to : Endpoint) (b : Bor (List ℕ)) (old new : ServerState) (d : Delivered) (out : Option Emission) → IsJobless d → out ≡ sent_by d → delivered (advanced old.front now) to b.now ≡ d → new.front ≡ after_delivered (advanced old.front now) to b.now → new.shards ≡ old.shards → new.words ≡ old.words → Handles readings now to b (delivered (advanced old.front now) to b.now) old new out
 handled_on readings now to b old new d out none emits is front shards words h tasks v =
     let serves = subst (λ (o : Option Emission). Serves (next h (Deliver now to b) o) new (tasks ++ map new_task (jobs_by d))) (sym emits) (delivered_on now to b old new d is front shards words h tasks v) in
     subst (λ (y : Delivered). Handled readings h (length tasks) now to b y new out) (sym is) (handled_jobless readings h (length tasks) now to b new out d none (record { tasks = tasks ++ map new_task (jobs_by d); serves = serves }))
 
--- a delivery that produces a job, which runs.
+-- a delivery that produces a job is handled by its event and the run of the job.
 module _ (now : ℕ) (to : Endpoint) (b : Bor (List ℕ)) (old mid : ServerState) (job : Job) (is : delivered (advanced old.front now) to b.now ≡ Brings job) (front : mid.front ≡ after_delivered (advanced old.front now) to b.now) (shards : mid.shards ≡ old.shards) (words : mid.words ≡ old.words) where
   pub begun_by : IsReachable old → IsBegun mid (new_task job)
   begun_by s = record { history = next s.history (Deliver now to b) None; rest = s.tasks; serves = delivered_on now to b old mid (Brings job) is front shards words s.history s.tasks s.serves }
@@ -229,7 +230,7 @@ module _ (now : ℕ) (to : Endpoint) (b : Bor (List ℕ)) (old mid : ServerState
       subst (λ (y : Delivered). Handled readings h (length tasks) now to b y new out) (sym is)
       (works (next h (Deliver now to b) None) tasks (delivered_on now to b old mid (Brings job) is front shards words h tasks v))
 
--- a delivery that is a signal, which each shard gets.
+-- a delivery that is a signal is handled by its event and one signal for each shard.
 module _ (now : ℕ) (to : Endpoint) (b : Bor (List ℕ)) (old mid : ServerState) (id : ℕ) (reset : Bool) (is : delivered (advanced old.front now) to b.now ≡ Signals id reset) (front : mid.front ≡ after_delivered (advanced old.front now) to b.now) (shards : mid.shards ≡ old.shards) (words : mid.words ≡ old.words) where
   pub reached_by : IsReachable old → IsReachable mid
   reached_by s = record { history = next s.history (Deliver now to b) None; tasks = s.tasks ++ []; serves = delivered_on now to b old mid (Signals id reset) is front shards words s.history s.tasks s.serves }
@@ -239,7 +240,7 @@ module _ (now : ℕ) (to : Endpoint) (b : Bor (List ℕ)) (old mid : ServerState
       subst (λ (y : Delivered). Handled readings h (length tasks) now to b y new None) (sym is)
       (refl, record { tasks = tasks ++ []; serves = signals (next h (Deliver now to b) None) (tasks ++ []) (delivered_on now to b old mid (Signals id reset) is front shards words h tasks v) })
 
--- a server that handled a datagram is in a state that some history leaves.
+-- some history leaves the server after it handled a datagram.
 handled_served : (readings : List ℕ) (h : History) (k now : ℕ) (to : Endpoint) (b : Bor (List ℕ)) (new : ServerState) (out : Option Emission) (d : Delivered) → Handled readings h k now to b d new out → IsReachable new
 handled_served readings h k now to b new out (Brings job) w = record { history = worked readings (first_stage job) job.origin.slot k w.memory now out (next h (Deliver now to b) None); tasks = w.tasks; serves = w.serves }
 handled_served readings h k now to b new out (Signals id reset) w = record { history = signalled_below to id reset 8 (next h (Deliver now to b) None); tasks = w.1.tasks; serves = w.1.serves }
@@ -284,7 +285,7 @@ notified_served readings shard now random old new given out s notifies = asked_s
 
 -- ---- a job that is to be answered
 
--- at a stage that is none of these there is no call before the answer.
+-- at a stage without a call of its own, a job only has its answer.
 pub worked_at_once : (readings : List ℕ) (step : Step) (f : SlotSnapshot) (seen : ArrayVec ℕ) (content : Content) (slot k : ℕ) (memory : Bool)
     (now : ℕ) (out : Option Emission) (h : History) → step ≢ steps.ToMatch → ((count : ℕ) → step ≢ steps.ToTake count) → step ≢ steps.ToInstall
     → step ≢ steps.ToRemove → step ≢ steps.ToDescribe → step ≢ steps.ToList

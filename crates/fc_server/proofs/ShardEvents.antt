@@ -20,11 +20,11 @@ use Rattle.fc_core.proofs.Places.{place_below}
 use Rattle.fc_server.specs.Agreement.{ShardsAgree}
 use Rattle.fc_server.specs.Steps.{resent_by, resent_if, shard_asked, shard_by, shard_changed, shard_resent, shard_ticked, shard_turn, turn_if, turns_at}
 
--- the shards of the history after it.
+-- the summary of the history after the event's effect on its own shard.
 abbrev pub shard_seen : AtShard → Seen → Seen
 shard_seen y s = record s { shard_time = λ i. handed (hands_by y i) (s.shard_time i); calls = λ n. calls_by y s n ++ s.calls n }
 
--- if it passes no shard a time, and calls nothing, they are unchanged.
+-- if an event passes no time to a shard and calls no observers, the shards still agree.
 rest_agrees : (y : AtShard) (s : Seen) (shards : List Shard) → ((i : ℕ) → i < 8 → hands_by y i ≡ None) → ((n : ℕ) → calls_by y s n ≡ []) → ShardsAgree s shards → ShardsAgree (shard_seen y s) shards
 rest_agrees y s shards hands calls a = record {
   are = a.are;
@@ -45,7 +45,7 @@ module _ (shards : List Shard) (are : AreShards shards) (i : ℕ) (low : i < 8) 
   elsewhere : (j : ℕ) → (j ≡ i → ⊥) → shard_at put j ≡ shard_at shards j
   elsewhere j ne = get_or-set_other shards i j x no_shard ne
 
-  -- a part that is unchanged.
+  -- a part of each shard that is the same in the new shard is unchanged.
   kept : {A : Type 0} (f : Shard → A) → f x ≡ f (shard_at shards i) → (j : ℕ) → f (shard_at put j) ≡ f (shard_at shards j)
   kept f same j = ⊎_elim
       (λ (e : j ≡ i). subst (λ (m : ℕ). f (shard_at put m) ≡ f (shard_at shards m)) (sym e) (ap f at_place ∙ same))
@@ -60,7 +60,7 @@ module _ (shards : List Shard) (are : AreShards shards) (i : ℕ) (low : i < 8) 
     watched = λ j lt. kept (λ (y : Shard). length y.watches) (eight ∙ sym (are.watched i low)) j ∙ are.watched j lt;
   }
 
-  -- the agreement, if the rest is that of the event.
+  -- if the new shard has the event's time and calls, the shards agree with the history after it.
   put_agrees : (s : Seen) (y : AtShard) → ShardsAgree s shards → x.index ≡ (shard_at shards i).index → x.slots ≡ (shard_at shards i).slots → length x.watches ≡ 8 →
       x.now ≡ handed (hands_by y i) (s.shard_time i) → ((j : ℕ) → (j ≡ i → ⊥) → hands_by y j ≡ None) →
       ((k : ℕ) → k < 8 → watch_at x k ≡ observers (8 * k + i) s.policy.confirm_after (calls_by y s (8 * k + i) ++ s.calls (8 * k + i))) → ((j k : ℕ) → j < 8 → k < 8 → (j ≡ i → ⊥) → calls_by y s (8 * k + j) ≡ []) →
@@ -80,11 +80,11 @@ module _ (shards : List Shard) (are : AreShards shards) (i : ℕ) (low : i < 8) 
 
 -- ---- a signal
 
--- a signal is for the slots of its shard
+-- a signal calls the observers of the slots of its shard.
 for_shard : (i n : ℕ) (c : ObserverCall) (b : Bool) → ((n % 8) == i) ≡ b → (if (n % 8) == i then c ∷ [] else []) ≡ (if b then c ∷ [] else [])
 for_shard i n c b is = ap (λ (d : Bool). if d then c ∷ [] else []) is
 
--- a signal at a place
+-- the observers at a place after a signal.
 signalled_here : (c : ObserverCall) (x : Shard) (n confirm_after k : ℕ) (h : List ObserverCall) → length x.watches ≡ 8 → k < 8 → watch_at x k ≡ observers n confirm_after h → watch_at (signalled c x) k ≡ observers n confirm_after (c ∷ h)
 signalled_here c x n confirm_after k h eight lt is = get_or-map (observers_after c) x.watches k (no_observers 0 0) (no_observers 0 0) (omega (arith, eight, lt)) ∙ ap (observers_after c) is
 
@@ -105,7 +105,7 @@ signal_agrees s i to id reset shards a =
 
 -- ---- a tick
 
--- two searches that agree
+-- two searches find the same place if their tests agree.
 place_same : (p q : ℕ → Bool) (n k : ℕ) → ((j : ℕ) → j < k + n → p j ≡ q j) → place_from p n k ≡ place_from q n k
 place_same p q zero k same = refl
 place_same p q (suc n) k same = λ i. if same k (omega arith) i then Some k else place_same p q n (k + 1) (λ j lt. same j (omega (arith, lt))) i
@@ -120,7 +120,7 @@ module _ (s : Seen) (i now : ℕ) (low : i < 8) (shards : List Shard) (a : Shard
   at_is : here.now ≡ at
   at_is = ap (λ (m : ℕ). max m now) (a.now i low)
 
-  -- the notification that has timed out at the shard is that of the history.
+  -- the place of the notification that has timed out is that of the history.
   overdue_is : overdue_place here ≡ overdue_in s i at
   unfolding overdue_in
   overdue_is = place_same (is_overdue_here here) (is_overdue_at s i at) 8 0 (λ k lt. λ j. is_some (overdue_entry (list_at_time (at_is j) (a.watch i k low lt j)))) ∙ ap (λ (b : Bool). if b then place_from (is_overdue_at s i at) 8 0 else None) (sym (lt-ltb i 8 low))
@@ -128,16 +128,16 @@ module _ (s : Seen) (i now : ℕ) (low : i < 8) (shards : List Shard) (a : Shard
   overdue_below : (k : ℕ) → overdue_place here ≡ Some k → k < 8
   overdue_below k e = place_below (is_overdue_here here) 8 0 k e
 
-  -- the retransmission.
+  -- the retransmission of the tick is that of the history.
   resent_is : (p : Option ℕ) → ((k : ℕ) → p ≡ Some k → k < 8) → resent (ticked_in p here) ≡ resent_at p s i at
   resent_is None below = refl
   resent_is (Some k) below = λ j. resent (ticked (list_at_time (at_is j) (a.watch i k low (below k refl) j)))
 
-  -- the calls of a tick at a place
+  -- the calls of a tick on the observers at a place.
   abbrev tick_calls : Bool → List ObserverCall
   tick_calls b = if b then TickObservers at ∷ [] else []
 
-  -- the observers at a place after it
+  -- the observers at a place after the tick.
   ticked_here : (p : Option ℕ) (k : ℕ) → k < 8 → watch_at (shard_after_tick p here) k ≡ observers (8 * k + i) s.policy.confirm_after (tick_calls (is_place_of p i (8 * k + i)) ++ s.calls (8 * k + i))
   ticked_here None k lt = a.watch i k low lt
   ticked_here (Some j) k lt =
@@ -150,7 +150,7 @@ module _ (s : Seen) (i now : ℕ) (low : i < 8) (shards : List Shard) (a : Shard
       get_or-set_other here.watches j k (observers_after (TickObservers here.now) (watch_at here j)) (no_observers 0 0) ne ∙ (a.watch i k low lt ∙ ap (λ (b : Bool). observers (8 * k + i) s.policy.confirm_after (tick_calls b ++ s.calls (8 * k + i))) (sym (ne_eqb (8 * j + i) (8 * k + i) (λ q. ne (omega (arith, q)))))))
       (cases_eq k j)
 
-  -- it has no slot of another shard.
+  -- a tick calls no observers of another shard.
   elsewhere_none : (p : Option ℕ) (j k : ℕ) → j < 8 → (j ≡ i → ⊥) → tick_calls (is_place_of p i (8 * k + j)) ≡ []
   elsewhere_none None j k jl ne = refl
   elsewhere_none (Some m) j k jl ne = ap tick_calls (ne_eqb (8 * m + i) (8 * k + j) (λ q. ne (omega (arith, q, jl, low))))
@@ -189,7 +189,7 @@ none_overdue : (s : Seen) (i at : ℕ) → 8 ≤ i → overdue_in s i at ≡ Non
 unfolding overdue_in
 none_overdue s i at high = ap (λ (b : Bool). if b then place_from (is_overdue_at s i at) 8 0 else None) (le-ltb i 8 high)
 
--- effect of a tick on the shards, and its emission.
+-- the effect of a tick on the shards, and its emission, are those of the history.
 record TicksAt (s : Seen) (i now : ℕ) (shards : List Shard) (b : Bool) : Type 0 where
   sends : resent_if b (shard_resent now (shard_at shards i)) ≡ resent_at (overdue_in s i (max (s.shard_time i) now)) s i (max (s.shard_time i) now)
   agrees : ShardsAgree (shard_seen (Ticks i now) s) (shard_changed b i (shard_ticked now) shards)
@@ -225,14 +225,14 @@ module _ (s : Seen) (i now : ℕ) (low : i < 8) (shards : List Shard) (a : Shard
   then_is : asked.now ≡ then_at
   then_is = ap (λ (m : ℕ). max m now) (a.now i low)
 
-  -- the last noticed serial at a place is that of the history.
+  -- the notify serial at a place is that of the history.
   noticed_is : (k : ℕ) → k < 8 → noticed_at asked k ≡ (slot_at s (8 * k + i)).notify_serial
   noticed_is k lt =
       let shard : (8 * k + i) % 8 ≡ i = omega (arith, low) in
       let place : (8 * k + i) / 8 ≡ k = omega (arith, low) in
       (λ j. (get_or (shard_at shards (sym shard j)).slots (sym place j) (new_slot 0)).notify_serial) ∙ ap (λ (x : Slot). x.notify_serial) (a.slot (8 * k + i) (omega (arith, low, lt)))
 
-  -- the observer with a pending notification at the shard is that of the history.
+  -- the place of the observer with a pending notification is that of the history.
   due_is : due_place asked ≡ due_in s i then_at
   unfolding due_in
   due_is = place_same (is_due_here asked) (is_due_at s i then_at) 8 0 (λ k lt. λ j. is_some (next_turn (noticed_is k lt j) (list_at_time (then_is j) (a.watch i k low lt j)))) ∙ ap (λ (b : Bool). if b then place_from (is_due_at s i then_at) 8 0 else None) (sym (lt-ltb i 8 low))
@@ -243,16 +243,16 @@ module _ (s : Seen) (i now : ℕ) (low : i < 8) (shards : List Shard) (a : Shard
   index_is : asked.index ≡ i
   index_is = a.are.index i low
 
-  -- the new job.
+  -- the job of the lease is that of the history.
   job_is : (p : Option ℕ) → ((k : ℕ) → p ≡ Some k → k < 8) → due_job p asked ≡ turn_at p s i then_at
   job_is None below = refl
   job_is (Some k) below = λ j. turn_given_to (8 * k + index_is j) (then_is j) (noticed_is k (below k refl) j) (a.watch i k low (below k refl) j)
 
-  -- the calls of a lease at a place.
+  -- the calls of a lease on the observers at a place.
   abbrev turn_calls : Bool → ℕ → List ObserverCall
   turn_calls b n = if b then NextDue then_at (slot_at s n).notify_serial ∷ [] else []
 
-  -- the observers at a place after it
+  -- the observers at a place after the lease was granted.
   given_here : (p : Option ℕ) (k : ℕ) → k < 8 → watch_at (after_due p asked) k ≡ observers (8 * k + i) s.policy.confirm_after (turn_calls (is_place_of p i (8 * k + i)) (8 * k + i) ++ s.calls (8 * k + i))
   given_here None k lt = a.watch i k low lt
   given_here (Some j) k lt =
@@ -297,7 +297,7 @@ none_due : (s : Seen) (i at : ℕ) → 8 ≤ i → due_in s i at ≡ None
 unfolding due_in
 none_due s i at high = ap (λ (b : Bool). if b then place_from (is_due_at s i at) 8 0 else None) (le-ltb i 8 high)
 
--- effect of a request for a lease on the shards, and its job.
+-- the effect of a request for a lease on the shards, and its job, are those of the history.
 record TurnAt (s : Seen) (i now : ℕ) (shards : List Shard) (b : Bool) : Type 0 where
   brings : turn_if b (shard_turn now (shard_at shards i)) ≡ turn_at (due_in s i (max (s.shard_time i) now)) s i (max (s.shard_time i) now)
   agrees : ShardsAgree (shard_seen (AsksTurn i now) s) (shard_changed b i (shard_asked now) shards)

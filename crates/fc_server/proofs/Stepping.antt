@@ -1,5 +1,5 @@
--- Each event keeps the agreement: by its effect on the front, on the job that it names, and on its
--- own shard.
+-- Each event keeps the agreement of a server with its history. There are three parts: the event's
+-- effect on the front, on the job that it names, and on its own shard.
 use Rattle.std.proofs.Common.{◌≡◌, ℕ, ◌+◌, ◌*◌, ◌/◌, ◌<◌, ◌%◌, arith, List, [], ◌++◌, length, map, set, Bool, true, false, Option, Some, None, refl, sym, ap, ◌∙◌, subst, ⊎_elim, if◌then◌else◌, max}
 use Rattle.std.specs.Prelude.{filter, is_some, ◌==◌}
 use Rattle.std.proofs.lemmas.Bool.{cases_eq, eq-eqb, ne_eqb}
@@ -57,7 +57,7 @@ takes_mean other s a f = tt
 
 -- ---- the front
 
--- the front of the history after an event's effect on it.
+-- the front of the history's summary after an event's effect on it.
 abbrev front_seen : AtFront → Option Emission → Seen → FrontState
 front_seen x out s = record { managers = s.policy.managers; limits = s.policy.limits; now = time_by x s; opened = length (exchanges_by x out s); held = filter (is_held (time_by x s)) (exchanges_by x out s); transfers = transfers (additions_by x s ++ s.additions); ids = ids_by x s }
 
@@ -74,7 +74,7 @@ front_received s now to bytes out e =
     ∙ (front_keeps s.policy at n (kept_of x (sent x (front_at s now) to)) all ts ids
     ∙ λ i. front_of s.policy at (answered_in n (kept_of x (sym e i)) all) (sym (transfers_added new s.additions) i) ids)
 
--- by the content of the answer, if there is one
+-- the front after an answer is that of the history, for a job with an answer or without one.
 front_answered : (s : Seen) (now : ℕ) (j : Job) (out : Option Emission) (live : Bool) (c : Option Content) → opening_is_live (max s.time now) j.origin.opening ≡ live → AnswerEmits c j (front_at s now) out →
     front_after c j out (front_in s s.time) now
     ≡ front_of s.policy (if is_some c then max s.time now else s.time) (if is_some c then answered_in j.origin.opening.number out s.exchanges else s.exchanges) (transfers s.additions) (ids_answered c live j.confirmable s.ids (max s.time now))
@@ -104,7 +104,7 @@ state_seen s shards = record { front = front_in s s.time; shards = shards; words
 -- ---- the named job
 
 module _ (s : Seen) (e : Event) (shards : List Shard) (a : ShardsAgree s shards) (sound : IsSoundlySeen s) where
-  -- the shards of the history after it.
+  -- the summary of the history after the event's effects on the shards.
   abbrev shards_seen : Option ℕ → AtShard → Seen
   shards_seen o y = record s { changes = λ n. changes_after o e s n; shard_time = λ i. handed (hands_by y i) (shard_time_after o e s i); calls = λ n. calls_named o e s n ++ (calls_by y s n ++ s.calls n) }
 
@@ -124,7 +124,7 @@ module _ (s : Seen) (e : Event) (shards : List Shard) (a : ShardsAgree s shards)
         let number : 8 * (n / 8) + n % 8 ≡ n = omega arith in
         a.watch (n % 8) (n / 8) (omega arith) (omega (arith, low)) ∙ ap (watch s) number
 
-    -- the server's inputs of the task are those of the history.
+    -- the inputs of the task at the server are those of the history.
     inputs_is : inputs_in (server_in (state_seen s shards)) (task_at s.tasks k) ≡ inputs s k
     inputs_is = λ i. inputs_at (task_at s.tasks k) (a.slot n low i) (record { common = common s; time = a.now (n % 8) (omega arith) i; watch = watch_is i })
 
@@ -143,7 +143,7 @@ module _ (s : Seen) (e : Event) (shards : List Shard) (a : ShardsAgree s shards)
     slot_place : after_changes (after_changes (new_slot s.first_serial) (s.changes n)) m.changes ≡ after_changes (new_slot s.first_serial) (changes_after (Some k) e s n)
     slot_place = sym (after_changes-append (new_slot s.first_serial) m.changes (s.changes n)) ∙ ap (after_changes (new_slot s.first_serial)) (sym (changes_if n true (eq-eqb n n refl)))
 
-    -- the observers of the job's slot, and of another
+    -- the observers of the job's slot after the event are those of the history.
     watch_own : (i p : ℕ) → i < 8 → 8 * p + i ≡ n → watch_at (shard_at (shards_moved m n shards) i) p ≡ observers (8 * p + i) s.policy.confirm_after (calls_named (Some k) e s (8 * p + i) ++ s.calls (8 * p + i))
     watch_own i p il q =
         let shard : i ≡ n % 8 = omega (arith, il, q) in
@@ -155,6 +155,7 @@ module _ (s : Seen) (e : Event) (shards : List Shard) (a : ShardsAgree s shards)
         ∙ (sym (after_append n s.policy.confirm_after m.calls (s.calls n)) ∙ ap (λ (cs : List ObserverCall). observers n s.policy.confirm_after (cs ++ s.calls n)) (sym (calls_if n true (eq-eqb n n refl)))))) in
         subst (λ (j : ℕ). watch_at (shard_at (shards_moved m n shards) i) p ≡ observers j s.policy.confirm_after (calls_named (Some k) e s j ++ s.calls j)) (sym q) here
 
+    -- the observers of another slot after the event are those of the history.
     watch_other : (i p : ℕ) → i < 8 → p < 8 → (8 * p + i ≡ n → ⊥) → watch_at (shard_at (shards_moved m n shards) i) p ≡ observers (8 * p + i) s.policy.confirm_after (calls_named (Some k) e s (8 * p + i) ++ s.calls (8 * p + i))
     watch_other i p il pl ne = watch_there shards a.are n low m i p il ne ∙ (a.watch i p il pl ∙ ap (λ (cs : List ObserverCall). observers (8 * p + i) s.policy.confirm_after (cs ++ s.calls (8 * p + i))) (sym (calls_if (8 * p + i) false (ne_eqb n (8 * p + i) (λ q. ne (sym q))))))
 
@@ -189,7 +190,7 @@ module _ (s : Seen) (e : Event) (shards : List Shard) (a : ShardsAgree s shards)
   safe_agree None safe = tt
   safe_agree (Some k) safe = subst (λ (m : Effect). AllSafe m.changes) (effect_is k) safe
 
-  -- an event is of a job, or of no job and possibly of a shard.
+  -- an event that names no job keeps the agreement of the shards, by its effect on its own shard.
   unnamed_agrees : (y : AtShard) → ShardsAgree (shards_seen None y) (shard_by y shards)
   unnamed_agrees y = let w = shard_agrees y s shards a in record { are = w.are; slot = w.slot; now = w.now; watch = w.watch }
 
@@ -199,7 +200,7 @@ module _ (s : Seen) (e : Event) (shards : List Shard) (a : ShardsAgree s shards)
       let calm = subst (λ (y : AtShard). ShardsAgree (shards_seen (Some k) y) (shard_by y (shards_in (Some k) e (state_seen s shards)))) (sym (named_calm e k is)) (job_agrees k) in
       subst (λ (o : Option ℕ). ShardsAgree (shards_seen o (at_shard e)) (shard_by (at_shard e) (shards_in o e (state_seen s shards)))) (sym is) calm
 
--- ---- its emission, and the front
+-- ---- the emission of an event, and the front
 
 module _ (s : Seen) (shards : List Shard) (a : ShardsAgree s shards) (sound : IsSoundlySeen s) (out : Option Emission) where
   sends_agree : (o : Option ℕ) (e : Event) → sends_at o e (state_seen s shards) ≡ sends_in o e s

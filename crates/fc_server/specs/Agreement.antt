@@ -1,5 +1,5 @@
--- Relation between a history and the state of a server with its jobs. A public clause that holds
--- for every history of a server's state cites this relation: `Serving.Serves`.
+-- The relation between a history and the state of a server with its jobs. A public clause about
+-- every history of a server's state cites this relation by `Serving.Serves`.
 use Rattle.std.specs.Prelude.{◌≡◌, ℕ, ◌+◌, ◌*◌, ◌<◌, List}
 use Rattle.fc_registry.specs.Shards.{AreShards, shard_at, slot_in_shards}
 use Rattle.fc_registry.specs.Slots.{Shard}
@@ -9,24 +9,24 @@ use Rattle.fc_core.specs.Exchanges.{FrontState}
 use Rattle.fc_core.specs.History.{Seen, front_in, slot_at, watch}
 use Rattle.fc_core.specs.Sound.{IsSafelySeen, IsSoundlySeen}
 
--- a state by its parts: the front, the shards, the head words, and the jobs in order of arrival
--- with their stages.
+-- the parts of a state: the front, the shards, the head words, and the jobs with their stages, in
+-- order of arrival.
 pub record Parts : Type 0 where
   pub front : FrontState
   pub shards : List Shard
   pub words : List ℕ
   pub tasks : List Task
 
--- each slot, each shard's time, and the observers at each place are those of the history: place k
--- of shard i belongs to slot 8 k + i.
+-- each slot, the time of each shard, and the observers at each place are those of the history.
+-- Place k of shard i belongs to slot 8 k + i.
 pub record ShardsAgree (s : Seen) (shards : List Shard) : Type 0 where
   pub are : AreShards shards
   pub slot : (n : ℕ) → n < 64 → slot_in_shards shards n ≡ slot_at s n
   pub now : (i : ℕ) → i < 8 → (shard_at shards i).now ≡ s.shard_time i
   pub watch : (i k : ℕ) → i < 8 → k < 8 → watch_at (shard_at shards i) k ≡ watch s (8 * k + i)
 
--- the front has the live exchanges with their answers; each head word is the greatest one raised;
--- each job is at its stage.
+-- the front has the live exchanges with their answers. Each head word is the greatest one that was
+-- raised. Each job is at its stage in the history.
 pub record Agrees (s : Seen) (p : Parts) : Type 0 where
   pub front : p.front ≡ front_in s s.time
   pub tasks : p.tasks ≡ s.tasks

@@ -1,4 +1,4 @@
--- Effects and results of the calls of a server that handles datagrams.
+-- The effects and results of the calls of a server that handles datagrams.
 use Rattle.std.specs.Prelude.{ℕ, List, Bool, true, false}
 use Rattle.std.specs.Borrow.{Bor}
 use Rattle.coap_msg.specs.declared.types.Emission.{Emission}
@@ -8,15 +8,15 @@ use Rattle.fc_core.specs.declared.front.Handled.TheVariants.{Reply}
 use Rattle.fc_observe.specs.declared.observers.Ticked.{Ticked}
 use Rattle.fc_server.specs.Notified.{Notified}
 
--- whether the written datagram is to be sent.
+-- whether the datagram that was written is to be sent.
 abbrev pub is_reply : Handled → Bool
 is_reply Reply = true
 is_reply other = false
 
--- effects and results of the calls of an ingress.
+-- the effects and results of the calls of an ingress.
 pub record IngressCalls (S : Type 0) : Type 1 where
-  -- a datagram with these bytes was received from an endpoint at this time: its classification, and
-  -- the response that was written.
+  -- a datagram with these bytes was received from an endpoint at this time. The last arguments are
+  -- the result, and the response that was written.
   pub handles : ℕ → Endpoint → Bor (List ℕ) → S → S → Handled → Emission → Type 0
   -- time passed until this time.
   pub passes : ℕ → S → S → Type 0

@@ -5,8 +5,8 @@ use Rattle.fc_core.specs.declared.front.Delivered.{Delivered}
 use Rattle.fc_core.specs.declared.front.Delivered.TheVariants.{Job as Brings}
 use Rattle.fc_registry.specs.declared.job.Job.{Job}
 
--- the job of a delivery was shown once, with the response to send for it, if there is one; any other
--- delivery shows nothing.
+-- the job of a delivery was shown once, with the response to send for it, if there is one. A
+-- delivery without a job shows nothing.
 abbrev pub IsShown : {W : Type 0} → (Job → Option Emission → W → W → Type 0) → Delivered → Option Emission → W → W → Type 0
 IsShown Shown (Brings job) sent old new = Shown job sent old new
 IsShown Shown other sent old new = new ≡ old

@@ -1,4 +1,4 @@
--- Effects of the calls of a server on one thread, with the input for its jobs. A call takes the
+-- The effects of the calls of a server on one thread, with the input for its jobs. A call takes the
 -- number of a shard modulo 8.
 use Rattle.std.specs.Prelude.{◌≡◌, ◌%◌, ℕ, true, List, None, max}
 use Rattle.std.specs.Borrow.{Bor}
@@ -33,7 +33,8 @@ abbrev pub PassesOverAlone : ℕ → ℕ → SingleThread → SingleThread → T
 PassesOverAlone shard now old new =
     (is_idle (at_time (shard_at old.engine.shards (shard % 8)) now) ≡ true) × TicksShard (shard % 8) now old.engine new.engine None × (new.handed ≡ old.handed)
 
--- a lease is starved only if no message ID is available.
+-- a shard was asked for a lease, with the server's input. The lease is starved only if no message
+-- ID is available.
 abbrev pub NotifiesAlone : ℕ → ℕ → SingleThread → SingleThread → Notified → Type 0
 NotifiesAlone shard now old new told =
     AsksForTurn old.handed.readings (shard % 8) now old.handed.random old.engine new.engine (is_given told) (notification_in told) × (new.handed ≡ old.handed)

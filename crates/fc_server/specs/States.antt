@@ -1,4 +1,4 @@
--- State of a server, and the effect of an event on it and on a task.
+-- The state of a server, and the effect of an event on the server and on a task.
 use Rattle.std.specs.Prelude.{◌≡◌, ℕ, ◌%◌, ◌<◌, ◌≤◌, Bool, true, false, List, Option, Some, None, length, max}
 use Rattle.coap_msg.specs.declared.types.Emission.{Emission}
 use Rattle.fc_registry.specs.declared.job.Job.{Job}
@@ -18,25 +18,25 @@ use Rattle.fc_core.specs.Sound.{AllSafe}
 use Rattle.fc_core.specs.Stages.{content_at, drew, ended, needs_id}
 use Rattle.fc_core.specs.Transitions.{Common, Effect, Inputs, goes_to, task_moved, transition, inputs_of, sends, shard_moved, words_after}
 
--- a valid initial state: slots may begin with its serial.
+-- a valid initial state: its serial is at most the last one.
 pub record CanBegin (b : Begin) : Type 0 where
   pub serial : b.serial ≤ last_serial
 
--- the history of a server with this initial state.
+-- the history of a server that begins in this state.
 abbrev pub begin_of : Begin → History
 begin_of b = Begins b.serial b.id b.policy
 
--- the front, the shards, and the head words of their slots.
+-- the state of a server: its front, its shards, and the head words of their slots.
 pub record ServerState : Type 0 where
   pub front : FrontState
   pub shards : List Shard
   pub words : List ℕ
 
--- inputs shared by the jobs of all slots.
+-- the inputs that the jobs of all slots share.
 abbrev pub common_in : FrontState → List ℕ → Common
 common_in f words = record { words = words; free = λ now. free_id f.ids (max f.now now) }
 
--- inputs of a task's transition.
+-- the inputs of a task's transition at a server.
 abbrev pub inputs_in : ServerState → Task → Inputs
 inputs_in s task = inputs_of (shard_at s.shards (task.job.origin.slot % 8)) (common_in s.front s.words) task
 
@@ -44,15 +44,15 @@ inputs_in s task = inputs_of (shard_at s.shards (task.job.origin.slot % 8)) (com
 abbrev pub shards_moved : Effect → ℕ → List Shard → List Shard
 shards_moved m n shards = with_owner shards n (shard_moved m n (shard_at shards (n % 8)))
 
--- a task that this server may run.
+-- the server may run this task.
 pub record AtWork (s : ServerState) (task : Task) : Type 0 where
   pub count : length s.shards ≡ 8
   pub index : (n : ℕ) → n < 8 → (shard_at s.shards n).index ≡ n
   pub slot : task.job.origin.slot < 64
   pub stage : FitsStage task.job (slot_in_shards s.shards task.job.origin.slot) task.stage
 
--- effect of an event on a task, with its emission: the task, its slot and the slot's head word
--- change by the event's transition; an installed program is safe.
+-- the effect of an event on a task, with its emission. The task, its slot and the slot's head word
+-- change by the event's transition. A program that is installed is safe.
 pub record Does (e : Event) (old : ServerState) (task : Task) (new : ServerState) (next : Task) (emitted : Option Emission) : Type 0 where
   pub front : new.front ≡ old.front
   pub task_is : next ≡ task_moved task (transition e (inputs_in old task))
@@ -61,25 +61,25 @@ pub record Does (e : Event) (old : ServerState) (task : Task) (new : ServerState
   pub safe : AllSafe (transition e (inputs_in old task)).changes
   pub emits : emitted ≡ sends e (inputs_in old task)
 
--- the front after an answer with this content that sent this datagram; without a content the front
--- is unchanged.
+-- the front after a task was answered with this content and this emission. Without a content the
+-- front is unchanged.
 abbrev pub front_after : Option Content → Job → Option Emission → FrontState → ℕ → FrontState
 front_after None job emitted f now = f
 front_after (Some content) job emitted f now = after_answered job emitted (advanced f now)
 
--- the front after a task drew a message ID, if it needed one.
+-- the front after a task drew a message ID, if the flag says that the task needed one.
 abbrev pub front_drawn : Bool → FrontState → ℕ → FrontState
 front_drawn true f now = record (advanced f now) { ids = drawn f.ids (max f.now now) }
 front_drawn false f now = f
 
--- a task's draw of a message ID.
+-- a task drew a message ID at this time.
 pub record DrawsId (now : ℕ) (old : ServerState) (task : Task) (new : ServerState) (next : Task) : Type 0 where
   pub front : new.front ≡ front_drawn (needs_id task.stage) old.front now
   pub task_is : next ≡ task_moved task (goes_to (drew (free_id old.front.ids (max old.front.now now)) task.stage))
   pub shards : new.shards ≡ old.shards
   pub words : new.words ≡ old.words
 
--- a task's answer.
+-- a task was answered at this time, with this emission.
 pub record Responds (now : ℕ) (old : ServerState) (task : Task) (new : ServerState) (next : Task) (emitted : Option Emission) : Type 0 where
   pub front : new.front ≡ front_after (content_at task.stage) task.job emitted old.front now
   pub task_is : next ≡ task_moved task (goes_to (ended task.stage))
@@ -87,8 +87,8 @@ pub record Responds (now : ℕ) (old : ServerState) (task : Task) (new : ServerS
   pub words : new.words ≡ old.words
   pub emits : AnswerEmits (content_at task.stage) task.job (advanced old.front now) emitted
 
--- effect of an event on the task of its job, by its effect on the front: it answers the task, draws
--- a message ID for it, or has no effect there.
+-- the effect of an event on the task of its job, by the event's effect on the front. The event
+-- answers the task, draws a message ID for it, or has no effect on the front.
 abbrev pub WorksAt : AtFront → Event → ServerState → Task → ServerState → Task → Option Emission → Type 0
 WorksAt (Answers k now) e old task new next emitted = Responds now old task new next emitted
 WorksAt (Draws k now) e old task new next emitted = DrawsId now old task new next × (emitted ≡ None)

@@ -1,4 +1,5 @@
--- Effect of an event on a server and its jobs, and its agreement with the history.
+-- The effect of an event on a server and its jobs, and how the server stays in agreement with the
+-- history.
 use Rattle.std.specs.Prelude.{◌≡◌, ℕ, Bool, true, false, nat_lt, List, [], ◌∷◌, ◌++◌, map, Option, Some, None, slice_set}
 use Rattle.std.specs.Option.{option_to_list}
 use Rattle.coap_msg.specs.declared.types.Endpoint.{Endpoint}
@@ -37,9 +38,9 @@ brought_by (Receives now to bytes) p = map new_task (brought (received (advanced
 brought_by (Fires slot now) p = new_task (timer_job slot) ∷ []
 brought_by other p = []
 
--- ---- by the job that it names
+-- ---- by the job that an event names
 
--- the server among the parts.
+-- the server of these parts.
 abbrev pub server_in : Parts → ServerState
 server_in p = record { front = p.front; shards = p.shards; words = p.words }
 
@@ -68,20 +69,23 @@ abbrev pub shard_changed : Bool → ℕ → (Shard → Shard) → List Shard →
 shard_changed true i f shards = slice_set shards i (f (shard_at shards i))
 shard_changed false i f shards = shards
 
--- a shard after a tick, the tick's result, and its retransmission.
+-- a shard after a tick at this time.
 abbrev pub shard_ticked : ℕ → Shard → Shard
 shard_ticked now shard = shard_after_tick (overdue_place (at_time shard now)) (at_time shard now)
 
+-- the result of a tick at this time.
 abbrev pub shard_told : ℕ → Shard → Ticked
 shard_told now shard = ticked_in (overdue_place (at_time shard now)) (at_time shard now)
 
+-- the retransmission of a tick at this time, if any.
 abbrev pub shard_resent : ℕ → Shard → Option Emission
 shard_resent now shard = resent (shard_told now shard)
 
--- a shard after a request for a lease, and the job of the lease.
+-- a shard after a request for a lease at this time.
 abbrev pub shard_asked : ℕ → Shard → Shard
 shard_asked now shard = after_due (due_place (at_time shard now)) (at_time shard now)
 
+-- the job of the lease that a shard grants at this time, if any.
 abbrev pub shard_turn : ℕ → Shard → Option Job
 shard_turn now shard = due_job (due_place (at_time shard now)) (at_time shard now)
 
@@ -99,7 +103,7 @@ shard_by (Signals i to id reset) shards = shard_changed (nat_lt i 8) i (signalle
 shard_by (Ticks i now) shards = shard_changed (nat_lt i 8) i (shard_ticked now) shards
 shard_by Calm shards = shards
 
--- jobs that an event produces at its own shard.
+-- the jobs that an event makes at its own shard.
 abbrev pub turns_at : AtShard → List Shard → List Task
 turns_at (AsksTurn i now) shards = map new_task (option_to_list (turn_if (nat_lt i 8) (shard_turn now (shard_at shards i))))
 turns_at other shards = []
@@ -124,7 +128,8 @@ EmitsAt Rests e p emitted = emitted ≡ sends_at (names e) e p
 
 -- ---- an event
 
--- effect of an event on the front, the jobs, the shards and the head words, and its emission.
+-- the effect of an event on the front, the jobs, the shards and the head words, with the event's
+-- emission.
 pub record Done (e : Event) (old : Parts) (emitted : Option Emission) (new : Parts) : Type 0 where
   pub front : new.front ≡ front_by (at_front e) old emitted
   pub tasks : new.tasks ≡ tasks_in (names e) e old ++ (turns_at (at_shard e) old.shards ++ brought_by (at_front e) old)
@@ -133,12 +138,12 @@ pub record Done (e : Event) (old : Parts) (emitted : Option Emission) (new : Par
   pub emits : EmitsAt (at_front e) e old emitted
   pub safe : IsSafeIn (names e) e old
 
--- an event of this job, with no other effect.
+-- the event is one of job k, and has no effect on the front and on a shard of its own.
 abbrev pub IsOfJob : Event → ℕ → Type 0
 IsOfJob e k = (at_front e ≡ Rests) × (at_shard e ≡ Calm) × (names e ≡ Some k)
 
--- a datagram is delivered to a front advanced to this time: the jobs that it produces, and its
--- emission.
+-- a datagram was delivered to a front that has advanced to this time. The jobs that the datagram
+-- produces are added, and its emission is sent.
 pub record DeliveredTo (now : ℕ) (to : Endpoint) (bytes : List ℕ) (old new : Parts) (emitted : Option Emission) : Type 0 where
   pub front : let f = advanced old.front now in new.front ≡ after_received (received f to bytes) f to
   pub tasks : let f = advanced old.front now in new.tasks ≡ old.tasks ++ map new_task (brought (received f to bytes) (next_opening f) to)
@@ -146,8 +151,9 @@ pub record DeliveredTo (now : ℕ) (to : Endpoint) (bytes : List ℕ) (old new :
   pub words : new.words ≡ old.words
   pub emits : let f = advanced old.front now in emitted ≡ sent (received f to bytes) f to
 
--- a step: for every history that the state agrees with, the emission is permitted, the snapshot has
--- a meaning, and the new state agrees with the history continued by this event.
+-- one more event keeps the agreement with a history's summary. The emission is permitted, the
+-- program that a snapshot finds has a meaning, and the new state agrees with the history after the
+-- event.
 pub record Step (e : Event) (emitted : Option Emission) (new : Parts) (s : Seen) : Type 0 where
   pub emits : Emits s e emitted
   pub means : TakesMeaning s e
@@ -156,7 +162,7 @@ pub record Step (e : Event) (emitted : Option Emission) (new : Parts) (s : Seen)
 abbrev pub Steps : Event → Parts → Option Emission → Parts → Type 0
 Steps e old emitted new = (s : Seen) → Agrees s old → Step e emitted new s
 
--- some history leaves this state.
+-- some history leaves the state of these parts.
 pub record IsReached (p : Parts) : Type 0 where
   pub seen : Seen
   pub agrees : Agrees seen p

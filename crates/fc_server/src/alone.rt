@@ -1,6 +1,6 @@
 //! A single-threaded server that runs each job before the call returns.
 //!
-//! A job comes from a datagram, or from the lease of an observer.
+//! A job is that of a request, or that of an observer's lease.
 ghost use Rattle.std.specs.Prelude.{◌≡◌, [], IfOk};
 ghost use Rattle.fc_help.specs.Region.{no_readings};
 ghost use Rattle.fc_core.specs.Exchanges.{advanced};
@@ -34,7 +34,7 @@ pub struct Handed {
 
 /// A server on one thread, with the input for its next jobs.
 ///
-/// Its calls take the number of a shard modulo 8.
+/// The calls of the server take the number of a shard modulo 8.
 #[derive(Drop)]
 pub struct SingleThread {
     alloc: Global,
@@ -43,7 +43,9 @@ pub struct SingleThread {
 }
 
 impl SingleThread {
-    /// Makes a server with empty slots, as [`Engine::new`] does; its jobs get zeros.
+    /// Makes a server with empty slots and the initial state `begin`.
+    ///
+    /// The readings and the random word for its jobs are zeros. See [`Engine::new`].
     ///
     /// # Errors
     /// Returns `AllocError` if memory can't be allocated.
@@ -75,9 +77,10 @@ impl SingleThread {
 
     /// Handles a datagram as [`Ingress::handle`] does, and shows its job to a witness.
     ///
-    /// The job is shown once, after its answer, with the response to send, if there is one. If the
-    /// datagram produces no job, the witness doesn't change. `fc_record` passes a witness that
-    /// records changes.
+    /// Returns `Reply` if there is a datagram to send, which is written over `reply`, and otherwise
+    /// `Nothing`. The datagram's job is shown once, after its answer, with the response to send, if
+    /// there is one. If the datagram produces no job, the witness doesn't change. `fc_record`
+    /// passes a witness that records changes.
     pub fn handle_with<W: Witness>(
         &mut self,
         now: u64,

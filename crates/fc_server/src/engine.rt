@@ -1,4 +1,4 @@
-//! A server on one thread, which runs the job of each datagram to its response.
+//! A server on one thread, which runs and answers the job of each datagram.
 //!
 //! [`crate::SingleThread`] calls it for the drivers of a server.
 ghost use Rattle.std.specs.Prelude.{◌≡◌, ℕ, ◌<◌, ◌≤◌, List, [], false, true, None, is_some, max, IfOk, MatchBool};
@@ -31,8 +31,8 @@ use std::marker::Model;
 
 /// A server on one thread, in a state that some history leaves.
 ///
-/// It also has the memory for the task that it runs. A clause sees its front, its shards, and their
-/// head words.
+/// The engine also has the memory for the task that it runs. In contracts an engine is its front,
+/// its shards, and the head words of their slots.
 #[derive(Drop)]
 pub struct Engine {
     server: Server,
@@ -65,19 +65,20 @@ impl Engine {
         })
     }
 
-    /// Handles a datagram from `endpoint` and runs the job that it produces.
+    /// Handles a datagram from `endpoint` and runs the job of the datagram.
     ///
     /// `now` is in milliseconds. The job's snapshot gets `readings`. The result is `true` if there
     /// is a datagram to send, which is written over `reply`. Otherwise the contract says nothing of
     /// `reply`.
     ///
-    /// The effect of a call is a list of events. Each history that leaves the server in its state
-    /// before the call is continued legally by these events, and then leaves it in its state after
-    /// the call. The list begins with `Deliver`. The events that follow depend on the datagram:
+    /// The effect of a call is a list of events. Each history that leaves the server in the state
+    /// before the call is continued legally by these events. It then leaves the server in the state
+    /// after the call. The list begins with `Deliver`. The events that follow depend on the
+    /// datagram:
     ///
     /// - A signal: `Signal` of each shard.
-    /// - A run: `Take`, `Commit`, `Raise` and `Answer`, after a `Peek` of its slot if the job has
-    ///   ETags.
+    /// - A run: `Take`, `Commit`, `Raise` and `Answer`, after a `Peek` of the job's slot if the job
+    ///   has ETags.
     /// - An install: `Install`, `Raise` and `Answer`.
     /// - A removal: `Remove`, `Raise` and `Answer`.
     /// - A description of a program: `Receipt` and `Answer`.
@@ -85,7 +86,7 @@ impl Engine {
     /// - Any other job: `Answer`.
     /// - Any other datagram: no further event.
     ///
-    /// The witness observes the job once, after its answer.
+    /// The witness observes the job once, after the job's answer.
     pub fn handle<W: Witness>(
         &mut self,
         alloc: Global,
@@ -134,7 +135,7 @@ impl Engine {
         self.server.tick(now);
     }
 
-    /// Fires the timer of a slot at `now`, in milliseconds, and runs its job.
+    /// Fires the timer of a slot at `now`, in milliseconds, and runs the timer's job.
     ///
     /// The job's snapshot gets `readings`. The effect is the events `Fire`, `Take`, `Commit`,
     /// `Raise` and `Answer`, which send nothing.
@@ -150,9 +151,9 @@ impl Engine {
 
     /// Advances a shard, 0 to 7, to `now` in milliseconds: the event `ShardTick`.
     ///
-    /// Returns the first notification that has timed out, which the caller sends again; or that its
-    /// observer was removed, since it acknowledged no transmission; or that no notification has
-    /// timed out.
+    /// Returns `Resend` with the first notification that has timed out, which the caller sends
+    /// again. Returns `Removed` if the notification's observer is removed instead, since it
+    /// acknowledged no transmission. Returns `Quiet` if no notification has timed out.
     pub fn resend(&mut self, shard: u8, now: u64) -> Ticked
         requires { shard < 8 }
         ensures told { result ≡ shard_told now (shard_at self.old.shards shard) }
@@ -163,9 +164,9 @@ impl Engine {
 
     /// Advances a shard, 0 to 7, to `now` in milliseconds if it is idle then.
     ///
-    /// It is idle if no notification has timed out by then and no observer has a pending
-    /// notification. If it is idle, the effect is the event `ShardTick`, after which `Due` would do
-    /// nothing. Returns whether the shard was advanced.
+    /// A shard is idle if no notification has timed out by then and no observer has a pending
+    /// notification. If the shard is idle, the effect is the event `ShardTick`, after which `Due`
+    /// would do nothing. Returns whether the shard was advanced; if not, nothing changes.
     pub fn advance_if_idle(&mut self, shard: u8, now: u64) -> bool
         requires { shard < 8 }
         ensures idle { result ≡ is_idle (at_time (shard_at self.old.shards shard) now) }
@@ -174,10 +175,11 @@ impl Engine {
         self.server.advance_if_idle(shard, now)
     }
 
-    /// Returns a time before which a shard, 0 to 7, is idle if nothing is called.
+    /// Returns a time before which a shard is idle unless the server is called.
     ///
-    /// Before that time no notification times out and no observer has a pending one. It needn't be
-    /// the latest such time. It is in milliseconds; 2^64 - 1 means that neither is expected.
+    /// The shard is 0 to 7. Before that time no notification times out and no observer has a
+    /// pending one. The time is in milliseconds, and needn't be the latest such time. 2^64 - 1
+    /// means that neither is expected.
     pub fn idle_until(&self, shard: u8) -> u64
         requires { shard < 8 }
         ensures { StaysIdleUntil result (shard_at self.now.shards shard) }
@@ -187,10 +189,10 @@ impl Engine {
 
     /// Notifies the first observer of a shard, 0 to 7, that has a pending notification.
     ///
-    /// `now` is in milliseconds. The effect is the event `Due`. If it grants a lease, `Take` with
-    /// these readings, `Fresh`, `Note` and `GiveUp` of the lease follow. The datagram to send, if
-    /// there is one, is written over `emission`. The random word determines how long the server
-    /// waits for the acknowledgement of a confirmable notification.
+    /// `now` is in milliseconds. The effect is the event `Due`. If `Due` grants a lease, `Take`
+    /// with these readings, `Fresh`, `Note` and `GiveUp` of the lease follow. `random` determines
+    /// how long the server waits for the acknowledgement of a confirmable notification. If the
+    /// result is `Sent`, the datagram to send is written over `emission`.
     pub fn notify(
         &mut self,
         shard: u8,
@@ -216,7 +218,7 @@ impl Engine {
 
 /// The result of a request to notify an observer.
 ///
-/// The datagram to send is written over an emission of the caller.
+/// If the result is `Sent`, the datagram is written over an emission of the caller.
 #[derive(Clone, Copy, PartialEq, Eq)]
 pub enum NotifyOutcome {
     /// An observer is notified by the datagram that was written.
@@ -244,7 +246,7 @@ fn signal(server: &mut Server, endpoint: Endpoint, id: u16, reset: bool)
 }
 
 // Runs a lease that a shard has just granted, and releases the lease unless the notification has
-// ended it. The datagram to send, if there is one, is written over `emission`.
+// ended it. If the result is `Sent`, the datagram to send is written over `emission`.
 fn tell(
     server: &mut Server,
     now: u64,
@@ -269,8 +271,8 @@ fn tell(
     notify_outcome(sent, starved)
 }
 
-// Returns the outcome of a lease by whether a datagram was written and whether no message ID was
-// available.
+// Returns the outcome of a lease: `Sent` if a datagram was written, else `Starved` if no message ID
+// was available, else `Unsent`.
 fn notify_outcome(sent: bool, starved: bool) -> NotifyOutcome
     ensures sent { (e : Emitted) → notification_in (notified_as result e) ≡ emission_if sent e }
     ensures given { (e : Emitted) → is_given (notified_as result e) ≡ true }
@@ -286,8 +288,8 @@ fn notify_outcome(sent: bool, starved: bool) -> NotifyOutcome
     }
 }
 
-// Runs the job that the front has just produced, by its first stage. Returns whether there is a
-// datagram to send, which is written over `reply`. The functions below, one for each first stage,
+// Runs the job that the front has just produced, by the job's first stage. Returns whether there is
+// a datagram to send, which is written over `reply`. The functions below, one for each first stage,
 // return the same.
 fn work_off(
     server: &mut Server,
@@ -313,8 +315,8 @@ fn work_off(
     }
 }
 
-// Runs a job that has ETags: answers it by its slot's head word if that matches one of them, and
-// otherwise runs the program.
+// Runs a job that has ETags. If the slot's head word matches one of the ETags, the answer is 2.03
+// (Valid). Otherwise the slot's program runs.
 fn look_and_run(
     server: &mut Server,
     now: u64,

@@ -1,7 +1,7 @@
 //! The work after a datagram or a tick: retransmissions and notifications.
 //!
-//! A driver of an [`Ingress`] (`fc_service`, or the C library) takes its steps until the end, and
-//! sends what they write.
+//! A driver of an [`Ingress`] is `fc_service` or the C library. It takes the steps of a
+//! [`Flushing`] until the end, and sends the datagrams that the steps write.
 ghost use Rattle.std.specs.Prelude.{◌≡◌, ◌+◌, ◌<◌, ◌≤◌, ◌↔◌, [], false, true, IsTrue, List};
 ghost use Rattle.coap_msg.specs.declared.types.Emission.{Emission as Emitted};
 ghost use Rattle.fc_core.specs.Legal.{resent};
@@ -35,8 +35,8 @@ pub struct Flushing {
 impl Flushing {
     /// Returns the position of the first shard that isn't idle at `now`, or the end.
     ///
-    /// `now` is in milliseconds. The shards before it are advanced. Most shards are idle, and no
-    /// memory for a datagram is needed for them.
+    /// `now` is in milliseconds. The shards before that position are advanced. Most shards are
+    /// idle, and no memory for a datagram is needed for an idle shard.
     pub fn begin<N: Ingress>(ingress: &mut N, now: u64) -> Flushing
         ensures { (steps : List FlushingStep) × AreStepsTo N.calls now steps ingress.old ingress.new result × (sent_in_steps steps ≡ []) }
     {
@@ -60,7 +60,7 @@ impl Flushing {
     /// Takes a step at the current shard.
     ///
     /// The datagram to send, if there is one, is written over `emission`. Returns whether there is
-    /// one. If no message ID is available, no work is left.
+    /// a datagram to send. If no message ID is available, the step leads to the end.
     #[inline(never)]
     pub fn step<N: Ingress>(&mut self, ingress: &mut N, now: u64, emission: &mut Emission) -> bool
         requires { self.old.shard < 8 }
@@ -77,7 +77,7 @@ impl Flushing {
         self.resend(ingress, now, emission)
     }
 
-    // Retransmits the first notification of the shard that has timed out, or goes on to its
+    // Retransmits the first notification of the shard that has timed out, or goes on to the shard's
     // observers. Returns whether a datagram was written over `emission`. Retransmissions are rare,
     // so no memory is set aside for one unless it is needed.
     #[inline(never)]
@@ -91,9 +91,9 @@ impl Flushing {
         self.resent(ticked, emission)
     }
 
-    // Notifies the first observer of the shard that has a pending notification, or goes on to the
-    // next shard. If no message ID is available, goes to the end. Returns whether a datagram was
-    // written over `emission`.
+    // Notifies the first observer of the shard that has a pending notification. Goes on to the next
+    // shard if there is none, and to the end if no message ID is available. Returns whether a
+    // datagram was written over `emission`.
     fn notify<N: Ingress>(&mut self, ingress: &mut N, now: u64, emission: &mut Emission) -> bool
         requires shard { self.old.shard < 8 }
         requires due { self.old.notifies ≡ true }
@@ -114,7 +114,7 @@ impl Flushing {
         self.notifies = false;
     }
 
-    // Goes on after the shard was ticked. The datagram to send is written over `emission`. Returns
+    // Goes on after the shard was ticked. A retransmission is written over `emission`. Returns
     // whether there is one.
     fn resent(&mut self, ticked: Ticked, emission: &mut Emission) -> bool
         requires shard { self.old.shard < 8 }
@@ -135,8 +135,8 @@ impl Flushing {
         }
     }
 
-    // Goes on after the shard was asked for a lease. Returns whether the written datagram is to be
-    // sent.
+    // Goes on after the shard was asked for a lease. Returns whether the datagram that the shard
+    // wrote is to be sent.
     fn notified(&mut self, outcome: NotifyOutcome) -> bool
         requires shard { self.old.shard < 8 }
         requires due { self.old.notifies ≡ true }
@@ -169,7 +169,7 @@ impl Flushing {
 
 /// Returns the earliest of the times until which the eight shards are idle.
 ///
-/// A driver may wait for a datagram until then. The result is in milliseconds; it is `u64::MAX` if
+/// A driver may wait for a datagram until then. The result is in milliseconds. It is `u64::MAX` if
 /// the shards return no earlier time.
 pub fn idle_until<N: Ingress>(ingress: &N) -> u64
     ensures { AreIdleUntil (λ shard until. N.calls.stays_idle shard ingress.now until) result }

@@ -12,16 +12,16 @@ use fc_observe::Ticked;
 
 /// A server that handles datagrams and notifies observers.
 ///
-/// It runs on one thread, or it is a dispatcher of workers. Each implementation states the effect
-/// of its calls.
+/// The server runs on one thread, or is a dispatcher of workers. Each implementation states the
+/// effect of the calls.
 pub trait Ingress {
     // The effect of each call.
     ghost calls: { IngressCalls Self };
 
     /// Handles a datagram received at `now`, in milliseconds.
     ///
-    /// A response is written over `reply`. The datagram's job runs here or on a worker. Its signal
-    /// goes to each shard. Returns `Reply` if the written datagram is to be sent, and `Job` if a
+    /// A response is written over `reply`. The job of a request runs here or on a worker. A signal
+    /// goes to each shard. Returns `Reply` if the written response is to be sent, and `Job` if a
     /// worker has the job or has sent its response.
     fn handle(&mut self, now: u64, from: Endpoint, bytes: &[u8], reply: &mut Emission) -> Handled
         ensures { calls.handles now from bytes.entry self.old self.new result reply.new };
@@ -32,31 +32,31 @@ pub trait Ingress {
 
     /// Advances a shard, 0 to 7, to `now`, and returns its retransmission.
     ///
-    /// `now` is in milliseconds. If there is none, the result is that an observer was removed, or
-    /// that no notification has timed out.
+    /// `now` is in milliseconds. If there is no retransmission, the result is that an observer was
+    /// removed, or that no notification has timed out.
     fn resend(&mut self, shard: u8, now: u64) -> Ticked
         ensures { calls.resends shard now self.old self.new result };
 
     /// Advances a shard, 0 to 7, to `now` in milliseconds if it is idle then.
     ///
-    /// It is idle if no notification has timed out and no observer has a pending one. Returns
-    /// whether the shard was advanced.
+    /// A shard is idle if no notification has timed out and no observer has a pending one. Returns
+    /// whether the shard was advanced; if not, nothing changes.
     fn advance_if_idle(&mut self, shard: u8, now: u64) -> bool
         ensures idle { (some : Shard) × (result ≡ is_idle (at_time some now)) }
         ensures after { MatchBool result (calls.passes_over shard now self.old self.new) (self.new ≡ self.old) };
 
     /// Returns a time before which a shard, 0 to 7, is idle without a datagram.
     ///
-    /// Before that time no notification times out and no observer has a pending one. It needn't be
-    /// the latest such time. It is in milliseconds; 2^64 - 1 means that neither is expected.
+    /// Before that time no notification times out and no observer has a pending one. The time is in
+    /// milliseconds, and needn't be the latest such time. 2^64 - 1 means that neither is expected.
     fn idle_until(&self, shard: u8) -> u64
         ensures { calls.stays_idle shard self.now result };
 
     /// Notifies the first observer of a shard, 0 to 7, that has a pending notification.
     ///
-    /// `now` is in milliseconds. The lease runs here or on a worker. The datagram to send is
-    /// written over `emission`. Nothing is written if a worker has the lease or has sent its
-    /// notification.
+    /// `now` is in milliseconds. The lease of the observer runs here or on a worker. If the result
+    /// is `Sent`, the datagram to send is written over `emission`. Nothing is written if a worker
+    /// has the lease or has sent the notification.
     fn notify(&mut self, shard: u8, now: u64, emission: &mut Emission) -> NotifyOutcome
         ensures { calls.notifies shard now self.old self.new (notified_as result emission.new) };
 }

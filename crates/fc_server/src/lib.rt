@@ -1,11 +1,11 @@
 //! A server on one thread: front, shards and machine, with one call for each event.
 //!
-//! - [`Server`] consists of them. Each of its calls applies one event to a task, as the stages of
-//!   jobs define.
-//! - [`Engine`] runs the job of each datagram to its response.
-//! - [`SingleThread`] is an engine with the input for its jobs. It implements [`Ingress`], the
-//!   trait of servers that handle datagrams.
-//! - [`flush::Flushing`] takes the remaining steps at one time, for any ingress.
+//! - [`Server`] consists of these parts. Each of its calls applies one event to a task, as defined
+//!   for the stage of the task's job.
+//! - [`Engine`] runs and answers the job of each datagram.
+//! - [`SingleThread`] is an engine with the input for the engine's jobs. It implements [`Ingress`],
+//!   the trait of servers that handle datagrams.
+//! - [`flush::Flushing`] takes the steps that remain at one time, for any ingress.
 //!
 //! ```rust
 //! use coap_msg::{Emission, Endpoint};
@@ -35,23 +35,23 @@
 //! # What is proved
 //!
 //! - Each call is an event. The effect of a datagram is the list of events of one job, whatever the
-//!   history so far. The job's snapshot gets the readings that were passed to the call.
-//! - **A witness** observes the job of each request once, with the emission of its answer, and
-//!   nothing else.
+//!   history before. The job's snapshot gets the readings that were passed to the call.
+//! - **A witness** observes the job of each request once, with the emission of the job's answer,
+//!   and nothing else.
 //! - A signal goes to each shard.
-//! - A timer that fires runs one job of its slot, and sends nothing.
-//! - A shard that is ticked returns its retransmission, the removal of an observer, or that no
+//! - A timer that fires runs one job of the timer's slot, and sends nothing.
+//! - The tick of a shard returns the shard's retransmission, the removal of an observer, or that no
 //!   notification has timed out.
 //! - A shard grants a lease exactly if one of its observers has a pending notification. The lease
-//!   runs by its events.
+//!   runs by the events of its job.
 //! - `Engine::notify` returns `Starved` only if no message ID was available, and `Unsent` only for
 //!   a slot that has a program.
-//! - Before the time that a shard returns, no notification times out there and no observer has a
-//!   pending one, unless the server is called.
-//! - **Flushing** goes over the shards in order. It stays at each, first until no notification has
-//!   timed out, then until no observer has a pending one. At its end each shard was found so, or no
-//!   message ID was available. The time that `flush::idle_until` returns is the earliest of those
-//!   that the shards return.
+//! - Before the time that `idle_until` returns for a shard, no notification times out there and no
+//!   observer has a pending one. This holds unless the server is called.
+//! - **Flushing** goes over the shards in order. It stays at each shard, first until no
+//!   notification has timed out, then until no observer has a pending one. At the end this was
+//!   found for each shard, or no message ID was available. `flush::idle_until` returns the earliest
+//!   of the times that the shards return.
 //!
 //! By the contracts of `Server`, `Engine::handle`, `tick`, `fire`, `resend`, `notify`, `idle_until`,
 //! `SingleThread`, `Flushing::begin`, `step`, `flush::idle_until`.

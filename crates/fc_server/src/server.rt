@@ -1,7 +1,7 @@
 //! The front, the shards and the machine, with one call for each event.
 //!
 //! The engine and `fc_world` make the calls. A call for a task has no effect if the task's stage
-//! doesn't need its event; `Lose` ends any task.
+//! doesn't need the event of the call; `Lose` ends any task.
 ghost use Rattle.std.specs.Prelude.{◌≡◌, ℕ, List, ◌<◌, ◌≤◌, if◌then◌else◌, [], false, length, slice_set, IfOk, OnOk};
 ghost use Rattle.fc_registry.specs.Shards.{first_shards, shard_at};
 ghost use Rattle.fc_registry.specs.Turns.{written_if};
@@ -26,7 +26,8 @@ use std::marker::Model;
 
 /// The initial state of a server.
 ///
-/// It has the serial of its empty slots, the first message ID that it draws, and its policy.
+/// It has the serial of the empty slots, the first message ID that the server draws, and the
+/// policy.
 #[derive(Clone, Copy)]
 pub struct Begin {
     pub serial: u64,
@@ -43,8 +44,8 @@ pub const DEFAULT_BEGIN: Begin = Begin {
 
 /// The complete state of a server on one thread, except for its jobs.
 ///
-/// It has the front, the eight shards, the head words of their slots, and a frame to run programs
-/// in. A clause sees the state of the front, the shards, and the head words.
+/// A server has the front, the eight shards, the head words of their slots, and a frame to run
+/// programs in. In contracts a server is the state of the front, the shards, and the head words.
 #[derive(Drop)]
 pub struct Server {
     front: Front,
@@ -82,7 +83,8 @@ impl Server {
 
     /// Handles a datagram received at `now`, in milliseconds.
     ///
-    /// The job that it produces, or the response, is written over `job` or `reply`.
+    /// The job of a request is written over `job`, and a response over `reply`. See
+    /// [`Front::handle`].
     pub fn handle(
         &mut self,
         now: u64,
@@ -108,7 +110,9 @@ impl Server {
         self.front.tick(now);
     }
 
-    /// Fires the timer of a slot at `now`, in milliseconds. Its job is written over `job`.
+    /// Fires the timer of a slot at `now`, in milliseconds.
+    ///
+    /// The timer's job is written over `job`.
     pub fn fire(&mut self, slot: SlotNumber, now: u64, job: &mut Job)
         ensures job { job.new ≡ timer_job slot }
         ensures front { self.new.front ≡ advanced self.old.front now }
@@ -120,8 +124,8 @@ impl Server {
 
     /// Requests the lease of an observer of a shard that has a pending notification.
     ///
-    /// `now` is in milliseconds. If there is such an observer, the job that runs its request again
-    /// is written over `job`, and the result is `true`. Otherwise `job` is unchanged.
+    /// `now` is in milliseconds. If a lease is granted, the job that runs the observer's request
+    /// again is written over `job`, and the result is `true`. Otherwise `job` is unchanged.
     pub fn due(&mut self, shard: u8, now: u64, job: &mut Job) -> bool
         requires { shard < length self.old.shards }
         ensures job { written_if result job.new ≡ shard_turn now (shard_at self.old.shards shard) }
@@ -133,7 +137,9 @@ impl Server {
         self.shards[usize::from(shard)].write_due(now, job)
     }
 
-    /// Passes an Acknowledgement or Reset message to the observers of a shard's slots.
+    /// Passes an Acknowledgement, or a Reset message, to the observers of a shard.
+    ///
+    /// The message is a Reset if `reset` is `true`, and has the message ID `id`.
     pub fn signal(&mut self, shard: u8, endpoint: Endpoint, id: u16, reset: bool)
         requires { shard < length self.old.shards }
         ensures front { self.new.front ≡ self.old.front }
@@ -146,8 +152,9 @@ impl Server {
 
     /// Advances a shard to `now`, in milliseconds.
     ///
-    /// The shard retransmits the first notification that has timed out, or removes its observer.
-    /// Returns which of the two happened, or that no notification has timed out.
+    /// The shard retransmits the first notification that has timed out, or removes the
+    /// notification's observer. Returns which of the two happened, or that no notification has
+    /// timed out.
     pub fn tick_shard(&mut self, shard: u8, now: u64) -> Ticked
         requires { shard < length self.old.shards }
         ensures told { result ≡ shard_told now (shard_at self.old.shards shard) }
@@ -160,8 +167,8 @@ impl Server {
 
     /// Advances a shard to `now`, in milliseconds, if it is idle then.
     ///
-    /// It is idle if no notification has timed out by then and no observer has a pending one.
-    /// Returns whether the shard was advanced.
+    /// A shard is idle if no notification has timed out by then and no observer has a pending one.
+    /// Returns whether the shard was advanced; if not, nothing changes.
     pub fn advance_if_idle(&mut self, shard: u8, now: u64) -> bool
         requires { shard < length self.old.shards }
         ensures idle { result ≡ is_idle (at_time (shard_at self.old.shards shard) now) }
@@ -176,8 +183,8 @@ impl Server {
 
     /// Returns a time before which a shard is idle unless the server is called.
     ///
-    /// Before that time no notification times out and no observer has a pending one. It needn't be
-    /// the latest such time. It is in milliseconds; 2^64 - 1 means that neither is expected.
+    /// Before that time no notification times out and no observer has a pending one. The time is in
+    /// milliseconds, and needn't be the latest such time. 2^64 - 1 means that neither is expected.
     pub fn idle_until(&self, shard: u8) -> u64
         requires { shard < length self.now.shards }
         ensures { StaysIdleUntil result (shard_at self.now.shards shard) }
@@ -185,13 +192,13 @@ impl Server {
         self.shards[usize::from(shard)].idle_until()
     }
 
-    /// Applies an event to the task of its job, and returns the datagram to send.
+    /// Applies an event to the task of the job that it names, and returns its emission.
     ///
     /// Returns `None` if there is nothing to send. An event that names no job has no effect.
     ///
     /// # Errors
-    /// Returns `AllocError` if the event assumes that memory can be allocated, and it can't be.
-    /// Then nothing is guaranteed.
+    /// Returns `AllocError` if memory can't be allocated although the event says that it can. Then
+    /// nothing is guaranteed.
     pub fn work(
         &mut self,
         alloc: Global,
@@ -281,7 +288,8 @@ impl Server {
 
     /// Applies `Take`: takes a snapshot of a task's slot with these readings.
     ///
-    /// Returns whether memory could be allocated. See [`Task::take`].
+    /// Returns `false` if memory for the snapshot can't be allocated, otherwise `true`. See
+    /// [`Task::take`].
     pub fn take(&mut self, readings: &Readings, task: &mut Task) -> bool
         requires { AtWork self.old task.old }
         ensures { (k : ℕ) → Does (Event.Take k result readings.now) self.old task.old self.new task.new None }
@@ -289,9 +297,9 @@ impl Server {
         task.take(&mut self.shards[task.job.origin.slot.shard()], readings)
     }
 
-    // Takes a snapshot of a task's slot with these readings. If `memory` is false, records that
-    // memory couldn't be allocated. The error is that memory couldn't be allocated although
-    // `memory` is true.
+    // Takes a snapshot of a task's slot with these readings. If `memory` is false, the snapshot is
+    // taken as if memory couldn't be allocated. Returns an error if `memory` is true but memory
+    // can't be allocated.
     fn take_if(
         &mut self,
         memory: bool,
@@ -325,7 +333,7 @@ impl Server {
 
     /// Applies `Install`: verifies a task's image and installs the program.
     ///
-    /// Returns whether memory could be allocated. See [`Task::install`].
+    /// Returns `false` if memory can't be allocated, otherwise `true`. See [`Task::install`].
     pub fn install(&mut self, alloc: Global, task: &mut Task) -> bool
         requires { AtWork self.old task.old }
         ensures { (k : ℕ) → Does (Event.Install k result) self.old task.old self.new task.new None }
@@ -334,9 +342,8 @@ impl Server {
         task.install(alloc, shard)
     }
 
-    // Verifies a task's image and installs the program. If `memory` is false, records that memory
-    // couldn't be allocated. The error is that memory couldn't be allocated although `memory` is
-    // true.
+    // Verifies a task's image and installs the program. If `memory` is false, does so as if memory
+    // couldn't be allocated. Returns an error if `memory` is true but memory can't be allocated.
     fn install_if(&mut self, alloc: Global, memory: bool, task: &mut Task) -> Result<(), AllocError>
         requires { AtWork self.old task.old }
         ensures { OnOk result ((k : ℕ) → Does (Event.Install k memory) self.old task.old self.new task.new None) }
@@ -362,8 +369,8 @@ impl Server {
 
     /// Applies `Fresh`: draws a message ID for the notification of a task's lease.
     ///
-    /// `now` is in milliseconds. It has no effect unless the task's stage needs a message ID. If no
-    /// message ID is available, the stage is unchanged.
+    /// `now` is in milliseconds. The call has no effect unless the task's stage needs a message ID.
+    /// If no message ID is available, the stage is unchanged.
     pub fn fresh(&mut self, now: u64, task: &mut Task)
         requires { AtWork self.old task.old }
         ensures { DrawsId now self.old task.old self.new task.new }
@@ -391,7 +398,7 @@ impl Server {
     ///
     /// `now` is in milliseconds. No program runs if the slot was empty. The observer is notified if
     /// the lease is still active. The datagram is written over `emission`. Returns whether there is
-    /// one to send.
+    /// a datagram to send.
     pub fn note(&mut self, now: u64, random: u16, task: &mut Task, emission: &mut Emission) -> bool
         requires { AtWork self.old task.old }
         ensures { (k : ℕ) →
@@ -409,8 +416,8 @@ impl Server {
         task.give_up(&mut self.shards[task.job.origin.slot.shard()], now);
     }
 
-    // Answers a task at `now`, in milliseconds, if its stage has an answer, for `work`. Returns the
-    // datagram to send, if there is one.
+    // Answers a task at `now`, in milliseconds, if the task's stage has an answer, for `work`.
+    // Returns the datagram to send, if there is one.
     fn answer(&mut self, now: u64, task: &mut Task) -> Option<Emission>
         requires { AtWork self.old task.old }
         ensures { Responds now self.old task.old self.new task.new result }
@@ -423,10 +430,10 @@ impl Server {
         }
     }
 
-    /// Applies `Answer`: answers a task if its stage has an answer.
+    /// Applies `Answer`: answers a task if the task's stage has an answer.
     ///
-    /// `now` is in milliseconds. The datagram is written over `reply`. Returns whether there is one
-    /// to send. A task with an answer has then ended, even if nothing is sent.
+    /// `now` is in milliseconds. The datagram is written over `reply`. Returns whether there is a
+    /// datagram to send. A task with an answer has then ended, even if nothing is sent.
     pub fn respond(&mut self, now: u64, task: &mut Task, reply: &mut Emission) -> bool
         requires { AtWork self.old task.old }
         ensures { Responds now self.old task.old self.new task.new (emission_if result reply.new) }

@@ -9,15 +9,15 @@ use fc_registry::Job;
 
 /// A witness of a server's answers.
 ///
-/// Each request's job is shown to it after the job's answer.
+/// The job of each request is shown to the witness after the job's answer.
 pub trait Witness {
-    // The relation between the witness before and after it is shown a job, with the response to
-    // send, if there is one.
+    // The relation of the witness before it is shown a job and afterwards. The second argument is
+    // the response to send, if there is one.
     ghost shown: { Asked → Option Emitted → Self → Self → Type 0 } = { λ job sent old new. ⊤ };
 
-    /// Records a request's job that was answered.
+    /// Records the job of a request that was answered.
     ///
-    /// `reply` is the response to send if `has_reply`.
+    /// `reply` is the response to send if `has_reply` is `true`.
     fn show(&mut self, job: &Job, has_reply: bool, reply: &Emission)
         ensures { shown job.now (emission_if has_reply reply.now) self.old self.new };
 }

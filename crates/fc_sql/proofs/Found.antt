@@ -1,4 +1,4 @@
--- The slots that the rows of the table store, by the answers of its queries.
+-- The slots that the rows of the table store, from the results of the two queries.
 use Rattle.std.proofs.Common.{◌≡◌, ◌⊎◌, inl, inr, ℕ, ◌<◌, ◌≤◌, ℤ, pos, Bool, true, false, not, cond, List, [], ◌∷◌, ◌++◌, map, length, get_or, Option, Some, None, Ok, Err, Result, refl, sym, ap, subst, ◌∙◌, arith, ⊎_elim}
 use Rattle.std.specs.Prelude.{◌≢◌, ◌+◌, All, find, unwrap_or, IfOk, IfErr, OnOk}
 use Rattle.std.specs.List.{AllByRecursion, filter}

@@ -59,7 +59,7 @@ first_test : (b : Bool) → ((b && true) || false) ≡ true → b ≡ true
 first_test true h = refl
 first_test false h = h
 
--- a row that conflicts with one of slot n has its rowid.
+-- a row that conflicts with the new row of slot n has the rowid n.
 conflict_id : (n : ℕ) (s : StoredSlot) (v : Value) (rest : Row) → is_int v ≡ true → conflicts None [] slot_table (stored_of n s) (v ∷ rest) ≡ true → id_in v ≡ pos n
 unfolding first_key
 conflict_id n s Null rest int h = absurd (cc int)
@@ -127,7 +127,7 @@ module _ (n : ℕ) (s : StoredSlot) (old : State) (stored : StoredSlots) (has : 
         ),
       )
 
-  -- what the statement may commit.
+  -- whatever the statement may commit stores the slots with the new state of slot n.
   pub commits : (db : Trees) → CommitsBy put_text (row_values n s) old db → AreSameSlots (slots_in_rows (db 0)) (with_stored_slot n s stored)
   unfolding CommitsBy
   commits db h =
@@ -141,7 +141,7 @@ module _ (n : ℕ) (s : StoredSlot) (old : State) (stored : StoredSlots) (has : 
       committed text (inl other) = absurd (elim other.0 [ inl e ↦ cc e | inr r ↦ let e = r.2 in cc ])
       committed text (inr w) = subst (λ (d : Trees). AreSameSlots (slots_in_rows (d 0)) (with_stored_slot n s stored)) (sym w.5) (changed_by text w.1 w.2 w.3).1.1
 
-  -- the statement that ran.
+  -- if the statement ran, the table stores the slots with the new state of slot n.
   pub ran : (new : State) (count : ℕ) → Executes put_text (row_values n s) old new (Ok count) → Mirrors new (with_stored_slot n s stored)
   ran new count h =
       let w = runs_as put_text (row_values n s) old new slot_schema has.schema put_command put_is put_plain count h in
@@ -154,7 +154,7 @@ module _ (n : ℕ) (s : StoredSlot) (old : State) (stored : StoredSlots) (has : 
         same = it.1.1;
       }
 
-  -- and that did not.
+  -- if the statement changed nothing or was rolled back, the table stores the same slots as before.
   unchanged : (new : State) → IsTrue new.is_open → IsUnchanged old new ⊎ IsRolledBack old new → Mirrors new stored
   unchanged new is_open (inl u) = record {
     schema = ap (λ (d : Database). d.schema) u.0.now_is ∙ has.schema;
@@ -220,7 +220,7 @@ crashes n s old new stored sv m opened clean db may = elim (sv.crash clean db ma
 
 -- ---- the copy in memory
 
--- the slot after an update, among all slots after it.
+-- replacing the updated slot by its state after the update gives all slots after the update.
 pub with_after : (s : SlotUpdate) (k d : StoredSlot) (all : List StoredSlot) (at : ℕ) → at ≡ s.slot → at < length all → k ≡ slot_after s (get_or all at d) → AreSameSlots (with_stored_slot s.slot k (stored_in all)) (slots_after s (stored_in all))
 with_after s k d all at is lt made n few = ⊎_elim
     (λ (e : n ≡ s.slot). both (eq-eqb n s.slot e) (made ∙ ap (slot_after s) (get_or_default all at d blank_slot lt ∙ ap (λ (j : ℕ). get_or all j blank_slot) (is ∙ sym e))))

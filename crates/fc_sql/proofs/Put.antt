@@ -63,7 +63,7 @@ pub cast_int : (z : ℤ) → cast Integer (Int z) ≡ Int z
 unfolding unary
 cast_int z = either _ (Int z)
 
--- a part that gave a value did not stop on the way.
+-- a step that gave a value didn't stop.
 went : {B E R : Type 0} {b : B} {Stops : E → Type 0} → ((stop : E) × Stops stop × (Ok b ≡ Err stop)) ⊎ R → R
 went (inl stopped) = absurd (let e = stopped.2 in cc)
 went (inr on) = on
@@ -85,12 +85,12 @@ creates old new count has h =
     let now : new.now ≡ first.0 = ap (λ (p : Tally × Database). p.1) (same_value all.2) ∙ same_value (rw plain at first.2) in
     (ap (λ (d : Database). d.schema) now ∙ schema, ap (λ (d : Database). d.trees 0) now ∙ subst (λ s. first.0.trees (next_tree s) ≡ []) has made.empty)
 
--- the row as it is stored.
+-- the stored row of slot n: its rowid, NULL for the primary key, the serial, and these values.
 abbrev pub row_with : ℕ → ℕ → Value → Value → Value → Row
 row_with n s a b c = Int (pos n) ∷ Null ∷ Int (pos s) ∷ a ∷ b ∷ c ∷ []
 
--- The rows are the others without those that have the new row's rowid, with the new row in its
--- place.
+-- The rows `new` are the rows `old` without those that conflict with `row`, and with `row` put in
+-- at its rowid.
 pub record IsPutOver (row : Row) (old new : List Row) : Type 0 where
   pub found : List Row
   pub conflicting : AreConflicts None [] slot_table old row found

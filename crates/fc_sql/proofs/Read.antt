@@ -1,4 +1,4 @@
--- The answers of the two queries that read the table.
+-- The results of the two queries that read the table.
 use Rattle.std.proofs.Common.{◌≡◌, ℕ, pos, negsuc, Bool, true, false, ◌&&◌, cond, List, [], ◌∷◌, ◌++◌, map, codes, None, Some, refl, sym, ap, subst, ◌∙◌}
 use Rattle.std.specs.List.{filter, flat_map}
 use Rattle.std.specs.List.Sorted.{IsPermutation}
@@ -75,7 +75,7 @@ tested_is : (b : Bool) → tested b ≡ b
 tested_is true = refl
 tested_is false = refl
 
--- `number = ?1` is the test of the rowid.
+-- the condition `number = ?1` has the truth of the test whether the row's rowid is the number.
 same_test : (v : Value) (n : ℕ) → (equal Binary v (Int (pos n)) && true) ≡ is_eq (value_cmp v (Int (pos n)))
 unfolding binary value_cmp
 same_test Null n = refl

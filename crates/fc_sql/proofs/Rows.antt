@@ -1,4 +1,4 @@
--- What rows are found at their rowids, after a row was put in.
+-- The rows that are found at rowids after a row was put in.
 use Rattle.std.proofs.Common.{◌≡◌, inl, inr, ℕ, ℤ, pos, Bool, true, false, not, cond, List, [], ◌∷◌, map, Ordering, Less, Equal, Greater, refl, sym, ap, subst, ◌∙◌, arith}
 use Rattle.std.specs.Ordering.{is_eq, match_ordering}
 use Rattle.std.proofs.lemmas.Int.{ints}
@@ -28,7 +28,7 @@ eq_is Less h = absurd (cc h)
 eq_is Equal h = refl
 eq_is Greater h = absurd (cc h)
 
--- a row with another rowid is passed over.
+-- the search for a rowid skips a row with another rowid.
 passed : (id : ℤ) (r : Row) (rows : List Row) → has_rowid id r ≡ false → row_at (r ∷ rows) id ≡ row_at rows id
 passed id r rows h = rw h refl
 
@@ -42,7 +42,7 @@ module _ (n : ℕ) (new : Row) (is : rowid new ≡ Int (pos n)) where
   here : has_rowid (pos n) new ≡ true
   here = ap (λ (v : Value). is_eq (value_cmp v (Int (pos n)))) is ∙ alike n
 
-  -- the row is found at its own rowid.
+  -- the row that was put in is found at its own rowid.
   pub put_same : (rows : List Row) → row_at (put_row new rows) (pos n) ≡ new
   put_same [] = met (pos n) new [] here
   put_same (r ∷ rows) = go (put_same rows) (value_cmp (rowid r) (rowid new)) refl
@@ -56,7 +56,7 @@ module _ (n : ℕ) (new : Row) (is : rowid new ≡ Int (pos n)) where
     there : has_rowid (pos m) new ≡ false
     there = ap (λ (v : Value). is_eq (value_cmp v (Int (pos m)))) is ∙ apart m n ne
 
-    -- at another rowid what was there before.
+    -- at another rowid, the same row is found as before.
     pub put_other : (rows : List Row) → row_at (put_row new rows) (pos m) ≡ row_at rows (pos m)
     put_other [] = passed (pos m) new [] there
     put_other (r ∷ rows) = go (put_other rows) (value_cmp (rowid r) (rowid new)) refl

@@ -32,7 +32,7 @@ use Rattle.fc_sql.specs.declared.columns.Unread.TheVariants.{Memory, Bad}
 
 -- ---- a slot's row
 
--- the serial of the install isn't above the slot's own serial.
+-- the serial of the program's install isn't above the slot's serial, if the slot has a program.
 abbrev pub IsSlotState : StoredSlot → Type 0
 IsSlotState s = IfSome s.program (λ (p : StoredProgram). p.version ≤ s.serial)
 
@@ -40,11 +40,11 @@ IsSlotState s = IfSome s.program (λ (p : StoredProgram). p.version ≤ s.serial
 abbrev pub state_values : StoredSlot → Row
 state_values s = Int (pos s.serial) ∷ program_values s.program
 
--- these columns of a row in the table.
+-- the columns serial, version, image and vars of a row in the table.
 abbrev pub state_columns : Row → Row
 state_columns r = column r 2 ∷ column r 3 ∷ column r 4 ∷ column r 5 ∷ []
 
--- the same columns of each row with this number.
+-- the columns serial, version, image and vars of each row with this number.
 abbrev pub rows_of : List Row → ℕ → List Row
 rows_of rows n = map state_columns (filter (has_rowid (pos n)) rows)
 
@@ -73,10 +73,11 @@ pub record StoresSlots (rows : List Row) (stored : StoredSlots) : Type 0 where
   pub numbers : AreSlotNumbers rows
   pub states : StoresStates rows stored
 
--- the table stores these slots; and, in the second, its slots' rows do, whatever other rows it has.
+-- the table stores these slots, and has no other row.
 abbrev pub TableStores : State → StoredSlots → Type 0
 TableStores s = StoresSlots (slot_rows s)
 
+-- the rows of the table with the numbers of slots store these slots; the table may have other rows.
 abbrev pub TableHasStates : State → StoredSlots → Type 0
 TableHasStates s = StoresStates (slot_rows s)
 
@@ -88,7 +89,7 @@ AreSlotRows s n = IsPermutation (rows_of (slot_rows s) n)
 abbrev pub StoresIn : Database → StoredSlots → Type 0
 StoresIn db stored = ((db.schema ≡ slot_schema) × StoresSlots (db.trees 0) stored) ⊎ ((db.schema ≡ no_schema) × AreSameSlots stored (λ _. blank_slot))
 
--- the table exists, as long as the medium is clean.
+-- the table exists if the medium is clean.
 abbrev pub HasTable : State → Type 0
 HasTable s = HasCleanDisk s → s.now.schema ≡ slot_schema
 
@@ -116,7 +117,8 @@ IsBadRow Version r = ((column r 1 ≢ Null) × ¬ IsUnsigned (column r 1)) ⊎ (
 IsBadRow Program r =
     ((column r 2 ≢ Null) × ¬ IsBlob (column r 2)) ⊎ (((column r 3 ≢ Null) × ¬ IsBlob (column r 3)) ⊎ (is_half (column r 1) (column r 2) (column r 3) ≡ true))
 
--- why the rows with the number of a slot aren't the slot's.
+-- why the rows with a slot's number don't store a slot: there are several, or the only row isn't
+-- the state of a slot.
 abbrev pub AreBad : BadRow → List Row → Type 0
 AreBad Number rows = ⊥
 AreBad Twice rows = 2 ≤ length rows
@@ -124,7 +126,7 @@ AreBad Serial rows = (r : Row) × (rows ≡ r ∷ []) × IsBadRow Serial r
 AreBad Version rows = (r : Row) × (rows ≡ r ∷ []) × IsBadRow Version r
 AreBad Program rows = (r : Row) × (rows ≡ r ∷ []) × IsBadRow Program r
 
--- a row with this rowid belongs to no slot.
+-- there is a row with this rowid, and the rowid isn't the number of a slot.
 abbrev pub HasOther : List Row → ℤ → Type 0
 HasOther rows z = ¬ IsSlotNumber (Int z) × (All (λ (r : Row). rowid r ≢ Int z) rows → ⊥)
 
@@ -132,7 +134,7 @@ HasOther rows z = ¬ IsSlotNumber (Int z) × (All (λ (r : Row). rowid r ≢ Int
 abbrev pub HasBad : List Row → ℤ → BadRow → Type 0
 HasBad rows z why = ((why ≡ Number) × HasOther rows z) ⊎ ((n : ℕ) × (n < 64) × (z ≡ pos n) × AreBad why (rows_of rows n))
 
--- the failure of a call of the database.
+-- the error is that of a failed call of the database.
 abbrev pub IsFailure : OpenError → Type 0
 IsFailure e = (why : Error) × (e ≡ open_error why)
 
@@ -152,7 +154,7 @@ RefusesRows old new e = RefusesRow old new e ⊎ IsFailure e
 abbrev pub RefusesForeign : State → State → OpenError → Type 0
 RefusesForeign old new e = (e ≡ error.Foreign) × (old.now.schema ≢ slot_schema) × (old.now.schema ≢ no_schema) × IsSameDatabase old new
 
--- Why tables are refused: they are other tables, or a call of the database failed.
+-- Why a database's tables are refused: it has other tables, or a call of the database failed.
 abbrev pub OtherTables : State → State → OpenError → Type 0
 OtherTables old new e = RefusesForeign old new e ⊎ IsFailure e
 
@@ -161,7 +163,7 @@ OtherTables old new e = RefusesForeign old new e ⊎ IsFailure e
 abbrev pub RefusesDatabase : State → State → OpenError → Type 0
 RefusesDatabase old new e = RefusesForeign old new e ⊎ (((old.now.schema ≡ slot_schema) × RefusesRow old new e) ⊎ IsFailure e)
 
--- an empty database gets the table: the changes that the statement may commit.
+-- the database was empty, and the statement that creates the table may commit these contents.
 abbrev pub Makes : State → Trees → Type 0
 Makes old db = (old.now.schema ≡ no_schema) × CommitsBy create_text [] old db
 
@@ -179,7 +181,7 @@ IsTableMade old new = ((old.now.schema ≡ slot_schema) × IsSameDatabase old ne
 abbrev pub slot_with : ℕ → ℕ → List ℕ → List ℕ → StoredSlot
 slot_with serial version image vars = record { serial = serial; program = Some (record { version = version; image = image; vars = vars }) }
 
--- the values that were read.
+-- the values of the columns serial, version, image and vars that were read.
 abbrev pub column_values : Columns → Row
 column_values c = Int (pos c.serial) ∷ or_null (λ (n : ℕ). Int (pos n)) c.version ∷ or_null (λ b. Blob b.items) c.image ∷ or_null (λ b. Blob b.items) c.vars ∷ []
 
@@ -187,7 +189,7 @@ column_values c = Int (pos c.serial) ∷ or_null (λ (n : ℕ). Int (pos n)) c.v
 abbrev pub AreWide : ℕ → List Row → Type 0
 AreWide n = All (λ (r : Row). length r ≡ n)
 
--- why columns weren't read.
+-- why columns weren't read: memory was refused, or they aren't the state of a slot, for a reason.
 abbrev pub AreUnreadColumns : Row → Unread → Type 0
 AreUnreadColumns r Memory = ⊤
 AreUnreadColumns r (Bad why) = IsBadRow why r
@@ -200,7 +202,7 @@ IsUnreadColumn is_readable r at why e = (e ≡ Memory) ⊎ ((e ≡ Bad why) × (
 abbrev pub AreUnread : ℕ → List Row → OpenError → Type 0
 AreUnread slot rows e = ((why : BadRow) × (e ≡ error.Row (pos slot) why) × (AreWide 4 rows → AreBad why rows)) ⊎ (e ≡ error.Memory)
 
--- the same for one row.
+-- why the only row of a slot wasn't read: it isn't the state of a slot, or memory was refused.
 abbrev pub IsUnreadRow : ℕ → Row → OpenError → Type 0
 IsUnreadRow slot r e = ((why : BadRow) × (e ≡ error.Row (pos slot) why) × (length r ≡ 4 → AreBad why (r ∷ []))) ⊎ (e ≡ error.Memory)
 
@@ -218,7 +220,7 @@ AreRowNumbers s = IsPermutation (numbers_of (slot_rows s))
 
 -- ---- files
 
--- the database that files held stores these slots.
+-- the files held, before this state, a database that stores these slots.
 pub record FindsSlots {D : Type 0} {g : disk.Ghosts D} (start : Image) (now : Held (FileStore D g)) (stored : StoredSlots) : Type 0 where
   pub was : Held (FileStore D g)
   pub opened : IsOpened was

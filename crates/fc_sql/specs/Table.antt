@@ -77,7 +77,7 @@ row_values n s = Int (pos n) ∷ Int (pos s.serial) ∷ program_values s.program
 abbrev pub stored_of : ℕ → StoredSlot → Row
 stored_of n s = Int (pos n) ∷ Null ∷ Int (pos s.serial) ∷ program_values s.program
 
--- the numbers are integers of SQLite.
+-- the serial and the version are below 2^63, so they are integers of SQLite.
 abbrev pub AreStorable : StoredSlot → Type 0
 AreStorable s = (s.serial < 2 ^ 63) × IfSome s.program (λ (p : StoredProgram). p.version < 2 ^ 63)
 
@@ -119,7 +119,8 @@ pub record Mirrors (s : State) (stored : StoredSlots) : Type 0 where
   pub numbered : AreNumbered (s.now.trees 0)
   pub same : AreSameSlots (slots_in_rows (s.now.trees 0)) stored
 
--- the same, as long as the medium is clean and the connection open.
+-- if the medium is clean and the connection is open, the table stores these slots, and is
+-- committed.
 abbrev pub IsMirrored : State → StoredSlots → Type 0
 IsMirrored s stored = HasCleanDisk s → IsTrue s.is_open → Mirrors s stored
 

@@ -1,4 +1,4 @@
-//! The columns of a slot's row, read as a store is opened.
+//! The columns of a slot's row, which are read when a store is opened.
 //!
 //! Clauses about a row suppose that it has four columns: serial, version, image and vars.
 ghost use Rattle.std.specs.Prelude.{◌≡◌, ◌⊎◌, ◌<◌, ◌≤◌, pos, length, IfOk, IfErr};
@@ -30,7 +30,7 @@ struct Columns {
 
 /// Returns the slot that a row stores.
 ///
-/// The row has the columns serial, version, image and vars. Returns [`Unread`] if it isn't the
+/// The row has the columns serial, version, image and vars. Returns [`Unread`] if the row isn't the
 /// state of a slot, or if memory can't be allocated.
 pub(crate) fn stored_in(row: &Row) -> Result<StoredSlot, Unread>
     ensures ok { IfOk result (λ s. length row.now ≡ 4 → (row.now ≡ state_values s) × IsSlotState s) }
@@ -42,7 +42,8 @@ pub(crate) fn stored_in(row: &Row) -> Result<StoredSlot, Unread>
     }
 }
 
-// Reads the four columns of a row.
+// Reads the four columns of a row. Returns an error if memory can't be allocated, or if a column's
+// value isn't one of its type.
 fn columns_in(row: &Row) -> Result<Columns, Unread>
     ensures ok { IfOk result (λ c. length row.now ≡ 4 → row.now ≡ column_values c) }
     ensures bad { IfErr result (λ e. length row.now ≡ 4 → AreUnreadColumns row.now e) }
@@ -87,8 +88,9 @@ fn column<T: FromSql>(row: &Row, at: usize, bad: BadRow) -> Result<T, Unread>
     }
 }
 
-// Returns the slot of these columns. A program has a version, an image and variables: if only some
-// of them are NULL, returns `BadRow::Program`.
+// Returns the slot of these columns. Returns `BadRow::Program` if some of the version, the image
+// and the variables are NULL and some aren't. Returns `BadRow::Version` if the version is above the
+// serial.
 fn slot_in(columns: Columns) -> Result<StoredSlot, BadRow>
     ensures ok { IfOk result (λ s. (column_values columns ≡ state_values s) × IsSlotState s) }
     ensures bad { IfErr result (λ why. IsBadRow why (column_values columns)) }

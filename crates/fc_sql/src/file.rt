@@ -25,8 +25,8 @@ pub fn open(rt: &HostRuntime, path: &str) -> Result<FileOfSlots, OpenError> {
 
 /// Opens the store, as [`open`] does, with a contract about its contents.
 ///
-/// `S` stands for the first contents of the files, which no program can read, and for the reading
-/// of a crash. `Wary` supposes that a torn write may leave any bytes.
+/// In contracts, `S` states the first contents of the files, which no program can read, and what a
+/// torn write may leave. `Wary` supposes that a torn write may leave any bytes.
 ///
 /// # Errors
 /// Returns why the file can't be opened, as [`open`] does.

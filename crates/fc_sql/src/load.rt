@@ -1,4 +1,4 @@
-//! Reading the stored slots of a database, as a store is opened.
+//! Reading the stored slots of a database, when a store is opened.
 //!
 //! Clauses about the database suppose that the medium is clean at the end: it returned the data
 //! that was written to it. The clause `survives` doesn't suppose this: it says which changes a
@@ -23,18 +23,18 @@ use sqlite::types::ToSql;
 use sqlite::{Alter, Connection, Error, ErrorCode, Row};
 use std::alloc::Global;
 
-/// Reads the row of a slot.
+/// The query that reads the row of a slot.
 pub const GET: &str = "SELECT serial, version, image, vars FROM slot WHERE number = ?1";
 
-/// Reads the number of each row.
+/// The query that reads the number of each row.
 pub const NUMBERS: &str = "SELECT number FROM slot";
 
 /// Reads the stored slots of a database, and creates the table in an empty one.
 ///
 /// # Errors
 /// Returns `Foreign` if the database has another table, and `Row` if a row isn't the state of a
-/// slot. Then nothing was changed. Any other error is that of the statement that failed, or of a
-/// transaction that is open.
+/// slot. In both cases nothing was changed. Any other error says why a statement failed, that
+/// memory can't be allocated, or that a transaction is open.
 pub fn load<S: Alter + Drop>(
     alloc: Global,
     conn: &mut Connection<S>,
@@ -127,7 +127,7 @@ fn read_table<S: Alter + Drop>(
     }
 }
 
-// Reads the slots 0 to 63, without a look at other rows.
+// Reads slots 0 to 63, and ignores other rows. Returns `Row` for a slot that `read_slot` refuses.
 fn read_slots<S: Alter + Drop>(
     alloc: Global,
     conn: &mut Connection<S>,
@@ -154,7 +154,8 @@ fn read_slots<S: Alter + Drop>(
     Ok(slots)
 }
 
-// Reads a slot, which is blank without a row. Returns `Row` if its rows aren't the state of a slot.
+// Reads a slot; a slot without a row is blank. Returns `Row` if the slot has several rows, or if
+// its only row isn't the state of a slot.
 fn read_slot<S: Alter + Drop>(conn: &mut Connection<S>, slot: u8) -> Result<StoredSlot, OpenError>
     requires table { HasTable (state S.Store conn.old) }
     ensures found { HasCleanDisk (state S.Store conn.new) → IfOk result (AreOfSlot (rows_of (slot_rows (state S.Store conn.old)) slot)) }
@@ -169,7 +170,7 @@ fn read_slot<S: Alter + Drop>(conn: &mut Connection<S>, slot: u8) -> Result<Stor
     }
 }
 
-// Returns the slot's number, as the rows have it.
+// Returns a slot's number as the integer that its row has.
 fn number_of(slot: u8) -> i64
     ensures { result ≡ pos slot }
 {
@@ -191,8 +192,8 @@ fn rows_of_slot<S: Alter + Drop>(conn: &mut Connection<S>, slot: u8) -> Result<V
     }
 }
 
-// Returns the slot that its rows store, or `Row` if there are several rows, or if they aren't the
-// state of a slot.
+// Returns the slot that `rows`, the rows with its number, store; it is blank if there are none.
+// Returns `Row` if there are several, or if the only one isn't the state of a slot.
 fn slot_of(rows: &[Row], slot: u8) -> Result<StoredSlot, OpenError>
     ensures ok { IfOk result (λ s. AreWide 4 rows.now → AreOfSlot rows.now s) }
     ensures bad { IfErr result (AreUnread slot rows.now) }
@@ -204,7 +205,8 @@ fn slot_of(rows: &[Row], slot: u8) -> Result<StoredSlot, OpenError>
     }
 }
 
-// Returns the slot that its only row stores, or `Row` if that isn't the state of a slot.
+// Returns the slot that its only row stores. Returns `Row` if the row isn't the state of a slot,
+// and `Memory` if memory can't be allocated.
 fn read_row(row: &Row, slot: u8) -> Result<StoredSlot, OpenError>
     ensures ok { IfOk result (λ s. length row.now ≡ 4 → AreOfSlot (row.now ∷ []) s) }
     ensures bad { IfErr result (IsUnreadRow slot row.now) }
@@ -246,8 +248,8 @@ fn numbers<S: Alter + Drop>(conn: &mut Connection<S>) -> Result<Vec<Row>, OpenEr
     }
 }
 
-// Checks that the first column of each row is the number of a slot. Returns `Row` if such a column
-// isn't.
+// Checks that the first column of each row is the number of a slot. Returns `Row` if the number in
+// some row isn't, and the failure if a row has no number.
 fn check_numbers(rows: &[Row]) -> Result<(), OpenError>
     ensures ok { OnOk result (AreSlotNumbers rows.now) }
     ensures bad { IfErr result (λ e. ((z : ℤ) × (e ≡ OpenError.Row z BadRow.Number) × HasOther rows.now z) ⊎ IsFailure e) }
@@ -260,7 +262,8 @@ fn check_numbers(rows: &[Row]) -> Result<(), OpenError>
     Ok(())
 }
 
-// Checks that the first column of a row is the number of a slot. Returns `Row` if it isn't.
+// Checks that the first column of a row is the number of a slot. Returns `Row` if it is another
+// number, and the failure if it can't be read as a number.
 fn check_number(row: &Row) -> Result<(), OpenError>
     ensures ok { OnOk result (IsSlotNumber (rowid row.now)) }
     ensures bad { IfErr result (IsOtherNumber row.now) }

@@ -72,7 +72,8 @@ fn is_column(column: &Column, name: &[u8], kind: Kind, not_null: bool) -> bool
         && column.collation == Collation::Binary
 }
 
-// Returns whether the table has no other key, check, reference or default.
+// Returns whether the table has no UNIQUE or CHECK constraint, no reference, no computed column and
+// no default.
 fn has_no_rules(table: &Table) -> bool
     ensures sound { result ≡ true → table.now ≡ without_rules table.now }
     ensures complete { table.now ≡ without_rules table.now → result ≡ true }

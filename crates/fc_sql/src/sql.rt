@@ -60,7 +60,7 @@ impl<S: Alter + Drop> SqlStore<S> {
         self.conn
     }
 
-    /// Returns the stored slots, by their numbers.
+    /// Returns the 64 stored slots, in the order of their numbers.
     pub fn slots(&self) -> &[StoredSlot]
         ensures { result.now ≡ self.now.slots.items }
     {
@@ -85,7 +85,8 @@ impl<S: Alter + Drop> Store for SqlStore<S> {
         true
     }
 
-    // Writes the slot's row, and changes the copy in memory only if the row is committed.
+    // Writes the slot's row, and changes the copy in memory only if the row is committed. Returns
+    // `false` if the row isn't committed, or if memory can't be allocated.
     fn save(&mut self, update: &SlotUpdate<'_>) -> bool {
         let slot = usize::from(update.slot);
         match self.slots[slot].after(self.alloc, update) {

@@ -11,17 +11,17 @@ use fc_store::{StoredProgram, StoredSlot};
 use sqlite::types::{ToSql, ValueRef};
 use sqlite::{Alter, Connection, params};
 
-/// Creates the table: a row for each slot that was ever updated.
+/// The statement that creates the table: a row for each slot that was ever updated.
 ///
 /// A slot without a program has no version, no image and no variables.
 pub const TABLE: &str =
     "CREATE TABLE slot (number INTEGER PRIMARY KEY, serial INTEGER NOT NULL, version INTEGER, image BLOB, vars BLOB) STRICT";
 
-/// Writes the row of a slot, and replaces the row that the slot has.
+/// The statement that writes the row of a slot, and replaces its present row.
 pub const PUT: &str =
     "INSERT OR REPLACE INTO slot (number, serial, version, image, vars) VALUES (?1, ?2, ?3, ?4, ?5)";
 
-// The greatest integer of the table.
+// The greatest integer that the table can store.
 const GREATEST: u64 = 9_223_372_036_854_775_807;
 
 /// Writes the row of `slot`, and returns whether it is written and committed.

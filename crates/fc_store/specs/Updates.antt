@@ -5,7 +5,7 @@ use Rattle.fc_store.specs.declared.store.ProgramUpdate.{ProgramUpdate}
 use Rattle.fc_store.specs.declared.store.ProgramUpdate.TheVariants.{Install, Commit, Remove}
 use Rattle.fc_store.specs.declared.store.SlotUpdate.{SlotUpdate}
 
--- a stored program with other variables.
+-- a stored program with other variables; `None` if there is no program.
 abbrev pub with_stored_vars : List ℕ → Option StoredProgram → Option StoredProgram
 with_stored_vars vars None = None
 with_stored_vars vars (Some p) = Some (record p { vars = vars })
@@ -24,7 +24,7 @@ slot_after u before = record { serial = u.serial; program = program_after u.seri
 abbrev pub slots_after : SlotUpdate → StoredSlots → StoredSlots
 slots_after u before n = if n == u.slot then slot_after u (before n) else before n
 
--- the two are equal in each of the 64 slots.
+-- the states `a` and `b` are equal in each of the 64 slots.
 abbrev pub AreSameSlots : StoredSlots → StoredSlots → Type 0
 AreSameSlots a b = (n : ℕ) → n < 64 → a n ≡ b n
 

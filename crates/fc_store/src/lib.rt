@@ -4,7 +4,7 @@
 //! [`SlotUpdate`]: the slot's next serial (its revision counter) and the change of its program. If
 //! the call returns `true`, each start after a later crash finds the update, until the next update
 //! is saved. If it returns `false`, the stored slots don't change and the server must not make the
-//! change; a start after a crash may then find the slots with or without the update.
+//! change. A start after a crash may then find the slots with or without the update.
 //!
 //! ```rust
 //! use fc_store::{ProgramUpdate, SlotUpdate, Store};
@@ -22,12 +22,12 @@
 //!
 //! # What is proved
 //!
-//! - A save that returns `true` stores just its update, of its slot alone. A save that returns
+//! - A save that returns `true` stores its update, and changes no other slot. A save that returns
 //!   `false` leaves all stored slots as they were.
 //! - While the medium returns the data that was written to it, a start after a crash finds just the
 //!   stored slots if the last save returned `true`. If that save returned `false`, a start finds
 //!   slots that it could find before the call, or the slots with that update.
-//! - A store in memory and an optional store meet these clauses.
+//! - A store in memory and an optional store guarantee this too.
 //!
 //! By the contracts of `StoredSlot::after`, `MemoryStore::new`, the clauses of `Store`.
 #![tactic(auto)]

@@ -1,6 +1,6 @@
 //! A store in memory, for tests.
 //!
-//! It is lost when the process ends, and can be set to refuse updates.
+//! Its slots are lost when the process ends. A test can make it refuse updates.
 ghost use Rattle.std.specs.Prelude.{◌≡◌, ◌<◌, ℕ, true, false, length, replicate, IfOk};
 ghost use Rattle.fc_store.specs.Updates.{AreSameSlots};
 ghost use Rattle.fc_store.specs.Stored.{blank_slot, stored_in};
@@ -37,7 +37,7 @@ impl MemoryStore {
         })
     }
 
-    /// Returns the stored slots, by their numbers.
+    /// Returns the 64 stored slots, in the order of their numbers.
     pub fn slots(&self) -> &[StoredSlot]
         ensures { result.now ≡ self.now.slots.items }
     {

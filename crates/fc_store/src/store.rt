@@ -14,7 +14,7 @@ pub enum ProgramUpdate<'a> {
     Remove,
 }
 
-/// An update of a slot, 0 to 63: the next serial and the change.
+/// An update of a slot, 0 to 63: its next serial and the change of its program.
 ///
 /// It must be saved before the change is made.
 #[derive(Clone, Copy)]
@@ -50,9 +50,9 @@ pub trait Store {
 
     /// Saves `update`, and returns whether it is stored.
     ///
-    /// If it returns `true`, a start after a later crash finds the update.
+    /// If the result is `true`, a start after a later crash finds the update.
     ///
-    /// If it returns `false`, the stored slots don't change. A start after a crash then finds
+    /// If the result is `false`, the stored slots don't change. A start after a crash then finds
     /// either slots that it could have found before the call, or the slots with `update`.
     fn save(&mut self, update: &SlotUpdate<'_>) -> bool
         requires persistent { persistent self.old ≡ true }

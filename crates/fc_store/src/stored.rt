@@ -68,7 +68,7 @@ impl StoredSlot {
         })
     }
 
-    // Copies its program with other variables; `None` if it has no program.
+    // Copies the slot's program with other variables; `None` if the slot has no program.
     fn with_vars(&self, alloc: Global, vars: &[u8]) -> Result<Option<StoredProgram>, AllocError>
         ensures { IfOk result (λ p. p ≡ with_stored_vars vars.now self.now.program) }
     {

@@ -21,7 +21,7 @@ use Rattle.fc_tools.specs.declared.diagnosis.Diagnosis.{Diagnosis}
 use Rattle.fc_tools.specs.declared.diagnosis.Cause.{Cause}
 use Rattle.fc_tools.specs.declared.diagnosis.Cause.TheVariants.{Header, Slot, Flow, Back, Frames, Cost, Typing}
 
--- the error after a conversion.
+-- if the error of a result is e, a property of e is one of the result's error.
 pub err_of : {T E : Type 0} (r : Result T E) (e : E) (P : E → Type 0) → IsErrAnd r (λ x. x ≡ e) → P e → IfErr r P
 err_of (Ok x) e P h p = absurd h
 err_of (Err x) e P h p = subst P (sym h) p
@@ -31,7 +31,7 @@ pub whole_slot : (bytes : List ℕ) (slot count : ℕ) (rule : Rule) → length 
 unfolding fault_at
 whole_slot bytes slot count rule n e = grind (arith, n, e)
 
--- a slot of the shape's fault is one of the program.
+-- the slot of a fault of the control flow is a slot of the program.
 pub fault_within : (head : Head) (code : List Insn) (slot : ℕ) (rule : Rule) → IsShapeFault head code slot rule → slot < length code
 fault_within head code slot rule f = slice_get_within code slot f.insn f.stands
 

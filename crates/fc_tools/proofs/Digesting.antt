@@ -4,7 +4,7 @@ use Rattle.std.specs.Io.KnownBytes.{Appends}
 use Rattle.std.proofs.lemmas.List.{length-take, take_all}
 use Rattle.fc_tools.specs.Digests.{IsDigested, IsTooLong, digest_text, longest_image, read_of}
 
--- at most so many bytes are read
+-- if at most 524,297 bytes of the input are read, they are those of `read_of`
 pub read_whole : (limit : ℕ) (rest known : Option (List ℕ)) (old new : List ℕ) → limit ≡ 524297 → rest ≡ known → old ≡ [] → IfSome (option_map (take limit) rest) (λ xs. new ≡ old ++ xs)
     → IfSome known (λ bytes. new ≡ read_of bytes)
 read_whole limit None known old new l r o h = subst (λ (x : Option (List ℕ)). IfSome x (λ bytes. new ≡ read_of bytes)) r tt
@@ -12,13 +12,13 @@ read_whole limit (Some bytes) known old new l r o h =
     subst (λ (x : Option (List ℕ)). IfSome x (λ bytes. new ≡ read_of bytes)) r
     (h ∙ ap (λ (x : List ℕ). x ++ take limit bytes) o ∙ ap (λ (n : ℕ). take n bytes) l)
 
--- no more than an image has
+-- if no more bytes were read than the longest image has, the input has no more
 fits : (n : ℕ) (bytes image : List ℕ) → image ≡ read_of bytes → n ≡ length image → n ≤ longest_image → length bytes ≤ longest_image
 fits n bytes image is counted few =
     let cut = ap length is ∙ length-take (longest_image + 1) bytes in
     omega (arith, cut, counted, few)
 
--- or more
+-- if more bytes were read than the longest image has, the input has more
 exceeds : (n : ℕ) (bytes image : List ℕ) → image ≡ read_of bytes → n ≡ length image → longest_image < n → longest_image < length bytes
 exceeds n bytes image is counted many =
     let cut = ap length is ∙ length-take (longest_image + 1) bytes in

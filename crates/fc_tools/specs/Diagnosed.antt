@@ -78,15 +78,16 @@ pub record IsDiagnosisOf (image : List ℕ) (d : Diagnosis) : Type 0 where
   pub fault : IsFaultOf image (judged image) d.fault
   pub cause : IsCauseOf image d.fault d.cause
 
--- a lack of memory is reported only for an image with a right header.
+-- a rejection has a diagnosis of the image, or is a lack of memory; the latter is reported only if
+-- the header breaks no rule.
 abbrev pub IsRejection : List ℕ → Rejection → Type 0
 IsRejection image (Broken d) = IsDiagnosisOf image d
 IsRejection image NoMemory = head_fault image ≡ None
 
--- the image is accepted, as some program.
+-- the image's judgement is that some program is accepted.
 abbrev pub IsAcceptable : List ℕ → Type 0
 IsAcceptable image = (p : Program) × (judged image ≡ Accepts p)
 
--- the image isn't accepted, as any program.
+-- the image's judgement isn't that a program is accepted.
 abbrev pub IsUnacceptable : List ℕ → Type 0
 IsUnacceptable image = (p : Program) → judged image ≡ Accepts p → ⊥

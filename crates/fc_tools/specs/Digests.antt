@@ -12,7 +12,7 @@ use Rattle.fc_cli.specs.declared.status.Status.TheVariants.{Done, Refused, Bad, 
 abbrev pub digest_text : List ℕ → List ℕ
 digest_text image = encode_lower (sha256 image)
 
--- the same digits, as a line.
+-- the digits of the digest, as a line.
 abbrev pub digest_line : List ℕ → List ℕ
 digest_line image = digest_text image ++ 10 ∷ []
 

@@ -61,7 +61,7 @@ read_by (CallHelper number) = arguments_read number
 read_by Exit = 0 ∷ []
 read_by other = []
 
--- these registers have the same abstract values.
+-- these registers have the same abstract values in both states.
 abbrev pub AreSame : List ℕ → List Kind → List Kind → Type 0
 AreSame [] before other = Unit {0}
 AreSame (r ∷ more) before other = (kind_at before r ≡ kind_at other r) × AreSame more before other

@@ -30,7 +30,8 @@ pub record IsImageOf (text : List ℕ) (vars_size budget : ℕ) (version : Image
   pub limits : limit_fault (program_head vars_size budget version program) ≡ None
   pub bytes_are : image ≡ head_bytes (program_head vars_size budget version program) ++ encoded program
 
--- the same, with the number of steps of the program's longest path as the budget.
+-- the image is that of the source, and its budget is the number of steps on the program's longest
+-- path.
 pub record IsPricedImageOf (text : List ℕ) (vars_size : ℕ) (version : ImageVersion) (image : List ℕ) : Type 0 where
   pub budget : ℕ
   pub image_is : IsImageOf text vars_size budget version image
@@ -43,7 +44,7 @@ pub record IsListingOf (image text : List ℕ) : Type 0 where
   pub spelled : Spells (drop 16 image) program
   pub listed : text ≡ listing program
 
--- the same with slot numbers.
+-- the image's slots encode a program, and the text is its disassembly with slot numbers.
 pub record IsNumberedListingOf (image text : List ℕ) : Type 0 where
   pub head : head_fault image ≡ None
   pub program : List Insn

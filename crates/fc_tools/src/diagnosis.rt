@@ -29,7 +29,7 @@ pub const GREATEST_BUDGET: u32 = 65_536;
 pub struct Diagnosis {
     /// The first broken rule, and its slot.
     ///
-    /// If only the typing is missing, it is some rule from 20 to 28.
+    /// If only the typing is missing, the rule is one from 20 to 28.
     pub fault: Fault,
     /// The evidence.
     pub cause: Cause,
@@ -55,7 +55,7 @@ impl fmt::Debug for Diagnosis {
 /// The evidence that a rule is broken.
 #[derive(Clone, Copy)]
 pub enum Cause {
-    /// The header.
+    /// The header; no other evidence is given.
     Header,
     /// The bytes of a slot that encodes no instruction.
     Slot([u8; 8]),
@@ -63,7 +63,7 @@ pub enum Cause {
     Flow(Insn),
     /// The slot's instruction, a jump that leads to no later slot.
     ///
-    /// It comes with the reason why it isn't the jump of a counted loop.
+    /// `reason` says why the jump isn't that of a counted loop.
     Back {
         insn: Insn,
         reason: Uncounted,
@@ -78,9 +78,9 @@ pub enum Cause {
         cost: Option<u32>,
         budget: u32,
     },
-    /// The slot's instruction, and the precondition that doesn't hold.
+    /// The slot's instruction, and the demand that isn't met.
     ///
-    /// The registers' abstract values before the instruction come with them.
+    /// `known` has the registers' abstract values before the instruction.
     Typing {
         insn: Insn,
         known: Regs,
@@ -125,7 +125,8 @@ impl From<AllocError> for Rejection {
 ///
 /// # Errors
 /// Returns `Broken` with the first broken rule and its evidence. If only the typing is missing, the
-/// rule is one from 20 to 28. Returns `NoMemory` if memory can't be allocated.
+/// rule is one from 20 to 28. Returns `NoMemory` if memory can't be allocated, but only for an
+/// image whose header breaks no rule.
 pub fn diagnose(alloc: Global, image: &[u8]) -> Result<(), Rejection>
     ensures accepted { IfOk result (λ u. IsAcceptable image.now) }
     ensures rejected { IfErr result (IsRejection image.now) }
@@ -191,7 +192,7 @@ fn slot_bytes(image: &[u8], slot: usize) -> [u8; 8]
 
 /// Computes the cost of a program: the most steps on any path to its exit.
 ///
-/// A diagnosis uses it, and so does the budget `auto`.
+/// Diagnoses and the budget `auto` use the cost.
 ///
 /// # Errors
 /// Returns the least rule of the control flow, 11 to 17, that a slot breaks, with the evidence.
@@ -235,8 +236,8 @@ fn shape_cause(head: &Head, code: &[Insn], fault: Fault) -> Cause
 
 /// Returns the evidence that the jump at a slot goes back without a counted loop.
 ///
-/// The jump leads to no later slot. The evidence has the reason why the jump isn't a counted
-/// loop's.
+/// The jump leads to no later slot. The evidence has the reason why the jump isn't that of a
+/// counted loop.
 #[tactic(auto, unfolding(fc_image::specs::ShapeRules::breaks_shape))]
 fn back(head: &Head, code: &[Insn], slot: usize) -> Cause
     requires count { length code.now ≡ head.now.count }

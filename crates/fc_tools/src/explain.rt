@@ -17,7 +17,8 @@ use std::io::Write;
 
 /// Writes why an image is refused.
 ///
-/// Writes the rule, the evidence that it is broken, and the change to make, each on its own lines.
+/// Writes the rule, the evidence that the rule is broken, and the change to make, each on its own
+/// lines.
 ///
 /// # Errors
 /// Returns an error if writing fails, or if memory can't be allocated.
@@ -65,7 +66,9 @@ pub fn explain_form<W: Write>(out: &mut W, text: &[u8], bad: BadForm) -> io::Res
     writeln!(out, "change: {}", bad.form.correction())
 }
 
-// Writes the line with this number, or nothing if it is missing or isn't UTF-8.
+// Writes the line with this number.
+//
+// Writes nothing if there is no such line, or if the source isn't UTF-8.
 fn write_line<W: Write>(out: &mut W, text: &[u8], line: usize) -> io::Result<()> {
     match line_of(text, line) {
         Some(code) => writeln!(out, "line {line}: {code}"),
@@ -75,7 +78,7 @@ fn write_line<W: Write>(out: &mut W, text: &[u8], line: usize) -> io::Result<()>
 
 // Returns the line of a source with this number, counted from 1.
 //
-// Returns `None` if there is none, or if the source isn't UTF-8.
+// Returns `None` if there is no such line, or if the source isn't UTF-8.
 fn line_of(text: &[u8], line: usize) -> Option<&str> {
     let text = str::from_utf8(text).ok()?;
     text.split('\n').nth(line.checked_sub(1)?)
@@ -138,7 +141,7 @@ fn write_cause<W: Write>(alloc: Global, out: &mut W, slot: usize, cause: &Cause)
     }
 }
 
-// Writes the abstract values of the registers that a precondition is about.
+// Writes the abstract values of the registers on which a demand depends.
 //
 // For a loop's counter, the loop is written too.
 fn write_demand<W: Write>(

@@ -5,7 +5,7 @@ ghost use Rattle.fc_tools.specs.Reads.{argument_list, arguments_read, arithmetic
 use fc_help::{Arguments, helper_of, signature_of};
 use fc_isa::{AluOp, Insn, Operand, Reg, Target};
 
-/// The registers that an instruction reads, in the order of its line.
+/// The registers that an instruction reads, in the order of the instruction's line.
 #[derive(Clone, Copy)]
 pub enum Reads {
     Nothing,
@@ -15,7 +15,7 @@ pub enum Reads {
 
 /// Returns the registers that an instruction reads.
 ///
-/// Their abstract values decide whether its preconditions hold.
+/// The abstract values of these registers decide whether the instruction's preconditions hold.
 pub fn registers_read(insn: Insn) -> Reads
     ensures { registers_in result ≡ read_by insn }
 {

@@ -19,7 +19,7 @@ use thiserror::Error;
 pub struct Asked {
     /// A GET or POST of slot 0, whose payload has no Content-Format.
     pub request: Request,
-    /// The variables; zeros if none are given.
+    /// The variables, or `None` if none are given: they are zeros then.
     pub vars: Option<Vars>,
     /// The readings of the device.
     pub readings: Readings,
@@ -72,8 +72,8 @@ impl AskedError {
 impl Asked {
     /// Parses a GET or POST of slot 0 with this payload and query.
     ///
-    /// Also parses the variables, if they are given. All are hex digits of either case. The
-    /// readings are zeros.
+    /// Also parses the variables, if they are given. Payload, query and variables are hex digits of
+    /// either case. The readings are zeros.
     ///
     /// # Errors
     /// Returns an error if a part isn't hex digits, or has too many bytes for a request (payload
@@ -104,7 +104,7 @@ impl Asked {
     /// The digits encode at most 64 bytes, and zeros follow.
     ///
     /// # Errors
-    /// Returns an error if they aren't hex digits, or encode more bytes; or if memory can't be
+    /// Returns an error if `digits` aren't hex digits, or encode more bytes; or if memory can't be
     /// allocated.
     pub fn with_readings(self, alloc: Global, digits: &str) -> Result<Asked, AskedError>
         ensures spelled { IfOk result (λ a. SpellReadings digits.now a.readings) }

@@ -47,7 +47,7 @@ fn variables(program: &Verified, given: &Option<Vars>) -> Result<Vars, ToolError
 /// Returns a copy of the given variables if they have the program's size.
 ///
 /// # Errors
-/// Returns an error if they have another size.
+/// Returns an error if the given variables have another size.
 fn sized(vars: &Vars, size: u16) -> Result<Vars, ToolError>
     ensures found { IfOk result (λ v. v ≡ vars.now) }
     ensures size { IfOk result (λ v. length v ≡ size) }

@@ -31,12 +31,12 @@ use thiserror::Error;
 
 /// Maximum length of an image whose slots can be counted, in bytes.
 ///
-/// It has a header, and 65,535 slots of eight bytes.
+/// Such an image has a header, and 65,535 slots of eight bytes.
 pub(crate) const LONGEST_IMAGE: u64 = 16 + 8 * 65_535;
 
 /// Maximum length of a source, in bytes.
 ///
-/// The longest disassembly has 32,768: 1,024 lines of 32 bytes.
+/// The longest disassembly has 32,768 bytes: 1,024 lines of 32 bytes.
 const LONGEST_TEXT: u64 = 1_048_576;
 
 /// The errors of a command.
@@ -112,9 +112,8 @@ impl From<Rejection> for ToolError {
 /// Returns:
 ///
 /// - `Done` if the image is written;
-/// - `Refused` if the source has more than 1,048,576 bytes or a mistake; or else if a number of the
-///   header is out of its limits; or if the budget is to be the cost and the control flow breaks a
-///   rule;
+/// - `Refused` if the source has more than 1,048,576 bytes or a mistake; if a number of the header
+///   is out of its limits; or if the budget is to be the cost and the control flow breaks a rule;
 /// - `Failed` if reading or writing fails, or if memory can't be allocated.
 ///
 /// Writes the reason to `err`: a line with the mistake or the rule, and then the lines of
@@ -191,7 +190,7 @@ pub fn list<R: Read, W: Write, E: Write>(
 /// The line has the cost and the budget, or the first broken rule. Returns:
 ///
 /// - `Done` if the image is accepted;
-/// - `Refused` if it isn't, and then `explain` writes the reason to `err`;
+/// - `Refused` if the image isn't accepted, and then `explain` writes the reason to `err`;
 /// - `Failed` if reading or writing fails, or if memory can't be allocated; the reason is written
 ///   to `err`.
 pub fn check<R: Read, W: Write, E: Write>(
@@ -305,7 +304,8 @@ fn read_image<R: Read>(alloc: Global, input: &mut R) -> Result<Vec<u8>, ToolErro
 
 /// Reads an image.
 ///
-/// If an image is too long for its slots to be counted, reads one byte more than the maximum.
+/// If the image is longer than any whose slots can be counted, reads one byte more than that
+/// maximum.
 ///
 /// # Errors
 /// Returns an error if reading fails, or if memory can't be allocated.
@@ -448,7 +448,7 @@ fn diagnosis_of(alloc: Global, image: &[u8]) -> Result<Diagnosis, AllocError>
 
 /// Assembles a source into an image.
 ///
-/// In a source that isn't UTF-8, the first line has an unknown word.
+/// A source that isn't UTF-8 is reported as an unknown word (A1) in the first line.
 ///
 /// # Errors
 /// Returns the first line with a mistake, and the first of these mistakes that the line has: an
@@ -471,7 +471,7 @@ pub fn image_of(
 
 /// Assembles a source into an image whose budget is the program's cost.
 ///
-/// That is the least budget that the program may have.
+/// The cost is the least budget that the program may have.
 ///
 /// # Errors
 /// Returns the errors of `image_of`. If no rule of the header is broken, returns the first rule of
@@ -510,7 +510,7 @@ fn priced_head(vars_size: u16, program: &[Insn], version: ImageVersion) -> Resul
 
 /// Assembles the program of a source.
 ///
-/// A source that isn't UTF-8 has an unknown word in its first line.
+/// A source that isn't UTF-8 is reported as an unknown word in the first line.
 fn program_of(alloc: Global, text: &[u8]) -> Result<Vec<Insn>, ToolError>
     ensures program { IfOk result (λ v. IsAssembled (lines_of text.now) v.items) }
     ensures slots { IfOk result (λ v. IsTrue (is_program v.items)) }

@@ -6,7 +6,7 @@ use fc_isa::ImageVersion;
 
 /// Parses the version for a new image.
 ///
-/// The word `1` or `2` names the version; without a word it is version 1. Returns `None` for any
+/// The word `1` or `2` names the version. Without a word, the version is 1. Returns `None` for any
 /// other word.
 pub fn version_named(word: Option<&str>) -> Option<ImageVersion>
     ensures { IfSome result (NamesVersion (option_copied word.entry)) }

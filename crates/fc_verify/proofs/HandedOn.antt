@@ -38,7 +38,7 @@ leads_wider states slot ks wider w l = record { state = l.state; state_is = l.st
 pub are_within_then : (a b c : States) → AreWithin a b → AreWithin b c → AreWithin a c
 are_within_then a b c p q = record { each = λ slot kinds e. leads_then b c slot kinds (p.each slot kinds e) q }
 
--- a slot's state, if another slot's was set
+-- setting the state of one slot doesn't change that of another
 pub set_other : (states : States) (slot k : ℕ) (s : Option (List Kind)) → k ≢ slot → state_at (slice_set states slot s) k ≡ state_at states k
 set_other states slot k s n = get_or-set_other states slot k s None n
 
@@ -59,7 +59,8 @@ met_leads states slot kinds lt = go (state_at states slot) (met_here states slot
     go None e = leads_same (meet_at states slot kinds) slot kinds e
     go (Some state) e = record { state = joined state kinds; state_is = e; within = joined_right state kinds }
 
--- a property of each state and of the joined state holds for each state after, if joins keep it
+-- if joins keep a property, and each state and the state to join have it, each state after the join
+-- has it
 pub met_all : (P : ℕ → List Kind → Type 0) (states : States) (slot : ℕ) (kinds : List Kind) → ((k : ℕ) (a b : List Kind) → P k a → P k b → P k (joined a b))
     → ((k : ℕ) (ks : List Kind) → state_at states k ≡ Some ks → P k ks) → P slot kinds → (k : ℕ) (ks : List Kind)
     → state_at (meet_at states slot kinds) k ≡ Some ks → P k ks
@@ -125,7 +126,7 @@ pub all_parts : (P : ℕ → List Kind → Type 0) (ws vs : List Way) → AllWay
 all_parts P [] vs a = (tt, a)
 all_parts P (w ∷ ws) vs a = let r = all_parts P ws vs a.1 in ((a.0, r.0), r.1)
 
--- the same, by the form of the flow
+-- each branch along a flow has the property
 abbrev pub WaysBy : (ℕ → List Kind → Type 0) → Flow → Insn → List Kind → List Kind → Type 0
 WaysBy P Halts insn before after = Unit {0}
 WaysBy P (Goes next) insn before after = P next after

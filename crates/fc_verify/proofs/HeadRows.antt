@@ -29,12 +29,12 @@ move r s = Alu Mov W64 r (Reg s)
 abbrev add : ℕ → ℕ → Insn
 add r n = Alu Add W64 r (Imm (pos n))
 
--- `jlt r, n` back over this many slots and itself
+-- `jlt r, n` back over `over` slots and its own
 abbrev jump : ℕ → ℕ → ℕ → Insn
 jump r n over = JumpIf (record { width = W64; relation = Lt; left = r; right = Imm (pos n); offset = negsuc over })
 
--- the sum of the payload's first bytes, with the first slot and the fifth, the step and the bound,
--- and the number of slots that the jump goes back over
+-- a program that sums the payload's first bytes. Given are the instructions of its first and fifth
+-- slots, the step and the bound, and the number of slots that the jump goes back over
 abbrev sum_over : ℕ → Insn → Insn → ℕ → ℕ → List Insn
 sum_over over first fifth step bound =
     first ∷ put 7 0 ∷ move 1 6 ∷ CallHelper (pos 2) ∷ fifth ∷ add 6 step ∷ jump 6 bound over ∷ move 1 7 ∷ CallHelper (pos 6) ∷ put 0 0 ∷ Exit ∷ []
@@ -65,23 +65,25 @@ sum_budget : (shape_fault (head Two 26) (sum 1 4) ≡ None) × (shape_fault (hea
 unfolding shape_fault breaks_shape longest cost_in loops_of costs is_start frames
 sum_budget = (refl, refl)
 
--- a bound of 0 or 1,025, and a jump to itself
+-- these jumps don't have the form of a back jump: a bound of 0, a bound of 1,025, and a jump to
+-- itself
 form_of_jumps : breaks_form (sum 1 0) × breaks_form (sum 1 1025) × breaks_form (sum_over 0 (put 6 0) (Alu Add W64 7 (Reg 0)) 1 4)
 unfolding shape_fault breaks_shape longest cost_in loops_of costs is_start frames
 form_of_jumps = (refl, refl, refl)
 
--- the counter is written, the body has an exit, and a jump skips the addition
+-- these bodies disturb the loop: one writes the counter, one has an exit, and one has a jump past
+-- the addition
 form_of_bodies : breaks_form (sum_with (put 6 0) (put 6 0)) × breaks_form (sum_with (put 6 0) Exit) × breaks_form (sum_with (put 6 0) (JumpAlways (pos 1)))
 unfolding shape_fault breaks_shape longest cost_in loops_of costs is_start frames
 form_of_bodies = (refl, refl, refl)
 
--- a sum has a typing; with a pointer written in its body it has none, and with a counter that
--- starts at the bound it has none
+-- a sum has a typing; a sum whose body writes a pointer has none, and a sum whose counter starts at
+-- the bound has none
 sum_types : (is_typable Two 0 (sum 1 4) ≡ true) × (is_typable Two 0 (sum_with (put 6 0) (move 8 10)) ≡ false) × (is_typable Two 0 (sum_with (put 6 4) (Alu Add W64 7 (Reg 0))) ≡ false)
 unfolding is_written has_call settled pass_from loops_of transfer alu_kind when alu_interval interval_of refined
 sum_types = (refl, refl, refl)
 
--- loops are nested: 1 + 3 * (1 + 2 * 3 + 2) + 1 steps
+-- the nested loops take 1 + 3 * (1 + 2 * 3 + 2) + 1 steps
 nested_row : (longest Two nested ≡ 29) × (is_typable Two 0 nested ≡ true)
 unfolding longest cost_in costs is_written has_call settled pass_from loops_of transfer alu_kind when alu_interval interval_of refined
 nested_row = (refl, refl)

@@ -49,7 +49,8 @@ formed_at code l ks (suc (suc (suc (suc (suc (suc (suc (suc (suc zero))))))))) l
 formed_at code l ks (suc (suc (suc (suc (suc (suc (suc (suc (suc (suc zero)))))))))) lt = refl
 formed_at code l ks (suc (suc (suc (suc (suc (suc (suc (suc (suc (suc (suc r))))))))))) lt = absurd (omega (arith, lt))
 
--- a property of each register in the loop invariant
+-- a property of each register's abstract value in the loop invariant, and of `Unset`, is one of all
+-- entries of the state
 pub formed_all : (P : ℕ → Kind → Type 0) (code : List Insn) (l : Loop) (ks : List Kind) → ((r : ℕ) → P r (formed_kind code l r (kind_at ks r))) → ((r : ℕ) → 11 ≤ r → P r Unset) → (r : ℕ) → P r (kind_at (formed code l ks) r)
 formed_all P code l ks p u r = elim (cases_lt r 11) [
   | inl lt ↦ subst (P r) (sym (formed_at code l ks r lt)) (p r)
@@ -280,7 +281,7 @@ written vars (CallHelper number) ks after r len e n = helped vars number (helper
 written vars (CallLocal offset) ks after r len e n = called (CallLocal offset) (num (all 64)) ks after r len (λ i. refl) refl refl (cc e)
 written vars Exit ks after r len e n = kept Exit _ ks after r refl e
 
--- in a body an instruction keeps the state under the head's
+-- an instruction of a body keeps the state under the head's
 pub body_keeps : (vars : ℕ) (code : List Insn) (l : Loop) (slot : ℕ) (insn : Insn) (head ks after : List Kind) → l.head ≤ slot → slot ≤ l.last → slice_get code slot ≡ Some insn → IsInsn insn → IsHeadState code l head → AreKinds ks → AreKinds after → IsUnder l head ks
     → transfer vars insn ks ≡ Some after → gives_number (computes insn) after ≡ true → IsUnder l head after
 unfolding is_written has_call

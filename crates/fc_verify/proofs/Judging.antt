@@ -33,7 +33,7 @@ use Rattle.fc_isa.proofs.Low.{low_fault_at}
 use Rattle.fc_verify.proofs.LowHead.{head_rule_low}
 use Rattle.fc_image.proofs.Written.{few_slots}
 
--- the typing's judgement of the program in an image
+-- whether the program in an image has a typing
 abbrev pub types : List ℕ → Bool
 types image = is_typable (stated image).version (stated image).vars_size (code_in image)
 
@@ -57,7 +57,7 @@ pub judged_accepts : (image : List ℕ) → head_fault image ≡ None → first_
 unfolding judged
 judged_accepts image e f s t = rw (e, f, s, t) refl
 
--- the result of an error's conversion
+-- if the error of a result is e, a property of e is one of the result's error
 pub err_is : {T : Type 0} (r : Result T Refusal) (e : Refusal) (P : Refusal → Type 0) → IsErrAnd r (λ x. x ≡ e) → P e → IfErr r P
 err_is (Ok x) e P h p = absurd h
 err_is (Err x) e P h p = subst P (sym h) p
@@ -68,7 +68,7 @@ fault_of image j f e h = subst (λ k. IsFaultOf image k f) (sym e) h
 pub refused_head : (image : List ℕ) (f : Fault) → head_fault image ≡ Some f.rule → f.slot ≡ 0 → IsRefusal image (Broken f)
 refused_head image f e z = fault_of image (Breaks f.rule 0) f (judged_head image f.rule e) (refl, z, head_rule_low image f.rule e)
 
--- one instruction for each eight bytes
+-- the program in an image has one instruction for each eight bytes of its slots
 pub code_count : (image : List ℕ) → length (code_in image) ≡ length (slots_of image) / 8
 unfolding decoded_program
 code_count image = length-insns_below (slots_of image) (length (slots_of image) / 8)
@@ -113,7 +113,8 @@ untyped_of image head code h k s nested =
     untyped_program head.version (slots_of image) code (omega (arith, h.limits.some, c, k.count)) (omega (arith, few, c, k.count)) k.spelled s
     (few_frames head.version (frames code) nested)
 
--- the control-flow fault of the program in the image, and its typing's judgement
+-- the control-flow fault of the decoded program is that of the program in the image; so is its
+-- typing's judgement
 pub shape_of : (image : List ℕ) (head : Head) (code : List Insn) (o : Option (ℕ × Rule)) → IsHeadOf image head → IsCodeOf image code → shape_fault head code ≡ o → shape_fault (stated image) (code_in image) ≡ o
 shape_of image head code o h k e = ap (λ x. shape_fault x (code_in image)) (sym h.stated_is) ∙ ap (shape_fault head) (sym k.code_is) ∙ e
 

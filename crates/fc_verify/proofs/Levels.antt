@@ -1,4 +1,4 @@
--- The levels of stack frames in a pass with heads: a loop invariant has no more of them.
+-- The levels of stack frames in the pass: a loop invariant raises no level.
 use Rattle.std.proofs.Common.{◌≡◌, ℕ, zero, suc, ◌+◌, ◌<◌, ◌≤◌, Bool, true, false, Option, Some, None, List, [], ◌∷◌, subst, arith}
 use Rattle.std.specs.Prelude.{slice_set}
 use Rattle.fc_isa.specs.declared.insn.Insn.{Insn}
@@ -45,7 +45,7 @@ settled_shallow top code (Some l) found kinds e h = go (enters l (kind_at found 
     go true g = let same : formed code l found ≡ kinds = cc g in subst (AreShallow top) same (formed_shallow top code l found h)
     go false g = absurd (cc g)
 
--- no state has a stack frame more than `top` levels above
+-- no state has a pointer into a stack frame more than `top` levels above the current one
 abbrev pub AreLow : ℕ → States → Type 0
 AreLow top states = (slot : ℕ) (kinds : List Kind) → state_at states slot ≡ Some kinds → AreShallow top kinds
 

@@ -1,4 +1,5 @@
--- The pass over the slots: its result is a typing, and if it has no result there is none.
+-- The pass over the slots: the pass's result is a typing, and if the pass has no result, the
+-- program has no typing.
 use Rattle.std.proofs.Common.{◌≡◌, ◌≢◌, ◌⊎◌, ℕ, zero, suc, ◌+◌, ◌<◌, ◌≤◌, ◌&&◌, ◌||◌, not, nat_eq, true, false, Bool, if◌then◌else◌, Option, Some, None, List, [], ◌∷◌, length, map, refl, sym, ap, ◌∙◌, subst, inl, inr, arith, length-set, get_or-set_same}
 use Rattle.std.specs.Prelude.{is_some, slice_get, slice_set}
 use Rattle.std.proofs.lemmas.Int.{ints}
@@ -89,7 +90,7 @@ inside_is (m ∷ loops) (suc i) slot l e a b = either (is_in m slot) (inside_is 
 pub sound_of : (code : List Insn) (l : Loop) → IsLoop code l → IsSound l
 sound_of code l i = record { counter = i.counter; some = i.some; few = i.few }
 
--- a flow's slots are slots of the program
+-- a property of all states at slots of the program is one of each branch along a flow
 flow_below : (P : ℕ → List Kind → Type 0) (count : ℕ) (loops : List Loop) (slot : ℕ) (f : Flow) (insn : Insn) (before after : List Kind)
     → ((i : ℕ) (l : Loop) → slice_get loops i ≡ Some l → l.head < count) → IsOnward count loops slot f → ((t : ℕ) (ks : List Kind) → t < count → P t ks) → WaysBy P f insn before after
 flow_below P count loops slot Halts insn before after h o p = tt
@@ -103,7 +104,7 @@ flow_below P count loops slot (Enters start next) insn before after h o p = (p s
 
 -- ---- soundness: the invariants of the pass
 
--- the loop's head was passed, and this state is under its state
+-- the loop's head was passed, and this state is under that of the head
 record IsFound (slot : ℕ) (states : States) (l : Loop) (ks : List Kind) : Type 0 where
   passed : l.head < slot
   head : List Kind
@@ -140,7 +141,8 @@ under_same l ks = record { each = λ r n. kind_within_same (kind_at ks r) }
 under_then : (l : Loop) (head a b : List Kind) → Within a b → IsUnder l head b → IsUnder l head a
 under_then l head a b w u = record { each = λ r n. within_trans (kind_at a r) (kind_at b r) (kind_at head r) (w.each r) (u.each r n) }
 
--- the state with which a slot is passed
+-- a slot that is found with the state `found` is passed with `kinds`, and `after` is the state
+-- after its instruction
 pub record Passed (vars : ℕ) (code : List Insn) (loops : List Loop) (slot : ℕ) (insn : Insn) (found kinds after : List Kind) : Type 0 where
   pub settled_is : settled code (begins loops slot) found ≡ Some kinds
   pub effect : transfer vars insn kinds ≡ Some after
@@ -190,7 +192,7 @@ unfolding settled
 settled_fit code None found kinds l f e = let same : found ≡ kinds = cc e in subst AreKinds same f
 settled_fit code (Some m) found kinds l f e = (settles code m found kinds (sound_of code m l) f e).kinds
 
--- it is under the heads around it
+-- after its loop invariant is formed, a slot's state is still under those of the heads around it
 settled_under : (code : List Insn) (loops : List Loop) (slot : ℕ) (found kinds head : List Kind) (i : ℕ) (l : Loop) → AreLoops code loops → AreKinds found → settled code (begins loops slot) found ≡ Some kinds
     → slice_get loops i ≡ Some l → l.head < slot → slot ≤ l.last → IsHeadState code l head → IsUnder l head found → IsUnder l head kinds
 unfolding settled
@@ -218,7 +220,8 @@ by_flow P (Enters start next) insn before after h w c = (c start refl, h next re
 abbrev HeadsIn : List Insn → List Loop → ℕ → States → Type 0
 HeadsIn code loops slot states = (i : ℕ) (l : Loop) (ks : List Kind) → slice_get loops i ≡ Some l → l.head < slot → state_at states l.head ≡ Some ks → IsHeadState code l ks
 
--- the head of a loop that has the slot in its body
+-- if a slot is in a loop's body, the loop's head was passed, and the slot's state is under the
+-- head's
 head_at : (loops : List Loop) (slot : ℕ) (base : States) (kinds : List Kind) → state_at base slot ≡ Some kinds → Inner loops (suc slot) base slot kinds → (i : ℕ) (l : Loop) → slice_get loops i ≡ Some l → l.head ≤ slot → slot ≤ l.last
     → IsFound (suc slot) base l kinds
 head_at loops slot base kinds here n i l g from le = elim (cases_lt l.head slot) [
@@ -226,7 +229,7 @@ head_at loops slot base kinds here n i l g from le = elim (cases_lt l.head slot)
   | inr ge ↦ let same : slot ≡ l.head = omega (arith, from, ge) in record { passed = omega (arith, from); head = kinds; is = subst (λ k. state_at base k ≡ Some kinds) same here; under = under_same l kinds }
 ]
 
--- after the instruction the state is still under the head's
+-- the state after an instruction of a body is still under that of the head
 after_under : (vars : ℕ) (code : List Insn) (loops : List Loop) (slot : ℕ) (insn : Insn) (found kinds after : List Kind) (base : States) → IsInsn insn → slice_get code slot ≡ Some insn
     → Passed vars code loops slot insn found kinds after → AreKinds kinds → HeadsIn code loops (suc slot) base → (i : ℕ) (l : Loop) → slice_get loops i ≡ Some l → l.head ≤ slot → slot ≤ l.last → (h : IsFound (suc slot) base l kinds) → IsUnder l h.head after
 after_under vars code loops slot insn found kinds after base n stands p f heads i l g from le h =
@@ -281,7 +284,7 @@ sound_none version vars code loops slot states s e = record {
   ];
 }
 
--- the back jump of a loop leads to a state that its head contains
+-- the state on a loop's back jump is within the state of the loop's head
 back_leads : (vars : ℕ) (code : List Insn) (loops : List Loop) (slot : ℕ) (insn : Insn) (found kinds after : List Kind) (base : States) → AreLoops code loops → IsInsn insn → slice_get code slot ≡ Some insn
     → Passed vars code loops slot insn found kinds after → AreKinds kinds → Inner loops (suc slot) base slot kinds → HeadsIn code loops (suc slot) base
     → (t : ℕ) → IsBack loops slot t → (k : List Kind) → kinds_when true insn after ≡ Some k → (head : List Kind) × (state_at base t ≡ Some head) × Within k head
@@ -305,7 +308,7 @@ back_leads vars code loops slot insn found kinds after base a n stands p f inner
           (way_inside true insn after k n (effect_kinds vars insn kinds after n f p.effect) e),
     )
 
--- each branch leads to a state that contains it
+-- each branch leads to a slot whose state contains the branch's state
 ways_lead : (next : States) (count : ℕ) (loops : List Loop) (slot : ℕ) (f : Flow) (insn : Insn) (before after : List Kind) → IsOnward count loops slot f → WaysBy (λ t ks. slot < t → Leads next t ks) f insn before after
     → ((t : ℕ) → IsBack loops slot t → (k : List Kind) → kinds_when true insn after ≡ Some k → Leads next t k) → WaysBy (Leads next) f insn before after
 ways_lead next count loops slot Halts insn before after o w b = tt
@@ -410,7 +413,7 @@ sound_step version vars code loops slot insn states next a n stands s e = go (st
         let r = passed_parts vars code loops slot insn found states next g in
         subst (Sound version vars code loops (suc slot)) r.3 (sound_some version vars code loops slot insn states found r.0 r.1 a n stands s f r.2)
 
--- all slots
+-- the instructions `rest` are those of the program from `slot` on
 abbrev AreFrom : List Insn → ℕ → List Insn → Type 0
 AreFrom code slot rest = (k : ℕ) (insn : Insn) → slice_get rest k ≡ Some insn → slice_get code (slot + k) ≡ Some insn
 
@@ -506,7 +509,8 @@ allowed false c h = refl
 allowed true true h = refl
 allowed true false h = absurd (cc (h refl))
 
--- branches from narrower states lead to slots to which those from wider ones do
+-- if the branches from wider states lead to states that contain theirs, so do the branches from
+-- narrower states
 ways_narrow : (typing : States) (f : Flow) (insn : Insn) (ks wider after wide : List Kind) → IsInsn insn → AreKinds after → AreNumbers insn wide → Within ks wider → Within after wide
     → WaysBy (Leads typing) f insn wider wide → WaysBy (Leads typing) f insn ks after
 ways_narrow typing Halts insn ks wider after wide n a m v w h = tt
@@ -523,7 +527,7 @@ fit_ways vars slot f insn ks after n m a b = by_flow (λ t k. slot < t → AreKi
 led_within : (typing : States) (slot : ℕ) (states : States) (ws : List Way) → AreWithin states typing → AllWays (Leads typing) ws → AreWithin (led slot states ws) typing
 led_within typing slot states ws w a = record { each = led_all (Leads typing) slot states ws (leads_join typing) w.each (all_then (Leads typing) (λ t ks. slot < t → Leads typing t ks) ws (λ t ks l lt. l) a) }
 
--- a slot's state is within the typing's
+-- a slot's state, after its loop invariant is formed, is within the typing's
 record SettlesWithin (code : List Insn) (loops : List Loop) (slot : ℕ) (found wider : List Kind) : Type 0 where
   kinds : List Kind
   is : settled code (begins loops slot) found ≡ Some kinds
@@ -593,7 +597,7 @@ bounded_from version vars code loops slot (insn ∷ rest) states typing a n at t
         let r = some found a i stands t b f in
         ih r.0 r.2 (rw r.1 at g)
 
--- the result of the pass is a typing, and if it has no result there is none
+-- the result of the pass is a typing; if the pass has no result, the program has no typing
 abbrev pub IsExact : ImageVersion → ℕ → List Insn → List Loop → Option States → Type 0
 IsExact version vars code loops (Some states) = IsTypingWith version vars code loops states
 IsExact version vars code loops None = (t : States) → IsTypingWith version vars code loops t → ⊥

@@ -1,4 +1,4 @@
--- The pass in progress: the slots before one were passed.
+-- The pass in progress: the slots before a given slot were passed.
 use Rattle.std.proofs.Common.{◌≡◌, ℕ, zero, suc, ◌+◌, ◌<◌, ◌≤◌, Option, Some, None, List, [], ◌∷◌, ◌++◌, length, take, refl, sym, ap, ◌∙◌, subst, arith, length-set}
 use Rattle.std.specs.Prelude.{slice_get, slice_set}
 use Rattle.std.proofs.lemmas.List.{take_all, take_more}
@@ -20,7 +20,7 @@ use Rattle.fc_verify.specs.Pass.{passed_with, passed, pass_from, beginning, pass
 use Rattle.fc_verify.proofs.PassLaws.{passed_parts, settled_now, set_all, fit_ways, effect_kinds, entry_kinds, first_is, none_at, nones}
 use Rattle.fc_verify.proofs.HandedOn.{led_all, led_length, all_from}
 
--- each abstract value of each state contains some value
+-- each abstract value of each state contains some value of its form
 abbrev pub AreProper : States → Type 0
 AreProper states = (slot : ℕ) (kinds : List Kind) → state_at states slot ≡ Some kinds → AreKinds kinds
 
@@ -82,7 +82,7 @@ pass_none vars whole loops from (x ∷ code) (suc n) states e = go (λ s. pass_n
     go ih None g = refl
     go ih (Some s) g = ih s g
 
--- the pass of one more slot
+-- the pass up to the next slot passes one more slot
 pass_next : (version : ImageVersion) (vars : ℕ) (code : List Insn) (loops : List Loop) (slot : ℕ) (states : States) (insn : Insn) → Passing version vars code loops slot states → slice_get code slot ≡ Some insn → pass_from vars code loops 0 (take (slot + 1) code) (beginning version code) ≡ passed vars code loops slot insn states
 pass_next version vars code loops slot states insn p g =
     let m : slot + 1 ≡ suc slot = omega arith in
@@ -100,7 +100,7 @@ pub passing_none : (version : ImageVersion) (vars : ℕ) (code : List Insn) (loo
 passing_none version vars code loops slot states insn p g e =
     record { count = p.count; passed_is = pass_next version vars code loops slot states insn p g ∙ ap (λ o. passed_with vars code loops slot insn o states) e; proper = p.proper }
 
--- a precondition that doesn't hold, or a head that isn't entered as required
+-- if a slot with a state isn't passed, the pass has no result
 pub passing_refused : (version : ImageVersion) (vars : ℕ) (code : List Insn) (loops : List Loop) (slot : ℕ) (states : States) (insn : Insn) (found : List Kind) → Passing version vars code loops slot states → slice_get code slot ≡ Some insn → state_at states slot ≡ Some found
     → passed_with vars code loops slot insn (Some found) states ≡ None → pass_with version vars code loops ≡ None
 passing_refused version vars code loops slot states insn found p g e f =
@@ -109,7 +109,7 @@ passing_refused version vars code loops slot states insn found p g e f =
 pub passing_end : (version : ImageVersion) (vars : ℕ) (code : List Insn) (loops : List Loop) (slot : ℕ) (states : States) → Passing version vars code loops slot states → length code ≤ slot → pass_with version vars code loops ≡ Some states
 passing_end version vars code loops slot states p e = ap (λ l. pass_from vars code loops 0 l (beginning version code)) (sym (take_all slot code e)) ∙ p.passed_is
 
--- the first states, one by one
+-- at the beginning of the pass, the first state is that of the entry
 first_state : (version : ImageVersion) (code : List Insn) → 0 < length code → take 1 (beginning version code) ≡ Some (entry version) ∷ []
 first_state version [] h = absurd (omega arith)
 first_state version (insn ∷ code) h = refl

@@ -49,7 +49,7 @@ third_row = (refl, refl, refl, refl, refl)
 abbrev joins : Insn → List Insn
 joins last = Alu Mov W64 6 (Reg 1) ∷ JumpIf (record { width = W64; relation = Eq; left = 3; right = Imm (pos 0); offset = pos 1 }) ∷ Alu Mov W64 6 (Imm (pos 0)) ∷ last ∷ Exit ∷ []
 
--- R6 joins to unset
+-- R6 is unset after a join
 thirteenth : (is_typable One 0 (joins (Alu Mov W64 0 (Imm (pos 0)))) ≡ true) × (is_typable One 0 (joins (Alu Mov W64 0 (Reg 6))) ≡ false) × (longest One (joins (Alu Mov W64 0 (Imm (pos 0)))) ≡ 5)
 unfolding transfer when alu_kind interval_of alu_interval refined settled pass_from costs cost_in loops_of longest
 thirteenth = (refl, refl, refl)
@@ -65,7 +65,7 @@ fixed r k = Alu Mov W64 r (Imm k)
 abbrev moves : ℕ → ℕ → Insn
 moves r q = Alu Mov W64 r (Reg q)
 
--- counts the requests in the first word of the variables
+-- a program that counts the requests in the first word of the variables
 abbrev counter : List Insn
 counter = fixed 1 (pos 0) ∷ CallHelper (pos 3) ∷ Alu Add W64 0 (Imm (pos 1)) ∷ moves 2 0 ∷ fixed 1 (pos 0) ∷ CallHelper (pos 4) ∷ CallHelper (pos 7) ∷ fixed 0 (pos 0) ∷ Exit ∷ []
 
@@ -73,16 +73,16 @@ counter_row : (types counter ≡ true) × (longest One counter ≡ 9)
 unfolding transfer when alu_kind interval_of alu_interval refined settled pass_from costs cost_in loops_of longest
 counter_row = (refl, refl)
 
--- a program that sets R1 and R6, calls a function of these instructions, and then has these
+-- a program that sets R1 and R6, calls the function `body`, and returns R6
 abbrev calling : List Insn → List Insn
 calling body = fixed 1 (pos 1) ∷ fixed 6 (pos 6) ∷ CallLocal (pos 2) ∷ moves 0 6 ∷ Exit ∷ body
 
--- the function finds R1, but not R6 or R0, and its exit requires a number too
+-- a function finds the caller's R1, but not R6 or R0; its exit requires a number in R0 too
 functions_find : (types (calling (moves 0 1 ∷ Exit ∷ [])) ≡ true) × (types (calling (moves 0 6 ∷ Exit ∷ [])) ≡ false) × (types (calling (Exit ∷ [])) ≡ false) × (types (calling (moves 0 10 ∷ Exit ∷ [])) ≡ false)
 unfolding transfer when alu_kind interval_of alu_interval refined settled pass_from costs cost_in loops_of longest
 functions_find = (refl, refl, refl, refl)
 
--- after a call R1 is unset, and R6 is saved
+-- a program that returns a register after a call: R1 is unset, and R6 is saved
 abbrev after : ℕ → List Insn
 after r = fixed 1 (pos 1) ∷ fixed 6 (pos 6) ∷ CallLocal (pos 2) ∷ moves 0 r ∷ Exit ∷ fixed 0 (pos 0) ∷ Exit ∷ []
 

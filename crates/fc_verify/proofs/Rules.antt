@@ -1,4 +1,4 @@
--- Relations of the state at a head and of those in its body.
+-- Relations between the state at a loop's head and the states in the loop's body.
 use Rattle.std.proofs.Common.{◌≡◌, ◌≢◌, ℕ, ◌<◌, ◌≤◌, Some, List}
 use Rattle.fc_isa.specs.declared.insn.Insn.{Insn}
 use Rattle.fc_image.specs.declared.loops.Loop.{Loop}
@@ -7,7 +7,7 @@ use Rattle.fc_kinds.specs.Kinds.{kind_at, KindWithin, Within}
 use Rattle.fc_kinds.specs.Containing.{AreKinds}
 use Rattle.fc_verify.specs.Heads.{IsHeadState, settled}
 
--- except for the loop's counter the state is no wider than that at its head
+-- except for the loop's counter, the state is no wider than the state at the head
 pub record IsUnder (l : Loop) (head ks : List Kind) : Type 0 where
   pub each : (r : ℕ) → r ≢ l.counter → KindWithin (kind_at ks r) (kind_at head r)
 

@@ -1,4 +1,5 @@
--- The pass stops at an instruction; and a slot at which no loop begins.
+-- The demand at which the pass stops, if it stops at an instruction; and a slot at which no loop
+-- begins.
 use Rattle.std.proofs.Common.{◌≡◌, ℕ, Bool, List, Option, Some, None, refl, sym, ap, subst}
 use Rattle.fc_isa.specs.declared.insn.Insn.{Insn}
 use Rattle.fc_image.specs.declared.loops.Loop.{Loop}
@@ -10,7 +11,7 @@ use Rattle.fc_verify.specs.Pass.{met_by, passed_by}
 use Rattle.fc_verify.specs.Stages.{Fails, Stops, AtInsn}
 use Rattle.fc_verify.specs.Typing.{States}
 
--- it stops at its instruction
+-- if the instruction fails in the slot's state, the pass stops there with the same demand
 pub stops_at : (vars : ℕ) (code : List Insn) (beginning : Option Loop) (inside : Bool) (insn : Insn) (found kinds known : List Kind) (demand : Demand)
     → settled code beginning found ≡ Some kinds → known ≡ kinds → Fails vars inside insn kinds demand
     → Stops vars code beginning inside insn found known demand

@@ -36,7 +36,7 @@ within_is code loops slot (Goes next) a o = o.1
 within_is code loops slot (Forks taken next) a o = (taken_within code loops slot taken a o.0, o.1.1)
 within_is code loops slot (Enters start next) a o = (o.0.1, o.1.1)
 
--- a body with a slot in it, by its head
+-- a slot inside a body is in the body of one of the loops
 inside_parts : (loops : List Loop) (slot : ℕ) → is_inside loops slot ≡ true → (i : ℕ) × (l : Loop) × (slice_get loops i ≡ Some l) × (is_in l slot ≡ true)
 inside_parts [] slot e = absurd (cc e)
 inside_parts (m ∷ loops) slot e = go (is_in m slot) refl (inside_parts loops slot) e
@@ -46,7 +46,8 @@ inside_parts (m ∷ loops) slot e = go (is_in m slot) refl (inside_parts loops s
     go true b ih g = (0, m, refl, b)
     go false b ih g = let r = ih g in (suc r.0, r.1, r.2, r.3)
 
--- the slots that are in bodies, from how far the bodies reach that begin before a slot
+-- the bodies that begin before `slot` end before `reach`, and each slot from `slot` on that is
+-- before `reach` is in a body
 pub record Reaches (loops : List Loop) (slot reach : ℕ) : Type 0 where
   pub all : (i : ℕ) (l : Loop) → slice_get loops i ≡ Some l → l.head < slot → l.last < reach
   pub some : (s : ℕ) → slot ≤ s → s < reach → is_inside loops s ≡ true
@@ -54,7 +55,7 @@ pub record Reaches (loops : List Loop) (slot reach : ℕ) : Type 0 where
 pub reaches_none : (loops : List Loop) → Reaches loops 0 0
 reaches_none loops = record { all = λ i l at lt. absurd (omega (arith, lt)); some = λ s le lt. absurd (omega (arith, lt)) }
 
--- the same, including the loop that begins at the slot
+-- with the loop that begins at the slot, each slot up to the new reach is in a body
 reached_some : (loops : List Loop) (slot reach s : ℕ) → Reaches loops slot reach → slot ≤ s → s < reached reach (begins loops slot) → is_inside loops s ≡ true
 reached_some loops slot reach s r le lt = go (begins loops slot) refl lt
   where
@@ -84,7 +85,7 @@ reaches_on code loops slot reach a r = record {
   some = λ s le lt. reached_some loops slot reach s r (omega (arith, le)) lt;
 }
 
--- a slot is in a body if it is before the end that they reach
+-- a slot is in a body exactly if it is before the new reach
 pub reached_is : (code : List Insn) (loops : List Loop) (slot reach : ℕ) → AreLoops code loops → Reaches loops slot reach → nat_lt slot (reached reach (begins loops slot)) ≡ is_inside loops slot
 reached_is code loops slot reach a r = go (is_inside loops slot) refl
   where

@@ -47,12 +47,12 @@ pub record BreaksSlot (image : List ℕ) (rule : Rule) (slot : ℕ) : Type 0 whe
   pub head : head_fault image ≡ None
   pub fault : IsFirstFault (slots_of image) rule slot
 
--- the header breaks this rule, and the slot is 0.
+-- the image's header breaks this rule first, and the slot is 0.
 pub record BreaksHead (image : List ℕ) (rule : Rule) (slot : ℕ) : Type 0 where
   pub fault : head_fault image ≡ Some rule
   pub slot_is : slot ≡ 0
 
--- only the typing is missing.
+-- the image keeps all rules, but its program has no typing.
 pub record IsUntypable (image : List ℕ) : Type 0 where
   pub p : Program
   pub shapely : IsShapely image p

@@ -9,7 +9,7 @@ use Rattle.fc_kinds.specs.declared.kind.Kind.TheVariants.{Unset, Num}
 use Rattle.fc_kinds.specs.Kinds.{kind_at}
 use Rattle.fc_kinds.specs.Transfer.{is_number, where_met}
 
--- a loop of a program.
+-- the loop, if there is one, is a loop of the program.
 abbrev pub IsLoopOf : List Insn → Option Loop → Type 0
 IsLoopOf code None = Unit {0}
 IsLoopOf code (Some l) = IsLoop code l
@@ -19,8 +19,8 @@ IsLoopOf code (Some l) = IsLoop code l
 abbrev pub IsAnyNumber : Kind → Type 0
 IsAnyNumber k = (k ≡ Num 0 18446744073709551615) ⊎ (k ≡ Unset)
 
--- the counter is below the bound; each other register that the body writes is unset or any number;
--- if the body has a call, R1 to R5 are unset.
+-- a state that a head may have. The counter is below the bound, and each other register that the
+-- body writes is unset or any number. If the body has a call, R1 to R5 are unset.
 pub record IsHeadState (code : List Insn) (l : Loop) (kinds : List Kind) : Type 0 where
   pub counter : kind_at kinds l.counter ≡ Num 0 (l.bound - 1)
   pub written : (r : ℕ) → r ≢ l.counter → is_written code l r ≡ true → IsAnyNumber (kind_at kinds r)
@@ -49,8 +49,8 @@ abbrev pub enters : Loop → Kind → Bool
 enters l (Num lo hi) = nat_lt hi l.bound
 enters l k = false
 
--- the state of a slot in the pass. At the head of a loop it is the loop invariant, or none if the
--- loop's counter doesn't start below its bound.
+-- the state of a slot in the pass. At the head of a loop it is the loop invariant, or `None` if the
+-- loop's counter doesn't start below the bound.
 unfoldable pub settled : List Insn → Option Loop → List Kind → Option (List Kind)
 settled code None kinds = Some kinds
 settled code (Some l) kinds = where_met (enters l (kind_at kinds l.counter)) (formed code l kinds)

@@ -15,7 +15,7 @@ use Rattle.fc_verify.specs.Pass.{is_typable}
 abbrev pub code_in : List ℕ → List Insn
 code_in image = decoded_program (slots_of image)
 
--- the program of an image with a right header and right slots.
+-- the program of an image whose header and slots break no rule.
 abbrev pub program_in : List ℕ → Program
 program_in image = record {
   version = (stated image).version;

@@ -1,6 +1,6 @@
 -- The least states of a program's slots, computed slot by slot from its entry on. All flows into a
 -- slot come from earlier slots, except back jumps. A back jump passes no state on: the loop
--- invariant contains its state.
+-- invariant contains the state on the jump.
 use Rattle.std.specs.Prelude.{◌≡◌, ℕ, ◌+◌, ◌<◌, ◌&&◌, not, Bool, nat_lt, if◌then◌else◌, List, [], ◌∷◌, map, Option, Some, None, is_some, slice_set}
 use Rattle.fc_isa.specs.declared.insn.Insn.{Insn}
 use Rattle.fc_isa.specs.declared.version.ImageVersion.{ImageVersion}
@@ -25,7 +25,8 @@ joined_in (Some state) kinds = Some (joined state kinds)
 abbrev pub meet_at : States → ℕ → List Kind → States
 meet_at states slot kinds = slice_set states slot (joined_in (state_at states slot) kinds)
 
--- the states are joined only if the slot is later than the one from which the flow comes.
+-- the states after a state is joined to that of a slot. Nothing is joined unless the slot is later
+-- than the one from which the flow comes.
 abbrev pub met_later : ℕ → States → ℕ → List Kind → States
 met_later from states slot kinds = if nat_lt from slot then meet_at states slot kinds else states
 
@@ -34,14 +35,14 @@ abbrev pub led : ℕ → States → List Way → States
 led slot states [] = states
 led slot states (w ∷ ws) = led slot (met_later slot states w.target w.kinds) ws
 
--- the slot gets its state; in a loop's body the register that the instruction computes must be a
--- number.
+-- the states after a slot gets the state `kinds`, and the states on its branches are joined to
+-- later slots. `None` if the instruction is in a loop's body and computes no number.
 abbrev pub passed_on : Bool → ℕ → Insn → List Kind → List Kind → States → Option States
 passed_on inside slot insn kinds after states =
     if inside && not (gives_number (computes insn) after) then None
     else Some (led slot (slice_set states slot (Some kinds)) (ways_after slot insn kinds after))
 
--- an instruction's preconditions hold in the slot's state.
+-- the same if the instruction's preconditions hold in the slot's state, and otherwise `None`.
 abbrev pub met_by : ℕ → Bool → ℕ → Insn → List Kind → States → Option States
 met_by vars inside slot insn kinds states = with_some (transfer vars insn kinds) (λ after. passed_on inside slot insn kinds after states)
 
@@ -54,8 +55,8 @@ passed_by vars code beginning inside slot insn found states = with_some (settled
 abbrev pub IsPassed : ℕ → List Insn → Option Loop → Bool → ℕ → Insn → List Kind → States → States → Type 0
 IsPassed vars code beginning inside slot insn found states after = passed_by vars code beginning inside slot insn found states ≡ Some after
 
--- the states after a slot was passed, or `None` if a precondition doesn't hold; a slot without a
--- state is unreachable.
+-- the states after a slot was passed, or `None` if a demand isn't met; a slot without a state is
+-- unreachable.
 abbrev pub passed_with : ℕ → List Insn → List Loop → ℕ → Insn → Option (List Kind) → States → Option States
 passed_with vars code loops slot insn None states = Some states
 passed_with vars code loops slot insn (Some found) states = passed_by vars code (begins loops slot) (is_inside loops slot) slot insn found states
@@ -81,7 +82,7 @@ pass_with version vars code loops = pass_from vars code loops 0 code (beginning 
 abbrev pub pass : ImageVersion → ℕ → List Insn → Option States
 pass version vars code = pass_with version vars code (loops_in version code)
 
--- the preconditions of each instruction hold.
+-- the pass has a result: the demands of each reachable slot are met.
 abbrev pub is_typable : ImageVersion → ℕ → List Insn → Bool
 is_typable version vars code = is_some (pass version vars code)
 

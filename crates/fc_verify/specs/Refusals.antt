@@ -16,7 +16,8 @@ IsFaultOf image (Accepts p) f = ⊥
 IsFaultOf image (Breaks rule slot) f = (f.rule ≡ rule) × (f.slot ≡ slot) × (number_of rule < 20)
 IsFaultOf image Untypable f = (20 ≤ number_of f.rule) × (number_of f.rule ≤ 28) × (f.slot < (stated image).count)
 
--- a lack of memory is reported only for an image with a right header.
+-- a refusal is such a fault, or a lack of memory, which is reported only if the header breaks no
+-- rule.
 abbrev pub IsRefusal : List ℕ → Refusal → Type 0
 IsRefusal image (Broken f) = IsFaultOf image (judged image) f
 IsRefusal image NoMemory = head_fault image ≡ None

@@ -24,28 +24,28 @@ use Rattle.fc_verify.specs.declared.untyped.Demand.{Demand}
 use Rattle.fc_verify.specs.declared.untyped.Demand.TheVariants.{Operands, Number, Counter}
 use Rattle.fc_verify.specs.declared.untyped.Untyped.{Untyped}
 
--- the header breaks no rule, and is this header.
+-- the image's header breaks no rule, and is `head`.
 pub record IsHeadOf (image : List ℕ) (head : Head) : Type 0 where
   pub fault : head_fault image ≡ None
   pub stated_is : head ≡ stated image
   pub size : length image ≡ 16 + 8 * head.count
   pub limits : IsHead head
 
--- the slots break no rule, and encode this program.
+-- the image's slots break no rule, and encode this program.
 pub record IsCodeOf (image : List ℕ) (code : List Insn) : Type 0 where
   pub fault : first_fault (slots_of image) ≡ None
   pub code_is : code ≡ code_in image
   pub spelled : Spells (slots_of image) code
   pub count : length code ≡ (stated image).count
 
--- a rule of typings, at a slot of the program.
+-- the fault has a rule of typings, 20 to 28, and a slot of the program.
 pub record IsTypingFault (code : List Insn) (f : Fault) : Type 0 where
   pub from : 20 ≤ number_of f.rule
   pub upto : number_of f.rule ≤ 28
   pub within : f.slot < length code
 
--- in a loop's body the register that the instruction computes has this abstract value, which isn't
--- a number.
+-- the demand is that of an instruction in a loop's body whose computed register has an abstract
+-- value that isn't a number.
 pub record GivesNoNumber (inside : Bool) (insn : Insn) (after : List Kind) (demand : Demand) : Type 0 where
   pub inside_is : inside ≡ true
   pub register : ℕ
@@ -53,7 +53,8 @@ pub record GivesNoNumber (inside : Bool) (insn : Insn) (after : List Kind) (dema
   pub other : is_number (kind_at after register) ≡ false
   pub demand_is : demand ≡ Number register (kind_at after register)
 
--- the broken demand: none outside of bodies or if the register is a number, and else this one.
+-- the demand of a loop's body that isn't met; `None` outside of bodies, and if the computed
+-- register is a number.
 abbrev pub IsUnnumbered : Bool → Insn → List Kind → Option Demand → Type 0
 IsUnnumbered inside insn after None = (inside && not (gives_number (computes insn) after)) ≡ false
 IsUnnumbered inside insn after (Some demand) = GivesNoNumber inside insn after demand
@@ -83,7 +84,7 @@ pub data Stops (vars : ℕ) (code : List Insn) (beginning : Option Loop) (inside
       → transfer vars insn (formed code l found) ≡ Some after → demand ≡ Counter l
       → Stops vars code beginning inside insn found known demand
 
--- the rules that report a demand.
+-- the rules by which a demand that isn't met is reported.
 abbrev pub IsRuleOf : Demand → Rule → Type 0
 IsRuleOf Operands rule = (20 ≤ number_of rule) × (number_of rule ≤ 27)
 IsRuleOf (Number register given) rule = rule ≡ LoopState

@@ -13,14 +13,14 @@ use Rattle.fc_kinds.specs.Transfer.{transfer}
 use Rattle.fc_kinds.specs.Ways.{Way, ways_after}
 use Rattle.fc_verify.specs.Heads.{IsHeadState, gives_number, is_inside}
 
--- a state for each slot, or none.
+-- for each slot, its state or `None`.
 abbrev pub States : Type 0
 States = List (Option (List Kind))
 
 abbrev pub state_at : States → ℕ → Option (List Kind)
 state_at states slot = slice_index_or states slot None
 
--- this state is within the state of the slot.
+-- the state `kinds` is within the state of the slot.
 pub record Leads (states : States) (slot : ℕ) (kinds : List Kind) : Type 0 where
   pub state : List Kind
   pub state_is : state_at states slot ≡ Some state

@@ -3,7 +3,7 @@
 //! One of the rules is that the longest path is within the budget. The typing is of the program's
 //! registers.
 //!
-//! An accepted program runs without any check that it could fail.
+//! No check can fail while an accepted program runs.
 //!
 //! ```rust
 //! use fc_verify::{Refusal, verify};

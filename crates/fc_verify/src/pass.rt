@@ -1,4 +1,4 @@
-//! The verifier's pass over the slots of a program: computes their states by joins.
+//! The verifier's pass over the slots of a program, which computes the slots' states by joins.
 //!
 //! When the pass reaches the head of a counted loop, it forms the loop invariant.
 ghost use Rattle.std.specs.Prelude.{Bool, IfErr, IfOk, List, None, Some, [], false, length, not, true, ℕ, ◌&&◌, ◌<◌, ◌≡◌, ◌≤◌};
@@ -36,8 +36,8 @@ use fc_kinds::{Regs, after, enter, entry, join, refine};
 /// space for a state for each slot. The result has `None` for slots that the pass doesn't reach.
 ///
 /// # Errors
-/// Returns the first slot with a precondition that doesn't hold, and a rule from 20 to 28 that it
-/// breaks. The registers' abstract values before the slot's instruction are the evidence. The
+/// Returns the first slot with a demand that isn't met, and a rule from 20 to 28 that the slot
+/// breaks. The evidence is the registers' abstract values before the slot's instruction. The
 /// program then has no typing.
 pub fn typed(
     version: ImageVersion,
@@ -63,7 +63,7 @@ pub fn typed(
 
 /// Returns the first states, in `room`: only the entry has a state.
 ///
-/// Any other slot has `None` until the pass leads to it.
+/// Any other slot has `None` until the pass leads to that slot.
 fn first_states(version: ImageVersion, code: &[Insn], room: Vec<Option<Regs>>) -> Vec<Option<Regs>>
     requires empty { room.items ≡ [] }
     requires room { length code.now ≤ vec_capacity room }
@@ -93,8 +93,8 @@ fn first_state(version: ImageVersion, slot: usize) -> Option<Regs>
 /// `states` must be the first states, and becomes the typing.
 ///
 /// # Errors
-/// Returns the first slot with a precondition that doesn't hold. The contract then doesn't say what
-/// `states` has.
+/// Returns the first slot with a demand that isn't met. The contract then doesn't say what `states`
+/// contains.
 fn pass_slots(
     version: ImageVersion,
     vars_size: u16,
@@ -135,8 +135,8 @@ fn pass_slots(
 
 /// Returns the slot after the last body among those that begin so far.
 ///
-/// `reach` is the result for the slots before, and `beginning` the loop that begins at this slot. A
-/// slot is in a body if it is before the result.
+/// `reach` is the result for the slots before, and `beginning` the loop that begins at this slot.
+/// This slot is in a body if it is before the result.
 fn reached(reach: usize, beginning: &Option<Loop>) -> usize
     requires { AreLow 1024 beginning.now }
     ensures { result ≡ reached reach beginning.now }
@@ -150,10 +150,10 @@ fn reached(reach: usize, beginning: &Option<Loop>) -> usize
 /// Passes over a slot that is found with the state `regs`.
 ///
 /// `beginning` is the loop that begins at the slot, and `inside` says whether the slot is in a
-/// loop's body. At the head of a loop the loop invariant is formed. If the preconditions hold, the
-/// states on the slot's branches are joined to those of the later slots to which they lead. Returns
-/// whether the loop's counter starts below its bound and the preconditions hold; if not, the states
-/// don't change. `regs` is scratch space after the call.
+/// loop's body. At the head of a loop the loop invariant is formed. If the demands of the slot are
+/// met, the states on its branches are joined to those of later slots, and the result is `true`. If
+/// not, or if the loop's counter doesn't start below its bound, the states don't change, and the
+/// result is `false`. `regs` is scratch space after the call.
 fn pass(
     vars_size: u16,
     code: &[Insn],
@@ -181,10 +181,10 @@ fn pass(
     }
 }
 
-/// Passes over a slot that is the head of this loop.
+/// Passes over a slot that is the head of the loop `head`, like [`pass`].
 ///
-/// Returns whether the loop's counter starts below its bound and the preconditions hold; if not,
-/// the states don't change.
+/// Returns whether the loop's counter starts below its bound and the demands of the slot's
+/// instruction are met. If not, the states don't change.
 fn pass_head(
     vars_size: u16,
     code: &[Insn],
@@ -220,9 +220,10 @@ fn pass_head(
     }
 }
 
-/// Passes over a slot at which no loop begins.
+/// Passes over a slot at which no loop begins, like [`pass`].
 ///
-/// Returns whether its preconditions hold; if not, the states don't change.
+/// Returns whether the demands of the slot's instruction are met. If they are, the states on its
+/// branches are joined to those of the later slots; if not, the states don't change.
 fn pass_on(
     vars_size: u16,
     slot: usize,
@@ -250,9 +251,9 @@ fn pass_on(
 
 /// Applies an instruction to the registers before it, if its demands are met.
 ///
-/// The demands are its preconditions and, in a counted loop's body (`inside`), a number in the
-/// register that it computes. Returns whether they are met. If not, the contract doesn't say what
-/// `regs` has.
+/// The demands are the preconditions and, in a counted loop's body (`inside`), a number in the
+/// register that the instruction computes. Returns whether they are met. If not, the contract
+/// doesn't say what `regs` contains.
 fn meet_demands(vars_size: u16, insn: &Insn, inside: bool, regs: &mut Regs) -> bool
     requires kinds { AreKinds regs.old }
     requires insn { IsInsn insn.now }
@@ -268,9 +269,10 @@ fn meet_demands(vars_size: u16, insn: &Insn, inside: bool, regs: &mut Regs) -> b
     }
 }
 
-/// Returns why a slot with the state `regs` isn't passed, for the refusal.
+/// Returns the demand that isn't met at a slot found with the state `regs`.
 ///
-/// It is called for a slot for which `pass` returned `false`.
+/// The slot must be one for which `pass` returns `false`. The result also has the rule that the
+/// slot breaks, and the state that is the evidence.
 fn untyped(
     vars_size: u16,
     code: &[Insn],
@@ -297,9 +299,11 @@ fn untyped(
     }
 }
 
-/// Returns why an instruction isn't passed with the state `kinds` of its slot.
+/// Returns the demand that an instruction doesn't meet, its rule and its state.
 ///
-/// The state is the loop invariant if a loop begins at the slot.
+/// Either a precondition doesn't hold, or the instruction is in a loop's body (`inside`) and
+/// computes no number. The state is `kinds`, which is the loop invariant if a loop begins at the
+/// slot.
 fn at_insn(vars_size: u16, slot: usize, insn: &Insn, inside: bool, kinds: &Regs) -> Untyped
     requires kinds { AreKinds kinds.now }
     requires insn { IsInsn insn.now }
@@ -319,9 +323,9 @@ fn at_insn(vars_size: u16, slot: usize, insn: &Insn, inside: bool, kinds: &Regs)
     }
 }
 
-/// Returns why a loop's head isn't passed with the state `regs` on entry.
+/// Returns the demand that isn't met at a loop's head, entered with `regs`.
 ///
-/// A precondition of the loop's first instruction doesn't hold in the loop's iterations, or else
+/// Either a precondition of the loop's first instruction doesn't hold in the loop's iterations, or
 /// the loop's counter doesn't start below the bound.
 fn at_head(
     vars_size: u16,
@@ -346,9 +350,9 @@ fn at_head(
     }
 }
 
-/// Builds the refusal of a slot that breaks the rule of loops by this demand.
+/// Returns the refusal of a slot that breaks the rule of loops by `demand`.
 ///
-/// `known` is the state that explains it.
+/// `known` is the state that is the evidence.
 fn against_loop(slot: usize, known: &Regs, demand: Demand) -> Untyped
     ensures rule { result.fault.rule ≡ LoopState }
     ensures slot { result.fault.slot ≡ slot }
@@ -368,8 +372,8 @@ fn against_loop(slot: usize, known: &Regs, demand: Demand) -> Untyped
 /// Updates the state before a slot to that after it.
 ///
 /// # Errors
-/// Returns the rule that the instruction breaks, with the state before it as evidence. The contract
-/// then doesn't say what `regs` has.
+/// Returns the rule that the instruction breaks, with the state before the instruction as evidence.
+/// The contract then doesn't say what `regs` contains.
 fn checked(vars_size: u16, slot: usize, insn: Insn, regs: &mut Regs) -> Result<(), Untyped>
     requires kinds { AreKinds regs.old }
     requires insn { IsInsn insn }
@@ -394,8 +398,8 @@ fn checked(vars_size: u16, slot: usize, insn: Insn, regs: &mut Regs) -> Result<(
 
 /// Joins the states on an instruction's branches to those of later slots.
 ///
-/// `after` is the state after the instruction; `states` has the one before it. `after` is scratch
-/// space after the call.
+/// `after` is the state after the instruction; `states` has the state before the instruction.
+/// `after` is scratch space after the call.
 fn spread(slot: usize, insn: Insn, after: &mut Regs, states: &mut [Option<Regs>])
     requires kinds { AreKinds after.old }
     requires levels { (ks : List What) → state_at states.old slot ≡ Some ks → AreShallow 1023 ks }
@@ -446,7 +450,9 @@ fn branch(slot: usize, jump: &Jump, regs: &mut Regs, states: &mut [Option<Regs>]
     }
 }
 
-/// Returns the slot to which a jump's offset leads, or `slot` if that is below 0.
+/// Returns the slot to which a jump's offset leads.
+///
+/// Returns `slot` if that would be below 0.
 fn landing(slot: usize, offset: i32) -> usize
     requires { slot < 1024 }
     ensures { result ≡ landing slot offset }
@@ -475,7 +481,7 @@ fn meet(states: &mut [Option<Regs>], slot: usize, regs: &Regs)
     join_in(&mut states[slot], regs);
 }
 
-/// Joins a state to another, or sets it if there is none.
+/// Joins `regs` to a state, or sets the state if there is none.
 fn join_in(state: &mut Option<Regs>, regs: &Regs)
     ensures { state.new ≡ joined_in state.old regs.now }
 {

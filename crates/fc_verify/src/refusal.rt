@@ -9,7 +9,7 @@ use thiserror::Error;
 pub enum Refusal {
     /// The first rule that the image breaks, with its slot.
     ///
-    /// If only the typing is missing, it is some rule from 20 to 28.
+    /// If only the typing is missing, the rule is one from 20 to 28.
     #[error("{0}")]
     Broken(Fault),
     /// Memory for the program can't be allocated.

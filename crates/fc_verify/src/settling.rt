@@ -13,8 +13,8 @@ use fc_kinds::{Kind, Regs};
 
 /// Returns the loop invariant for a head that is found with the state `regs`.
 ///
-/// It is the least state that a head may have and that contains `regs`. Returns `None` if the
-/// loop's counter doesn't start below the bound.
+/// The invariant is the least state that a head may have and that contains `regs`. Returns `None`
+/// if the loop's counter doesn't start below the bound.
 #[tactic(auto, unfolding(crate::specs::Heads::settled))]
 pub(crate) fn settled(code: &[Insn], counted: &Loop, regs: &Regs) -> Option<Regs>
     requires { IsLoopOf code.now (Some counted.now) }
@@ -37,10 +37,10 @@ fn enters(counted: &Loop, kind: &Kind) -> bool
     }
 }
 
-/// Returns the loop invariant for a head, whether or not the counter starts right.
+/// Returns the loop invariant for a head, wherever the counter starts.
 ///
-/// It is the result of `settled` if the counter starts below the bound. If not, it explains a
-/// refusal.
+/// It is the result of `settled` if the counter starts below the bound. Otherwise it is used to
+/// explain a refusal.
 pub(crate) fn formed(code: &[Insn], counted: &Loop, regs: &Regs) -> Regs
     requires { IsLoopOf code.now (Some counted.now) }
     ensures { result ≡ formed code.now counted.now regs.now }
@@ -120,7 +120,8 @@ fn has_call(code: &[Insn], counted: &Loop) -> bool
 
 /// Returns whether the register that an instruction computes, if any, is a number.
 ///
-/// `after` is the state after the instruction. An instruction that computes none gives `true`.
+/// `after` is the state after the instruction. Returns `true` if the instruction computes no
+/// register.
 pub(crate) fn gives_number(insn: &Insn, after: &Regs) -> bool
     ensures { result ≡ gives_number (computes insn.now) after.now }
 {

@@ -23,7 +23,7 @@ use std::alloc::Global;
 /// # Errors
 /// Returns the first rule that the image breaks, with its slot. If only the typing is missing,
 /// returns some rule from 20 to 28 and a slot of the program. Returns `NoMemory` if memory can't be
-/// allocated; it does so only for an image whose header keeps its rules.
+/// allocated, but only for an image whose header breaks no rule.
 pub fn verify(alloc: Global, image: &[u8]) -> Result<Verified, Refusal>
     ensures accepted { IfOk result (IsAccepted image.now) }
     ensures judged { IfOk result (λ v. judged image.now ≡ Accepts v) }
@@ -58,7 +58,7 @@ fn read_head(image: &[u8]) -> Result<Head, Refusal>
 
 /// Returns the program that the slots encode.
 ///
-/// `head` is the image's header, which keeps its rules.
+/// `head` is the image's header, which breaks no rule.
 ///
 /// # Errors
 /// Returns the first slot that breaks a rule, 6 to 10, or `NoMemory` if memory can't be allocated.

@@ -1,4 +1,4 @@
--- One more event of a list is executed, and then the whole list is.
+-- The emissions and the state after each event of a list, and after the whole list.
 use Rattle.std.proofs.Common.{◌≡◌, ℕ, ◌+◌, ◌<◌, ◌≤◌, List, [], ◌∷◌, ◌++◌, Option, length, take, get_or, refl, sym, ap, ◌∙◌, subst, arith, length-append, length-take}
 use Rattle.std.proofs.lemmas.List.{take_all, take_more}
 use Rattle.coap_msg.specs.declared.types.Emission.{Emission}
@@ -18,7 +18,7 @@ use Rattle.fc_server.specs.Serving.{Serves, with_tasks}
 use Rattle.fc_server.specs.States.{ServerState}
 use Rattle.fc_server.specs.Steps.{Step}
 
--- state after this many events of a list.
+-- `os` and `w` are the emissions and the state after the first `i` events of a list.
 pub record RunsTo (b : Begin) (es : List Event) (i : ℕ) (os : List (Option Emission)) (w : Parts) : Type 0 where
   pub long : length os ≡ i
   pub legal : IsLegal (history_after (begin_of b) (take i es) os)
@@ -26,7 +26,7 @@ pub record RunsTo (b : Begin) (es : List Event) (i : ℕ) (os : List (Option Emi
   pub agrees : Agrees (seen (history_after (begin_of b) (take i es) os)) w
   pub first : (seen (history_after (begin_of b) (take i es) os)).first_serial ≡ b.serial
 
--- nothing is executed yet.
+-- a new server, without tasks and emissions, is in the state after no event.
 pub starts : (b : Begin) (es : List Event) (os : List (Option Emission)) (s : ServerState) (tasks : List Task) → os ≡ [] → Serves (begin_of b) s [] → tasks ≡ [] → RunsTo b es 0 os (with_tasks s tasks)
 unfolding seen
 starts b es os s tasks fresh v none =
@@ -34,13 +34,14 @@ starts b es os s tasks fresh v none =
     let later : RunsTo b es 0 [] (with_tasks s tasks) = subst (λ (ts : List Task). RunsTo b es 0 [] (with_tasks s ts)) (sym none) started in
     subst (λ (xs : List (Option Emission)). RunsTo b es 0 xs (with_tasks s tasks)) (sym fresh) later
 
--- one more event
+-- if events and emissions are equally many, one more of each extends their history by one entry.
 history_snoc : (h : History) (es : List Event) (os : List (Option Emission)) (e : Event) (o : Option Emission) → length es ≡ length os → history_after h (es ++ e ∷ []) (os ++ o ∷ []) ≡ Then (history_after h es os) (did e o)
 history_snoc h [] [] e o l = refl
 history_snoc h [] (p ∷ os) e o l = absurd (omega (arith, l))
 history_snoc h (f ∷ es) [] e o l = absurd (omega (arith, l))
 history_snoc h (f ∷ es) (p ∷ os) e o l = history_snoc (Then h (did f p)) es os e o (omega (arith, l))
 
+-- if event `i` is executed after the first `i` events, the new state is that after `i + 1` events.
 pub runs_on : (b : Begin) (es : List Event) (i : ℕ) (d : Event) (os later : List (Option Emission)) (o : Option Emission) (old new : Parts) → i < length es → RunsTo b es i os old → later ≡ os ++ o ∷ [] → Step (get_or es i d) o new (seen (history_after (begin_of b) (take i es) os)) → RunsTo b es (i + 1) later new
 unfolding seen
 runs_on b es i d os later o old new lt r pushed s =
@@ -55,7 +56,7 @@ runs_on b es i d os later o old new lt r pushed s =
       first = ap (λ (g : History). (seen g).first_serial) grows ∙ r.first;
     }
 
--- state at the end of a list.
+-- `os` and `w` are the emissions and the state after the last event of a list.
 pub record HasRun (b : Begin) (es : List Event) (os : List (Option Emission)) (w : Parts) : Type 0 where
   pub count : length os ≡ length es
   pub legal : IsLegal (history_after (begin_of b) es os)

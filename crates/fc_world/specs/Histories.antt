@@ -6,6 +6,6 @@ use Rattle.fc_core.specs.History.{History, history_after}
 use Rattle.fc_server.specs.States.{begin_of}
 use Rattle.fc_server.specs.declared.server.Begin.{Begin}
 
--- history of a server with this initial state, whose events had these emissions.
+-- the history of a server with this initial state, of these events and their emissions.
 abbrev pub history_from : Begin → List Event → List (Option Emission) → History
 history_from begin events emissions = history_after (begin_of begin) events emissions

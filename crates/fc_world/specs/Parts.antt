@@ -1,4 +1,4 @@
--- A state by its parts.
+-- The parts of a world's state.
 use Rattle.fc_server.specs.Agreement.{Parts}
 use Rattle.fc_world.specs.declared.state.WorldState.{WorldState}
 

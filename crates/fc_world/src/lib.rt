@@ -1,16 +1,16 @@
 //! Execution of a whole list of events, with its emissions and final slots.
 //!
-//! [`run_world`] makes the same calls of a server as a running server does, for any list of events.
-//! Its contract is the main guarantee of the server, for all lists of events. Each emission is
-//! legal by the definitions of `fc_core`. Each slot is that of the history. Each run of an accepted
-//! program reaches its exit within its budget.
+//! For any list of events, [`run_world`] calls the functions of `fc_server` that a running server
+//! calls. The contract of `run_world` is the server's main guarantee. Each emission is legal by the
+//! definitions of `fc_core`. Each slot has the state that the history gives it. Each run of an
+//! accepted program reaches the program's exit within the program's budget.
 //!
 //! ```rust
 //! use coap_msg::{Emission, Endpoint};
 //! use fc_world::{Event, run_world};
 //! use std::alloc::{AllocError, Global};
 //!
-//! /// Returns the response to a first datagram, whose job never runs.
+//! /// Returns the immediate response to a first datagram, or `None`. No job is run.
 //! fn first_reply(
 //!     alloc: Global,
 //!     endpoint: Endpoint,
@@ -28,14 +28,15 @@
 //!
 //! # What is proved
 //!
-//! - For every list of events: each emission is legal, and there is one entry for each event.
-//! - Each of the 64 slots and of the eight shards' times is that of the history. A slot's commits
-//!   are a chain; the newest of them are in the slot's ring.
-//! - Each snapshot that found a program has a meaning within its longest path, which is within its
-//!   budget. A job with several snapshots runs with the readings of the last one, and the job's
-//!   answer comes from these readings.
-//! - `run_world_from` guarantees the same for a server that begins at another serial and message
-//!   ID.
+//! - For every list of events, each emission is legal, and the result has one entry for each event.
+//! - The 64 slots and the times of the eight shards are those of the history's state. A slot's
+//!   commits are a chain; the newest commits are in the slot's ring.
+//! - Each snapshot that found a program has a meaning. Its run takes at most the steps of the
+//!   program's longest path, and the longest path is within the program's budget.
+//! - A job with several snapshots runs with the readings of the last snapshot, and the job's answer
+//!   comes from these readings.
+//! - `run_world_from` gives the same guarantees for a server that begins with another serial,
+//!   message ID and policy.
 //!
 //! By the contracts of `run_world`, `run_world_from`.
 #![tactic(auto)]

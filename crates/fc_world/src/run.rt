@@ -16,7 +16,10 @@ use fc_registry::Shard;
 use fc_server::{Begin, DEFAULT_BEGIN};
 use std::alloc::{AllocError, Global};
 
-/// The emission of each event, and the eight shards at the end.
+/// The result of a list of events.
+///
+/// It has an entry for each event, its emission or `None`, and the eight shards after the last
+/// event.
 #[derive(Drop)]
 pub struct World {
     pub emissions: Vec<Option<Emission>>,
@@ -27,14 +30,15 @@ pub struct World {
 ///
 /// If it succeeds:
 ///
-/// - There is an entry for each event: its emission, or none.
+/// - `emissions` has an entry for each event: the event's emission, or `None`.
 /// - Each emission is legal by the history of the events before it.
-/// - Each of the 64 slots is that of the history. Its commits are a chain; the newest of them are
-///   in its ring. If the ring has all commits since the last install, the first found the variables
-///   that this install left.
-/// - Each shard's time is the latest time passed to it.
-/// - Each snapshot that found a program has a meaning: the run reaches its exit within the steps of
-///   its longest path, which are within its budget.
+/// - Each of the 64 slots is that of the history's state. The slot's commits are a chain; the
+///   newest commits are in the slot's ring.
+/// - If a ring has all commits since the slot's last install, the first of these commits found the
+///   variables that the install left.
+/// - Each shard's time is that of the history's state.
+/// - Each snapshot that found a program has a meaning: the run reaches the program's exit within
+///   the steps of the longest path. That path is within the program's budget.
 ///
 /// # Errors
 /// Returns `AllocError` if memory can't be allocated. Then nothing is guaranteed.
@@ -58,8 +62,8 @@ pub fn run_world(alloc: Global, events: &[Event<'_>]) -> Result<World, AllocErro
 
 /// Executes a list of any events, on a server with the initial state `begin`.
 ///
-/// See [`run_world`]. The slots are empty at the serial of `begin`; the server has the policy of
-/// `begin`, and draws the message ID of `begin` first.
+/// The guarantees are those of [`run_world`]. At the start, the slots are empty, at the serial of
+/// `begin`. The server has the policy of `begin`, and draws the message ID of `begin` first.
 ///
 /// # Errors
 /// Returns `AllocError` if memory can't be allocated. Then nothing is guaranteed.

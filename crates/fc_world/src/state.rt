@@ -15,17 +15,18 @@ use fc_registry::{SHARDS, SLOTS, SlotNumber};
 use fc_server::{Begin, Server};
 use std::alloc::{AllocError, Global};
 
-/// A server, and all jobs that arrived, each at its stage.
+/// A server, and the jobs of all events so far, each with its stage.
 #[derive(Drop)]
 pub struct WorldState {
     pub server: Server,
     pub tasks: Vec<Task>,
 }
 
-// The effects of the server's calls.
+// The effects of the server's calls on the server and the tasks.
 impl WorldState {
-    // Delivers a datagram. A job that it produces becomes the last task. Returns the datagram to
-    // send immediately, if there is one. The error is that memory for a task can't be allocated.
+    // Delivers a datagram. If the datagram produces a job, the job becomes the last task. Returns
+    // the datagram to send immediately, or `None` if there is none. Returns an error if memory for
+    // the task can't be allocated.
     fn deliver(
         &mut self,
         now: u64,
@@ -51,8 +52,8 @@ impl WorldState {
         }
     }
 
-    // Fires the timer of a slot, whose job becomes the last task. `slot` is below 64: a greater one
-    // counts modulo 64. The error is that memory for the task can't be allocated.
+    // Fires a slot's timer at `now`. The job that the timer makes becomes the last task. A `slot`
+    // of 64 or more counts modulo 64. Returns an error if memory for the task can't be allocated.
     fn fire(&mut self, slot: u8, now: u64) -> Result<(), AllocError>
         ensures { OnOk result (Done (Event.Fire slot now) (parts self.old) None (parts self.new)) }
     {
@@ -64,8 +65,9 @@ impl WorldState {
         Ok(())
     }
 
-    // Requests a lease of a shard. If one is granted, its job becomes the last task. Nothing
-    // happens for a shard above 7. The error is that memory for a task can't be allocated.
+    // Requests a lease from a shard at `now`. If the shard grants one, the lease's job becomes the
+    // last task. For a shard above 7, nothing changes. Returns an error if memory for the task
+    // can't be allocated.
     fn due(&mut self, shard: u8, now: u64) -> Result<(), AllocError>
         requires { length self.old.server.shards ≡ 8 }
         ensures { OnOk result (Done (Event.Due shard now) (parts self.old) None (parts self.new)) }
@@ -81,8 +83,8 @@ impl WorldState {
         Ok(())
     }
 
-    // Passes an acknowledgement, or a reset (`reset`), to a shard's observers. Nothing happens for
-    // a shard above 7.
+    // Passes a message with the ID `id` to a shard's observers: a Reset message if `reset` is true,
+    // else an Acknowledgement. For a shard above 7, nothing changes.
     fn signal(&mut self, shard: u8, endpoint: Endpoint, id: u16, reset: bool)
         requires { length self.old.server.shards ≡ 8 }
         ensures { Done (Event.Signal shard endpoint id reset) (parts self.old) None (parts self.new) }
@@ -92,8 +94,8 @@ impl WorldState {
         }
     }
 
-    // Advances a shard to `now`. Returns its retransmission, if there is one. Nothing happens for a
-    // shard above 7.
+    // Advances a shard to `now`. Returns the shard's retransmission, or `None` if there is none.
+    // For a shard above 7, nothing changes, and the result is `None`.
     fn tick_shard(&mut self, shard: u8, now: u64) -> Option<Emission>
         requires { length self.old.server.shards ≡ 8 }
         ensures { Done (Event.ShardTick shard now) (parts self.old) result (parts self.new) }
@@ -109,6 +111,8 @@ impl WorldState {
 }
 
 impl WorldState {
+    // Makes a server with the initial state `begin`, and no tasks. Returns an error if memory can't
+    // be allocated.
     pub(crate) fn new(alloc: Global, begin: &Begin) -> Result<WorldState, AllocError>
         requires { CanBegin begin.now }
         ensures serves { IfOk result (λ w. Serves (begin_of begin.now) w.server []) }
@@ -120,9 +124,9 @@ impl WorldState {
         })
     }
 
-    // Executes an event, and returns its emission, if there is one. An event of a job that hasn't
-    // arrived does nothing. The error is that memory can't be allocated; then nothing is
-    // guaranteed.
+    // Executes an event. Returns the event's emission, or `None` if there is none. An event that
+    // names a job without a task changes nothing. Returns an error if memory can't be allocated;
+    // then nothing is guaranteed.
     pub(crate) fn step(
         &mut self,
         alloc: Global,
@@ -140,7 +144,7 @@ impl WorldState {
         self.server.work(alloc, event, &mut self.tasks[job])
     }
 
-    // Executes an event that names no job, for `step`.
+    // Executes an event that names no job, for `step`. The result is that of `step`.
     fn pass(&mut self, event: &Event<'_>) -> Result<Option<Emission>, AllocError>
         requires named { names event.now ≡ None }
         requires reached { IsReached (parts self.old) }

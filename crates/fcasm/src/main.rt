@@ -147,9 +147,7 @@ fn command<'a>(alloc: Global) -> Result<Command<'a>, AllocError> {
         .subcommand(run_command(alloc)?)
 }
 
-// Reads the command line's words and runs its command.
-//
-// Returns `Bad` if a word isn't UTF-8.
+// Runs the command of the command line, and returns its status, or `Bad` if a word isn't UTF-8.
 fn start<R: Runtime + AllocGlobal, E: Write>(rt: &R, err: &mut E) -> anyhow::Result<Status> {
     match words(rt, err)? {
         Some(words) => obey(rt, err, words),
@@ -157,9 +155,9 @@ fn start<R: Runtime + AllocGlobal, E: Write>(rt: &R, err: &mut E) -> anyhow::Res
     }
 }
 
-// Parses the words of a command line, and runs its command.
+// Runs the command that the words name, and returns its status.
 //
-// If they name no command, or ask for help, returns the parser's status.
+// If the words name no command, or ask for help, the status is that of `parse`.
 fn obey<R: Runtime + AllocGlobal, E: Write>(
     rt: &R,
     err: &mut E,
@@ -177,7 +175,8 @@ fn obey<R: Runtime + AllocGlobal, E: Write>(
 
 // Runs the command that the parsed command line names.
 //
-// The commands on images read the named file, or `input` if there is none.
+// The commands on images read the file that the command line names, or `input` if it names none or
+// `-`. Returns `Failed` if the file can't be read; the reason is written to `err`.
 fn carry_out<R: Runtime + AllocGlobal, I: Read, W: Write, E: Write>(
     rt: &R,
     input: &mut I,
@@ -205,7 +204,7 @@ fn carry_out<R: Runtime + AllocGlobal, I: Read, W: Write, E: Write>(
     }
 }
 
-// Runs a command on the image that `input` has.
+// Runs a command on the image in `input`, and returns its status.
 //
 // Returns `Bad` if no command on images has this name.
 fn use_image<I: Read, W: Write, E: Write>(
@@ -228,9 +227,9 @@ fn use_image<I: Read, W: Write, E: Write>(
     }
 }
 
-// Writes the image with the numbers of the command line.
+// Assembles `input` to an image with the command line's numbers, and writes the image to `out`.
 //
-// Returns `Bad` if one of the numbers is missing or malformed.
+// Returns `Bad` if one of the numbers is missing or malformed, and else the status of `image`.
 fn write_image<R: Read, W: Write, E: Write>(
     alloc: Global,
     input: &mut R,
@@ -252,7 +251,7 @@ fn write_image<R: Read, W: Write, E: Write>(
     }
 }
 
-// Returns the request, variables and readings that the command line gives.
+// Returns the request, variables and readings that the command line gives, or why they are refused.
 fn asked_by(alloc: Global, words: &ArgMatches<'_>) -> Result<Asked, AskedError> {
     let method = match words.get_str("method") {
         Some("post") => Method::Post,
@@ -264,7 +263,7 @@ fn asked_by(alloc: Global, words: &ArgMatches<'_>) -> Result<Asked, AskedError> 
     Asked::new(alloc, method, payload, query, words.get_str("vars"))?.with_readings(alloc, readings)
 }
 
-// Reads the bytes of an image's file; see `image_bytes`.
+// Reads the bytes of the image in the file at `path`. See `image_bytes`.
 fn file_bytes<R: Runtime + AllocGlobal>(rt: &R, path: &str) -> io::Result<Vec<u8>> {
     let mut file = fs::open(rt, path)?;
     image_bytes(rt.alloc(), &mut file)

@@ -31,13 +31,13 @@ use std::rt::Runtime;
 use std::sync::Wait;
 use std::thread::Threads;
 
-/// Revision that an empty slot begins with in `fcd play`.
+/// Serial of the empty slots at the start of `fcd play`.
 const FIRST_SERIAL: u64 = 0;
 
-/// First message ID of the server's own.
+/// Message ID that the server draws first in `fcd play`.
 const FIRST_ID: u16 = 0;
 
-// Runs the words of the command line. Returns `Bad` if one of them isn't UTF-8.
+// Runs the command of the command line, and returns its status, or `Bad` if a word isn't UTF-8.
 fn run<R: Runtime + AllocGlobal + Threads + Wait + Net + RandomSource + Sync, E: Write>(
     rt: &R,
     files: &HostRuntime,
@@ -49,8 +49,9 @@ fn run<R: Runtime + AllocGlobal + Threads + Wait + Net + RandomSource + Sync, E:
     }
 }
 
-// Runs the command line's command, and returns its status. `files` is the same runtime: several
-// threads read with it, which is proved for its own type only.
+// Runs the command that the words name, and returns its status. If the words don't match, the
+// status is that of `parse`. `files` is the same runtime as `rt`: several threads read files with
+// it, which is proved for `HostRuntime` only.
 fn obey<R: Runtime + AllocGlobal + Threads + Wait + Net + RandomSource + Sync, E: Write>(
     rt: &R,
     files: &HostRuntime,
@@ -74,8 +75,8 @@ fn obey<R: Runtime + AllocGlobal + Threads + Wait + Net + RandomSource + Sync, E
     }
 }
 
-// Plays standard input to standard output, with this number of workers, or on this thread alone if
-// `workers` is `None`.
+// Plays standard input to standard output, and returns the status. `workers` is the number of
+// workers, or `None` to play on this thread alone.
 fn play_input<R: Runtime + AllocGlobal + Threads + Wait + Net + Sync, E: Write>(
     rt: &R,
     err: &mut E,
@@ -128,8 +129,9 @@ fn serve_socket<R: Runtime + AllocGlobal + Threads + Wait + Net + RandomSource +
     )
 }
 
-// Serves with these options and timers. The end is recorded by a logger, changes by a recorder, and
-// counts by a reporter. Returns an error if the time or random bytes can't be read.
+// Serves with these options and timers, and returns the status. `end` logs the end of the server,
+// `changes` records the changes of programs, and `reporter` reports the counts. Returns an error if
+// the time or random bytes can't be read.
 fn serve_logged<
     R: Runtime + AllocGlobal + Threads + Wait + Net + RandomSource + Sync,
     E: Write,
@@ -185,7 +187,7 @@ fn serve_logged<
     })
 }
 
-// Returns the filter of a logger: records of level info if `is_asked`, or none.
+// Returns the filter of a logger, which keeps records of level info if `is_asked`, or else none.
 fn level_if(is_asked: bool) -> LevelFilter {
     if is_asked {
         LevelFilter::Info
@@ -194,14 +196,14 @@ fn level_if(is_asked: bool) -> LevelFilter {
     }
 }
 
-// Writes to `err` why an option is refused. The status is 2. Returns an error if writing fails.
+// Writes to `err` why an option is refused. Returns `Bad`, or an error if writing fails.
 fn tell_bad<E: Write>(err: &mut E, bad: BadOption) -> anyhow::Result<Status> {
     writeln!(err, "{bad}")?;
     Ok(Status::Bad)
 }
 
-// Writes to `err` why `--every` gives no timers. The status is 3 if memory can't be allocated, else
-// 2. Returns an error if writing fails.
+// Writes to `err` why the timers of `--every` can't be made. Returns `Failed` if memory can't be
+// allocated, else `Bad`. Returns an error if writing fails.
 fn tell_bad_timer<E: Write>(err: &mut E, bad: &BadTimer) -> anyhow::Result<Status> {
     writeln!(err, "{bad}")?;
     Ok(match bad {

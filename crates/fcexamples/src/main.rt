@@ -1,6 +1,7 @@
 //! The worked programs of docs/PROGRAMS.md, and a program that runs them.
 //!
-//! It assembles and checks each, installs it in slot 0 of a server, and sends it requests.
+//! The program assembles and checks each of them, installs it in slot 0 of a server, and sends
+//! requests to that slot.
 #![tactic(auto)]
 
 use clap::{Arg, Command, Error};
@@ -18,8 +19,8 @@ use std::{fs, io};
 
 /// A worked program: the file of its source, its limits, and its requests.
 ///
-/// The limits are the size of its variables in bytes and its budget of steps. The requests are
-/// lines of `fcd play` to slot 0.
+/// The limits are the size of the program's variables in bytes, and the budget of steps. The
+/// requests are lines of `fcd play` to slot 0.
 struct Example {
     file: &'static str,
     vars_size: u16,
@@ -27,7 +28,7 @@ struct Example {
     requests: &'static str,
 }
 
-/// Requests to slot 0, each with its meaning above it.
+/// The worked programs, each below a comment on its requests.
 static EXAMPLES: [Example; 3] = [
     // Two POSTs, and a GET.
     Example {
@@ -65,7 +66,7 @@ fn command<'a>(alloc: Global) -> Result<Command<'a>, Error> {
     )
 }
 
-// Runs the program by the words of its command line. If a word isn't UTF-8, the status is `Bad`.
+// Runs the program with the words of its command line. If a word isn't UTF-8, the status is `Bad`.
 fn run<E: Write>(rt: &HostRuntime, err: &mut E) -> anyhow::Result<Status> {
     match words(rt, err)? {
         Some(words) => obey(rt, err, words),
@@ -73,8 +74,10 @@ fn run<E: Write>(rt: &HostRuntime, err: &mut E) -> anyhow::Result<Status> {
     }
 }
 
-// Runs the programs of the folder that the command line names. If the command line doesn't match,
-// `parse` has printed why, and nothing is run.
+// Runs the worked programs in the folder that the command line names, or in the current folder.
+// Returns the status of the last program that was run. If the command line doesn't match, nothing
+// is run, and the status is that of `parse`, which has printed why. Returns an error if reading,
+// printing or an allocation fails.
 fn obey<E: Write>(rt: &HostRuntime, err: &mut E, words: Vec<String>) -> anyhow::Result<Status> {
     let matches = match parse(rt, command(rt.alloc())?, &words)? {
         Ok(matches) => matches,
@@ -83,8 +86,8 @@ fn obey<E: Write>(rt: &HostRuntime, err: &mut E, words: Vec<String>) -> anyhow::
     show_all(rt, err, matches.get_str("folder").unwrap_or("."))
 }
 
-// Runs each program, up to one that isn't accepted or can't be played. Returns the status of the
-// last one that was run.
+// Runs the worked programs in order, up to the first that isn't accepted or can't be played.
+// Returns the status of the last program that was run.
 fn show_all<E: Write>(rt: &HostRuntime, err: &mut E, folder: &str) -> anyhow::Result<Status> {
     let mut out = BufWriter::new(rt.alloc(), io::writer(rt))?;
     for example in &EXAMPLES {
@@ -97,8 +100,9 @@ fn show_all<E: Write>(rt: &HostRuntime, err: &mut E, folder: &str) -> anyhow::Re
     Ok(Status::Done)
 }
 
-// Prints the verdict on a program, the lines that install it and send it requests, and their
-// output. Returns the status of the verdict, or, if that is `Done`, the status of the requests.
+// Prints the verdict on a program. If it is accepted, prints the lines that install the program and
+// send requests to it, and the output of these lines. Returns the status of the verdict, or, if
+// that is `Done`, the status of playing the lines.
 fn show<R: Files + AllocGlobal, W: Write, E: Write>(
     rt: &R,
     out: &mut W,

@@ -39,7 +39,7 @@ fn command<'a>(alloc: Global) -> Command<'a> {
         .after_help(EVENTS)
 }
 
-// Runs the program by the words of its command line. If a word isn't UTF-8, the status is `Bad`.
+// Runs the program with the words of its command line. If a word isn't UTF-8, the status is `Bad`.
 fn run<R: Runtime + AllocGlobal, E: Write>(rt: &R, err: &mut E) -> anyhow::Result<Status> {
     match words(rt, err)? {
         Some(words) => obey(rt, err, words),
@@ -47,8 +47,8 @@ fn run<R: Runtime + AllocGlobal, E: Write>(rt: &R, err: &mut E) -> anyhow::Resul
     }
 }
 
-// Replays standard input onto standard output. If the command line doesn't match, `parse` has
-// printed why (or the help), and the status is the one for that.
+// Replays standard input to standard output, and returns the status. If the command line doesn't
+// match or asks for help, nothing is replayed, and the status is that of `parse`.
 fn obey<R: Runtime + AllocGlobal, E: Write>(
     rt: &R,
     err: &mut E,

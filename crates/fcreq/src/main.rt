@@ -1,4 +1,4 @@
-//! The client's `main`, which parses its command line and sends its request.
+//! The client's `main`, which parses the command line and runs its operation.
 #![tactic(auto)]
 
 use clap::{Arg, ArgAction, Command, Error, value_parser};
@@ -168,7 +168,7 @@ fn flag<'a>(alloc: Global, name: &'static str, help: &'static str) -> Arg<'a> {
         .help(help)
 }
 
-// Reads the words of the command line and obeys them. Returns `Bad` if a word isn't UTF-8.
+// Runs the operation of the command line, and returns its status, or `Bad` if a word isn't UTF-8.
 fn run<R: Runtime + AllocGlobal + Net + RandomSource, E: Write>(
     rt: &R,
     err: &mut E,
@@ -180,8 +180,9 @@ fn run<R: Runtime + AllocGlobal + Net + RandomSource, E: Write>(
     }
 }
 
-// Runs the operation of the command line, and returns the program's status. `terminal` says whether
-// standard input is a terminal. Words that aren't an operation are reported to `err`.
+// Runs the operation that the words name, and returns its status. `terminal` says whether standard
+// input is a terminal. If the words don't match the command line, the status is that of `parse`. If
+// the operation is refused, the reason is written to `err`, and the status is `Bad`.
 fn obey<R: Runtime + AllocGlobal + Net + RandomSource, E: Write>(
     rt: &R,
     err: &mut E,
@@ -203,7 +204,7 @@ fn obey<R: Runtime + AllocGlobal + Net + RandomSource, E: Write>(
     }
 }
 
-// Sends the request of the command line.
+// Sends the request of the command line, prints or stores the response, and returns the status.
 fn ask<R: Runtime + AllocGlobal + Net + RandomSource, E: Write>(
     rt: &R,
     err: &mut E,
@@ -215,9 +216,9 @@ fn ask<R: Runtime + AllocGlobal + Net + RandomSource, E: Write>(
     Ok(ask_by(&System { rt }, rt, alloc, &mut input, &mut out, err, asking))
 }
 
-// Observes the target of the command line. The socket is open while the lines are printed. The
-// opened files have the descriptors of closed standard streams, so that the socket has none of
-// these.
+// Observes the target of the command line, and returns the status. The socket is open while lines
+// are printed. Three files are opened before it, so that they, and not the socket, get the
+// descriptors of standard streams that are closed.
 fn observe_by<R: Runtime + AllocGlobal + Net + RandomSource, E: Write>(
     rt: &R,
     err: &mut E,

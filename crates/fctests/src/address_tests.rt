@@ -9,7 +9,7 @@ use fc_fetch::printer::write_answer;
 use std::net::{Ipv4Addr, SocketAddrV4};
 use std::test::Fail;
 
-// A URI, its host and port, the bytes of its path, and the arguments of its query.
+// URIs, each with its host, port, path and arguments of the query.
 static URIS: [(&str, [u8; 4], u16, &[u8], &[&[u8]]); 7] = [
     (
         "coap://127.0.0.1:5684/r/1",
@@ -51,6 +51,7 @@ static URIS: [(&str, [u8; 4], u16, &[u8], &[&[u8]]); 7] = [
     ),
 ];
 
+// Returns whether the arguments of a query are the expected ones.
 fn are_arguments(query: &[Vec<u8>], wanted: &[&[u8]]) -> bool {
     query
         .iter()
@@ -58,6 +59,7 @@ fn are_arguments(query: &[Vec<u8>], wanted: &[&[u8]]) -> bool {
         .eq(wanted.iter().copied())
 }
 
+// Parsing a URI returns its server, path and query arguments.
 #[test]
 fn uris_are_read(rt: HostRuntime) -> Result<(), Fail> {
     for (uri, [a, b, c, d], port, path, query) in URIS.iter().copied() {
@@ -72,6 +74,8 @@ fn uris_are_read(rt: HostRuntime) -> Result<(), Fail> {
     Ok(())
 }
 
+// A target that is only a path is at 127.0.0.1, at the port of `--port`. Escapes in the path aren't
+// decoded.
 #[test]
 fn a_path_is_at_a_port_of_this_host(rt: HostRuntime) -> Result<(), Fail> {
     let address = Address::parse(rt.alloc(), "/r/1%3F", Some(7))?;
@@ -80,8 +84,8 @@ fn a_path_is_at_a_port_of_this_host(rt: HostRuntime) -> Result<(), Fail> {
     Ok(())
 }
 
-// A path with a query, and its parts: the first `?` separates them, and each `&` of the query
-// separates arguments. Escapes aren't decoded.
+// Paths with queries, each with its parts. The first `?` ends the path, and each `&` of the query
+// separates two arguments. Escapes aren't decoded.
 static QUERIES: [(&str, &[u8], &[&[u8]]); 4] = [
     ("/r/1?x=1", b"/r/1", &[b"x=1"]),
     (
@@ -93,6 +97,7 @@ static QUERIES: [(&str, &[u8], &[&[u8]]); 4] = [
     ("?a", b"", &[b"a"]),
 ];
 
+// Parsing a path with a query returns the path and the query's arguments.
 #[test]
 fn a_path_has_a_query(rt: HostRuntime) -> Result<(), Fail> {
     for (text, path, query) in QUERIES.iter().copied() {
@@ -105,7 +110,7 @@ fn a_path_has_a_query(rt: HostRuntime) -> Result<(), Fail> {
     Ok(())
 }
 
-// Words that are no address, with the port that `--port` gives.
+// Words that are no address, each with the port that `--port` gives, if any, and the error.
 static NONE: [(&str, Option<u16>, AddressError); 8] = [
     ("/r/1", None, AddressError::NoPort),
     ("coap://127.0.0.1/r/1", Some(5683), AddressError::TwoPorts),
@@ -117,6 +122,7 @@ static NONE: [(&str, Option<u16>, AddressError); 8] = [
     ("coap://127.0.0.1/a%2fb", None, AddressError::Escape),
 ];
 
+// Parsing a word that is no address returns the reason.
 #[test]
 fn what_is_no_address_is_told(rt: HostRuntime) -> Result<(), Fail> {
     for (text, port, error) in NONE.iter().copied() {
@@ -128,7 +134,7 @@ fn what_is_no_address_is_told(rt: HostRuntime) -> Result<(), Fail> {
     Ok(())
 }
 
-// How bytes are shown, and what is printed for them.
+// How a response is to be shown, the response's bytes, and the whole output.
 static SHOWN: [(Shown, &[u8], &[u8]); 7] = [
     (Shown::Hex, b"on", b"2.05\n6f6e\n"),
     (Shown::Text, b"on", b"2.05\non\n"),
@@ -139,6 +145,7 @@ static SHOWN: [(Shown, &[u8], &[u8]); 7] = [
     (Shown::Text, b"", b"2.05\n"),
 ];
 
+// The output is the code, and then the bytes in hex, or as text if that is wanted and possible.
 #[test]
 fn answers_are_printed_as_text_or_in_hex(rt: HostRuntime) -> Result<(), Fail> {
     for (shown, bytes, printed) in SHOWN.iter().copied() {

@@ -39,7 +39,7 @@ fn jump(relation: Relation, width: Width) -> Jump {
     }
 }
 
-/// Operations, two numbers, and the results at 32 bits and at 64.
+/// An operation, two operands, and the results at 32 bits and at 64 bits.
 static OPERATIONS: [(AluOp, u64, u64, u64, u64); 27] = [
     // Sums and products wrap; the upper half is zero at 32 bits.
     (
@@ -58,8 +58,8 @@ static OPERATIONS: [(AluOp, u64, u64, u64, u64); 27] = [
         0x2b4f_a4f2_b203_69cd,
     ),
     (AluOp::Mov, 7, MANY, 0x7654_3210, MANY),
-    // Divided by zero, a quotient is 0 and a remainder is the dividend. Signed quotients truncate
-    // toward zero; the least number divided by -1 is itself.
+    // A quotient by zero is 0, and a remainder by zero is the dividend. Signed quotients truncate
+    // toward zero. The quotient of the least number and -1 is the least number.
     (AluOp::Div, MANY, WIDE, 0x2771_6605, 0x2468_acf1),
     (AluOp::Div, MANY, 0, 0, 0),
     (AluOp::Mod, MANY, WIDE, 1, 0x1_091a_2b3d),
@@ -122,6 +122,7 @@ static OPERATIONS: [(AluOp, u64, u64, u64, u64); 27] = [
     ),
 ];
 
+/// Each operation gives the results of its row, at 32 bits and at 64 bits.
 #[test]
 fn operations_give_what_they_should(rt: HostRuntime) {
     for (op, dst, operand, want32, want64) in OPERATIONS.iter().copied() {
@@ -132,6 +133,7 @@ fn operations_give_what_they_should(rt: HostRuntime) {
     }
 }
 
+/// Negation gives zero minus the number, modulo 2^32 or 2^64 by the width.
 #[test]
 fn negation_is_zero_less_the_number(rt: HostRuntime) {
     for (width, dst, want) in [
@@ -148,6 +150,9 @@ fn negation_is_zero_less_the_number(rt: HostRuntime) {
     }
 }
 
+/// A sign extension repeats the sign bit of the low 8, 16 or 32 bits.
+///
+/// The result has the width's 32 or 64 bits, and zeros above them.
 #[test]
 fn signs_are_extended_to_the_width(rt: HostRuntime) {
     for (extension, src, want) in [
@@ -173,6 +178,9 @@ fn signs_are_extended_to_the_width(rt: HostRuntime) {
     }
 }
 
+/// `Big` and `Swapped` reverse the low 2, 4 or 8 bytes, and `Little` doesn't.
+///
+/// The other bytes of each result are zero.
 #[test]
 fn byte_orders_reverse_the_low_bytes(rt: HostRuntime) {
     for (order, width, want) in [
@@ -199,10 +207,10 @@ fn byte_orders_reverse_the_low_bytes(rt: HostRuntime) {
     }
 }
 
-/// Four pairs, with a digit for each in a row.
+/// Each comparison holds for the pairs of numbers whose digits in its row are 1.
 ///
-/// A number with the sign of both widths, and 1; the same exchanged; a number and itself; two
-/// numbers whose low halves are equal.
+/// In the order of the digits, the pairs are: a number that is negative at both widths, and 1; 1
+/// and that number; a number and itself; two numbers whose low halves are equal.
 #[test]
 fn comparisons_hold_as_their_rows_say(rt: HostRuntime) {
     for (relation, want32, want64) in [
@@ -223,7 +231,7 @@ fn comparisons_hold_as_their_rows_say(rt: HostRuntime) {
     }
 }
 
-/// JSET needs one common bit, and one is enough.
+/// JSET holds if the two numbers have at least one common bit at the width.
 #[test]
 fn jset_asks_for_a_common_bit(rt: HostRuntime) {
     for (left, right, want32, want64) in [
@@ -238,6 +246,7 @@ fn jset_asks_for_a_common_bit(rt: HostRuntime) {
     }
 }
 
+// Returns four binary digits: whether the comparison holds for each of the four pairs.
 fn truths(relation: Relation, width: Width) -> u8 {
     let signed = 0x8000_0000_8000_0000;
     8 * digit(relation, width, signed, 1)
@@ -246,6 +255,7 @@ fn truths(relation: Relation, width: Width) -> u8 {
         + digit(relation, width, 0x5_0000_0004, 0x3_0000_0004)
 }
 
+// Returns 1 if the comparison holds for these numbers, and 0 if it doesn't.
 fn digit(relation: Relation, width: Width, left: u64, right: u64) -> u8
     ensures { result ≤ 1 }
 {

@@ -1,10 +1,12 @@
-//! Sources and their meaning: the expected values follow from the assembler's rules.
+//! Sources, and the programs or mistakes that the assembler makes of them.
+//!
+//! The expected values follow from the assembler's rules.
 use fc_asm::{AsmError, assemble, disassemble};
 use fc_isa::{AluOp, Insn, Jump, LoadType, Operand, Reg, Relation, Size, Target, Width};
 use std::alloc::{AllocError, Global};
 use std::test::Fail;
 
-// Returns the output: the listing, or the fault.
+// Assembles a text. Returns the listing of the program, or the mistake with its line.
 fn outcome(alloc: Global, text: &str) -> Result<String, AllocError> {
     match assemble(alloc, text) {
         Ok(program) => disassemble(alloc, &program),
@@ -13,6 +15,7 @@ fn outcome(alloc: Global, text: &str) -> Result<String, AllocError> {
     }
 }
 
+// Each line is assembled to the instruction of its row.
 #[test]
 fn lines_mean_instructions(rt: HostRuntime) -> Result<(), Fail> {
     let rows = [
@@ -101,6 +104,7 @@ static LISTINGS: [&str; 29] = [
     "",
 ];
 
+// A listing is assembled to a program that has the same listing.
 #[test]
 fn listed_lines_are_assembled(rt: HostRuntime) -> Result<(), Fail> {
     for text in LISTINGS.iter().copied() {
@@ -110,7 +114,7 @@ fn listed_lines_are_assembled(rt: HostRuntime) -> Result<(), Fail> {
     Ok(())
 }
 
-// Sources, and the listing of their program or their fault.
+// Sources, each with the listing of its program, or with its mistake.
 static OUTCOMES: [(&str, &str); 54] = [
     // comments, blank lines, spaces and commas
     ("; nothing\n\n  , ,\nexit ; done\n;exit", "exit\n"),
@@ -175,11 +179,12 @@ static OUTCOMES: [(&str, &str); 54] = [
     ("movsx64 r1, r2, 64", "A3 line 1"),
     ("movsx64 r1, r2, -8", "A3 line 1"),
     ("movsx64 r1, r2, 99999999999", "A3 line 1"),
-    // the first faulty line is named
+    // of several mistakes, the first one is reported
     ("exit\n\nmov64 r1, 2147483648\nmovq r1, 1\n", "A3 line 3"),
     ("; one\nexit 1\nexit 2", "A2 line 2"),
 ];
 
+// A source that isn't a listing gives the listing or the mistake of its row.
 #[test]
 fn texts_that_are_no_listing(rt: HostRuntime) -> Result<(), Fail> {
     for (text, wanted) in OUTCOMES.iter().copied() {

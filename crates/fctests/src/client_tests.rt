@@ -6,6 +6,7 @@ use coap_client::{FetchFault, Path, PathError};
 use coap_opts::Method;
 use std::test::Fail;
 
+// A body of 1,500 bytes is sent in two blocks, of 1,024 and 476 bytes.
 #[test]
 fn a_large_body_goes_by_blocks(rt: HostRuntime) -> Result<(), Fail> {
     let mut server = follows(rt.alloc());
@@ -25,7 +26,8 @@ fn a_large_body_goes_by_blocks(rt: HostRuntime) -> Result<(), Fail> {
     Ok(())
 }
 
-// A server that executes each block by itself answers it with a success that names it.
+// If the server responds to each block with a success that has the block's Block1, the next block
+// is sent. A server that executes each block by itself responds so.
 #[test]
 fn blocks_that_are_carried_out_one_by_one_go_on(rt: HostRuntime) -> Result<(), Fail> {
     let mut server = follows(rt.alloc());
@@ -40,8 +42,8 @@ fn blocks_that_are_carried_out_one_by_one_go_on(rt: HostRuntime) -> Result<(), F
     Ok(())
 }
 
-// Successes to the first of two blocks: without Block1, for another block, also a 2.31, with a
-// greater size, and with a Block1 of four bytes.
+// Successes to the first of two blocks. The first has no Block1, the next two have the number of
+// another block (2.04 and 2.31). The last two have a greater size, and a Block1 of four bytes.
 static NOT_TAKEN: [&[u8]; 5] = [
     b"\x60\x44\x00\x07",
     b"\x60\x44\x00\x07\xd1\x0e\x16",
@@ -50,6 +52,7 @@ static NOT_TAKEN: [&[u8]; 5] = [
     b"\x60\x5f\x00\x07\xd4\x0e\x00\x00\x00\x06",
 ];
 
+// A success to the first block that doesn't have the block's Block1 ends the fetch as malformed.
 #[test]
 fn no_success_leaves_a_block_out(rt: HostRuntime) -> Result<(), Fail> {
     for reply in NOT_TAKEN.iter().copied() {
@@ -61,14 +64,16 @@ fn no_success_leaves_a_block_out(rt: HostRuntime) -> Result<(), Fail> {
     Ok(())
 }
 
-// Successes to the last of two blocks that don't fit: a 2.31, one for another block, and one that
-// says that more blocks follow.
+// Successes to the last of two blocks that don't match it. They are a 2.31, one with the number of
+// the first block, and one whose Block1 says that more blocks follow.
 static NOT_LAST: [&[u8]; 3] = [
     b"\x60\x5f\x00\x08\xd1\x0e\x16",
     b"\x60\x44\x00\x08\xd1\x0e\x06",
     b"\x60\x44\x00\x08\xd1\x0e\x1e",
 ];
 
+// A success that doesn't match the last block ends the fetch as malformed, and so does a 2.31 to a
+// body in one message.
 #[test]
 fn no_success_ends_it_before_the_server_has_all(rt: HostRuntime) -> Result<(), Fail> {
     for reply in NOT_LAST.iter().copied() {
@@ -85,6 +90,7 @@ fn no_success_ends_it_before_the_server_has_all(rt: HostRuntime) -> Result<(), F
     Ok(())
 }
 
+// An error response to the first block ends the fetch with that code, and no other block is sent.
 #[test]
 fn a_refused_block_ends_it(rt: HostRuntime) -> Result<(), Fail> {
     let mut server = follows(rt.alloc());
@@ -94,6 +100,7 @@ fn a_refused_block_ends_it(rt: HostRuntime) -> Result<(), Fail> {
     Ok(())
 }
 
+// A response of two blocks takes two requests, and its body has the bytes of both blocks.
 #[test]
 fn a_large_answer_comes_by_blocks(rt: HostRuntime) -> Result<(), Fail> {
     let mut server = follows(rt.alloc());
@@ -124,7 +131,8 @@ fn a_large_answer_comes_by_blocks(rt: HostRuntime) -> Result<(), Fail> {
     Ok(())
 }
 
-// The response to a GET changes between its blocks: the GET is repeated, once.
+// If the ETag changes between two blocks of the response, a GET is sent again for the first block,
+// and a POST ends with `Changed`.
 #[test]
 fn an_answer_that_changes_is_asked_for_anew(rt: HostRuntime) -> Result<(), Fail> {
     let begun: (&[u8], &[u8]) = (b"\x60\x45\x00\x07\x41\x02\xd1\x06\x0e\xff", &[8; 1024]);
@@ -140,6 +148,7 @@ fn an_answer_that_changes_is_asked_for_anew(rt: HostRuntime) -> Result<(), Fail>
     Ok(())
 }
 
+// If the ETag changes again after the GET was sent again, the fetch ends with `Changed`.
 #[test]
 fn an_answer_that_changes_twice_is_a_fault(rt: HostRuntime) -> Result<(), Fail> {
     let mut server = answers(
@@ -156,7 +165,8 @@ fn an_answer_that_changes_twice_is_a_fault(rt: HostRuntime) -> Result<(), Fail> 
     Ok(())
 }
 
-// A further block that is refused ends the fetch by its code, though it has no ETag.
+// An error response to the request for a further block ends the fetch with that code, although the
+// response has no ETag.
 #[test]
 fn a_refused_further_block_ends_it(rt: HostRuntime) -> Result<(), Fail> {
     let mut server = answers(
@@ -171,12 +181,14 @@ fn a_refused_further_block_ends_it(rt: HostRuntime) -> Result<(), Fail> {
     Ok(())
 }
 
+// A request without a response is sent again after 2 and 4 seconds. Messages that don't match the
+// request are ignored.
 #[test]
 fn a_request_is_sent_again(rt: HostRuntime) -> Result<(), Fail> {
     let mut server = follows(rt.alloc());
     comes(&mut server, &[], &[])?;
-    // Another message ID, a token, no acknowledgement, no message, and an acknowledgement of
-    // another request.
+    // Messages that don't match: with another message ID, with a token, not an acknowledgement,
+    // malformed, and an acknowledgement of another request.
     comes(&mut server, b"\x60\x45\x00\x06", &[])?;
     comes(&mut server, b"\x61\x45\x00\x07\x01", &[])?;
     comes(&mut server, b"\x50\x45\x00\x07", &[])?;
@@ -190,6 +202,8 @@ fn a_request_is_sent_again(rt: HostRuntime) -> Result<(), Fail> {
     Ok(())
 }
 
+// Without a response the fetch ends with `Silence`, after waits of 2, 4, 8, 16 and 32 seconds. A
+// Reset message ends a fetch with `Rejected`.
 #[test]
 fn silence_and_a_reset_end_it(rt: HostRuntime) -> Result<(), Fail> {
     let mut silent = follows(rt.alloc());
@@ -203,6 +217,8 @@ fn silence_and_a_reset_end_it(rt: HostRuntime) -> Result<(), Fail> {
     Ok(())
 }
 
+// A path has a slash before each segment, and a segment has 1 to 255 bytes. The error has the
+// number of the first segment that breaks this.
 #[test]
 fn paths_are_read(rt: HostRuntime) -> Result<(), Fail> {
     let path = Path::parse(rt.alloc(), b"/.well-known/core")?;

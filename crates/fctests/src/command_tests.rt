@@ -1,7 +1,7 @@
 //! The command line of the server's program.
 //!
-//! The first line of the version is the program's, by the convention of `NAME VERSION`; the values
-//! of options are those that docs/COMMANDS.md gives.
+//! The output of `--version` begins with the program's name and version. The values of options are
+//! those that docs/COMMANDS.md gives.
 use fc_core::Network;
 use fc_service::command::{LINES, command};
 use fc_service::options::{BadOption, ServeOptions, serve_options};
@@ -20,6 +20,7 @@ fn told(alloc: Global, word: &str) -> Result<String, Fail> {
     Ok(text)
 }
 
+// `--version` prints the version of the program and of the kit, and `--help` includes `LINES`.
 #[test]
 fn version_and_help_are_told(rt: HostRuntime) -> Result<(), Fail> {
     let version = told(rt.alloc(), "--version")?;
@@ -42,6 +43,7 @@ const EXAMPLES: Network = Network {
     bits: 24,
 };
 
+// If only the port is given, each other option of `serve` has its default.
 #[test]
 fn serve_has_its_defaults(rt: HostRuntime) -> Result<(), Fail> {
     let words = ["fcd", "serve", "--port", "5683"];
@@ -62,6 +64,7 @@ fn serve_has_its_defaults(rt: HostRuntime) -> Result<(), Fail> {
     Ok(())
 }
 
+// Each option of `serve` has the value that the command line gives.
 #[test]
 fn serve_has_the_options_that_it_is_given(rt: HostRuntime) -> Result<(), Fail> {
     let words = [
@@ -108,6 +111,7 @@ fn serve_has_the_options_that_it_is_given(rt: HostRuntime) -> Result<(), Fail> {
     Ok(())
 }
 
+// `serve` refuses a `--bind` that is no IPv4 address, and a `--managers` that is no network.
 #[test]
 fn an_address_and_a_network_of_serve_are_checked(rt: HostRuntime) -> Result<(), Fail> {
     let no_address = ["fcd", "serve", "--port", "5683", "--bind", "localhost"];
@@ -125,7 +129,7 @@ fn an_address_and_a_network_of_serve_are_checked(rt: HostRuntime) -> Result<(), 
     Ok(())
 }
 
-// `--exchanges` takes 1 to 65,536.
+// `--exchanges` accepts 65,536, and refuses 65,537 and 0.
 #[test]
 fn exchanges_have_a_range(rt: HostRuntime) -> Result<(), Fail> {
     let most = ["fcd", "serve", "--port", "5683", "--exchanges", "65536"];

@@ -1,4 +1,4 @@
-//! A shard with its ledger: the changes that its calls count.
+//! A shard with a ledger, which counts the changes that calls make.
 ghost use Rattle.std.specs.Prelude.{◌≡◌, ◌<◌};
 
 use crate::job_tests::job;
@@ -16,7 +16,7 @@ use std::sync::Arc;
 use std::sync::ledger::{Blank, Ledger};
 use std::test::Fail;
 
-// A POST of slot 3, which shard 3 owns.
+// Returns the job of a POST to slot 3, which shard 3 owns.
 fn post() -> Job
     ensures { result.origin.slot ≡ 3 }
 {
@@ -26,8 +26,8 @@ fn post() -> Job
     post
 }
 
-// Takes a snapshot for the job, and commits its run. Returns whether the snapshot had serial 8, by
-// the commit's mark.
+// Takes a snapshot for the job, runs the program, and commits the outcome. Returns whether the mark
+// of the commit has serial 8; `false` if there was no snapshot or no commit.
 fn commit<L: Ledger>(
     alloc: Global,
     counted: &mut Counted<L>,
@@ -57,8 +57,9 @@ fn commit<L: Ledger>(
     Ok(false)
 }
 
-// Installs, commits, removes, and removes nothing. Returns the slot's serial at the end, and the
-// number of changes in the tally.
+// Installs a program, commits a run, removes the program, and removes it again, which changes
+// nothing. Returns the slot's serial and the number of changes in the tally. That number is 0 if
+// the commit failed.
 fn change<L: Ledger>(alloc: Global, blank: Blank) -> Result<(u64, u64), Fail>
     requires name { blank.name ≡ L.name }
     requires parts { (blank.parts ≡ L.parts) × (0 < blank.parts) }
@@ -75,6 +76,7 @@ fn change<L: Ledger>(alloc: Global, blank: Blank) -> Result<(u64, u64), Fail>
     Ok((counted.shard().serial(SlotNumber::new(3)), shown))
 }
 
+// An install, a commit and a removal are counted once each; a removal from an empty slot isn't.
 #[test]
 fn each_change_is_counted_once(rt: HostRuntime) -> Result<(), Fail> {
     let blank = Blank::new(1);

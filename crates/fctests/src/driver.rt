@@ -1,4 +1,6 @@
-//! The driver of a pool of workers: it delivers datagrams, and sends their jobs.
+//! A driver of a pool of workers, for tests.
+//!
+//! It delivers datagrams to a server, and sends the jobs to the workers.
 ghost use Rattle.std.specs.Prelude.{◌≡◌};
 
 use coap_msg::Endpoint;
@@ -10,7 +12,7 @@ use fc_workers::{Bench, TrackLog};
 use std::alloc::{AllocError, Global};
 use std::sync::{Mutex, Wait};
 
-/// The source of all datagrams.
+/// The sender of all datagrams.
 pub(crate) const PEER: Endpoint = Endpoint {
     ip: [127, 0, 0, 1],
     port: 5683,
@@ -65,7 +67,7 @@ pub(crate) fn datagram(
     Ok(bytes)
 }
 
-/// A driver: it delivers datagrams to a server, and sends their jobs to workers.
+/// A driver: it delivers datagrams to a server, and sends the jobs to workers.
 #[derive(Drop)]
 pub(crate) struct Driver<'a, B: Bench> {
     pub(crate) alloc: Global,
@@ -75,9 +77,10 @@ pub(crate) struct Driver<'a, B: Bench> {
 }
 
 impl<'a, B: Bench> Driver<'a, B> {
-    /// Delivers a request's datagram at `now`, in milliseconds, and sends its job.
+    /// Delivers a request's datagram at `now`, in milliseconds, and sends the job.
     ///
-    /// Returns whether a job was sent.
+    /// Returns whether the datagram produced a job that was sent, or an error if memory can't be
+    /// allocated.
     pub(crate) fn ask<R: Wait>(
         &self,
         rt: &R,
@@ -97,7 +100,9 @@ impl<'a, B: Bench> Driver<'a, B> {
         }
     }
 
-    /// Delivers a datagram at `now`, in milliseconds, and returns its job, if it has one.
+    /// Delivers a datagram at `now`, in milliseconds.
+    ///
+    /// Returns the job that the datagram produces, or `None` if it produces none.
     pub(crate) fn job<R: Wait>(&self, rt: &R, now: u64, bytes: &[u8]) -> Option<Job> {
         let mut job = blank_job();
         let mut reply = blank_emission();

@@ -12,8 +12,8 @@ const CLIENT: Endpoint = Endpoint {
     port: 5683,
 };
 
-// Looks up the exchange of a confirmable request, and opens one if the request is new. Returns
-// whether it was.
+// Looks up the exchange of a confirmable request, and opens one if the request is new and there is
+// room. Returns whether an exchange was opened.
 fn arrives(exchanges: &mut Exchanges, now: u64, from: Endpoint, id: u16) -> bool
     requires { exchanges.old.now ≤ now }
     ensures { exchanges.new.now ≡ now }
@@ -30,8 +30,8 @@ fn arrives(exchanges: &mut Exchanges, now: u64, from: Endpoint, id: u16) -> bool
     }
 }
 
-// Exchanges expire in the order in which they were opened, and a key that is opened again comes
-// last.
+// Exchanges expire in the order in which they were opened. A key whose exchange expired can be
+// opened again, and its new exchange expires last.
 #[test]
 fn exchanges_end_in_order_of_arrival(rt: HostRuntime) -> Result<(), AllocError> {
     let mut exchanges = Exchanges::new(rt.alloc(), DEFAULT_LIMITS)?;
@@ -49,7 +49,7 @@ fn exchanges_end_in_order_of_arrival(rt: HostRuntime) -> Result<(), AllocError> 
 }
 
 // A search compares no key if no exchange is stored, and otherwise begins in the middle. Calls
-// other than searches leave the number of comparisons unchanged.
+// other than searches don't change the number of comparisons.
 #[test]
 fn looks_count_their_comparisons(rt: HostRuntime) -> Result<(), AllocError> {
     let mut exchanges = Exchanges::new(rt.alloc(), DEFAULT_LIMITS)?;
@@ -64,7 +64,8 @@ fn looks_count_their_comparisons(rt: HostRuntime) -> Result<(), AllocError> {
     Ok(())
 }
 
-// Clients of two hosts and 1,024 ports, and message IDs, in no order.
+// Returns the endpoint and message ID of the exchange with this number. There are two hosts, 1,024
+// ports in no order, and three message IDs.
 fn key(number: u16) -> (Endpoint, u16) {
     let host = if number % 2 == 0 { 1 } else { 2 };
     let client = Endpoint {
@@ -74,13 +75,14 @@ fn key(number: u16) -> (Endpoint, u16) {
     (client, number % 3)
 }
 
+// Returns the response of the exchange with this number: the number's two bytes.
 fn answer(number: u16) -> Datagram {
     let mut bytes = Datagram::new();
     let _fits = bytes.try_extend_from_slice(&number.to_be_bytes());
     bytes
 }
 
-// Opens 1,024 exchanges, and answers each.
+// Opens 1,024 exchanges, and closes each with its response.
 fn fill(rt: &impl Abort, exchanges: &mut Exchanges)
     requires { exchanges.old.now ≡ 0 }
     ensures { exchanges.new.now ≡ 0 }
@@ -93,7 +95,8 @@ fn fill(rt: &impl Abort, exchanges: &mut Exchanges)
     }
 }
 
-// Each of 1,024 exchanges is found with at most eleven comparisons, and has its own answer.
+// Looks up 1,024 exchanges. Each is found with at most eleven comparisons, and has the response
+// with which it was closed.
 fn find_all(rt: &impl Abort, exchanges: &mut Exchanges)
     requires { exchanges.old.now ≡ 0 }
     ensures { exchanges.new.now ≡ 0 }
@@ -112,6 +115,8 @@ fn find_all(rt: &impl Abort, exchanges: &mut Exchanges)
     }
 }
 
+// A table of 1,024 exchanges finds each of them, and has no room for another one. After 247,000 ms
+// a response is too late.
 #[test]
 fn each_of_1024_exchanges_is_found(rt: HostRuntime) -> Result<(), Fail> {
     let mut exchanges = Exchanges::new(rt.alloc(), DEFAULT_LIMITS)?;

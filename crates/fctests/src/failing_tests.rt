@@ -1,6 +1,7 @@
 //! A source and a sink that fail at every second call.
 //!
-//! The source fails to receive, and the sink to send. The answers are worked out by hand.
+//! The source fails to receive, and the sink to send. The expected responses are worked out by
+//! hand.
 ghost use Rattle.std.specs.Prelude.{◌≤◌, IfSome, length};
 
 use crate::socket_tests::{check_logged, put_datagram, unrecorded};
@@ -18,19 +19,20 @@ use std::sync::atomic::{AtomicUsize, Ordering};
 use std::thread::Threads;
 use std::time::Clock;
 
-// A program for slot 1 that counts POSTs in eight bytes of variables.
+// A PUT to slot 1 of a program that counts POSTs in eight bytes of variables.
 pub(crate) const PUT: &[u8] =
     b"\x40\x03\x00\x01\xb1\x70\x01\x31\xff\x46\x43\x42\x31\x08\x00\x09\x00\x09\x00\x00\x00\x00\x00\x00\x00\xb7\x01\x00\x00\x00\x00\x00\x00\x85\x00\x00\x00\x03\x00\x00\x00\x07\x00\x00\x00\x01\x00\x00\x00\xbf\x02\x00\x00\x00\x00\x00\x00\xb7\x01\x00\x00\x00\x00\x00\x00\x85\x00\x00\x00\x04\x00\x00\x00\x85\x00\x00\x00\x07\x00\x00\x00\xb7\x00\x00\x00\x00\x00\x00\x00\x95\x00\x00\x00\x00\x00\x00\x00";
 
-// A POST and a GET of the slot.
+// A POST to slot 1.
 pub(crate) const POST: &[u8] = b"\x40\x02\x00\x02\xb1\x72\x01\x31";
 
+// A GET of slot 1.
 const GET: &[u8] = b"\x40\x01\x00\x03\xb1\x72\x01\x31";
 
-// A GET of the receipt.
+// A GET of the receipt of slot 1's program.
 const DESCRIBE: &[u8] = b"\x40\x01\x00\x04\xb1\x70\x01\x31";
 
-// Each datagram is received twice.
+// The requests. Each datagram is received twice.
 static REQUESTS: [&[u8]; 8] = [PUT, PUT, POST, POST, GET, GET, DESCRIBE, DESCRIBE];
 
 const CREATED: &[u8] = b"\x60\x41\x00\x01\xffversion=1 cost=9 budget=9 vars=8";
@@ -42,12 +44,12 @@ const CONTENT: &[u8] = b"\x60\x45\x00\x03\x48\x00\x00\x00\x00\x00\x00\x00\x02";
 
 const DESCRIBED: &[u8] = b"\x60\x45\x00\x04\xffversion=1 cost=9 budget=9 vars=8";
 
-// The responses to these: a duplicate gets the same bytes.
+// The responses to `REQUESTS`. A duplicate gets the same bytes as the first request.
 static ANSWERS: [&[u8]; 8] = [
     CREATED, CREATED, CHANGED, CHANGED, CONTENT, CONTENT, DESCRIBED, DESCRIBED,
 ];
 
-// A source that has the next request at each call, or at every second one.
+// A source that returns the next request at each call, or, if `fails`, at every second call.
 #[derive(Drop)]
 struct Letters {
     fails: bool,
@@ -75,8 +77,8 @@ impl Source for Letters {
     }
 }
 
-// A sink that counts the datagrams that aren't the next response. It fails at every second call,
-// beginning with the first, or never.
+// A sink that counts the datagrams that aren't the next response. If `fails`, every second send
+// fails, beginning with the first.
 #[derive(Drop)]
 struct Matching {
     fails: bool,
@@ -99,9 +101,8 @@ impl Sink for Matching {
     }
 }
 
-// Serves the requests with this many workers. Each duplicate is answered by the same bytes, whether
-// or not the source and the sink fail. The responses that were sent and those that failed are all
-// responses.
+// Serves the requests with this many workers. Checks that the eight responses, sent or not, are the
+// expected ones, and that `message` is logged at the end.
 fn check_served<R: Abort + AllocGlobal + Threads + Wait + Clock + Sync>(
     rt: &R,
     fails: bool,
@@ -142,6 +143,8 @@ fn check_served<R: Abort + AllocGlobal + Threads + Wait + Clock + Sync>(
     check_logged(rt, memory, message);
 }
 
+// A duplicate gets the same bytes as the first request, whether or not the source and the sink
+// fail, with one worker and with two.
 #[test]
 fn repeats_are_answered_by_the_same_bytes(rt: HostRuntime) {
     check_served(&rt, false, 1, "sent 8 failed 0");

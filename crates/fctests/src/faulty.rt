@@ -2,7 +2,7 @@
 use std::io;
 use std::io::{ErrorKind, Read, Write};
 
-// A writer that fails after this many bytes.
+// A writer that accepts this many bytes in all, and then fails.
 #[derive(Drop)]
 pub(crate) struct Full(pub(crate) usize);
 

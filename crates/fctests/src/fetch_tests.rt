@@ -1,4 +1,4 @@
-//! The client's program over a socket of this host: its requests and observations.
+//! The client's program, with a socket of this host as its server.
 //!
 //! The datagrams are worked out by hand (RFC 7252, section 3; RFC 7641, section 2).
 use crate::faulty::{Unflushed, Unreadable};
@@ -28,14 +28,14 @@ use std::thread::Threads;
 use std::time::{Clock, Duration, Instant};
 use std::{fs, io, thread};
 
-// Opens a server's socket at a free port. It waits 20 seconds for a client that sends nothing.
+// Opens a server's socket at a free port. A receive from it fails after 20 seconds.
 fn server_socket<R: Net>(rt: &R) -> io::Result<UdpSocket> {
     let socket = UdpSocket::bind(rt, at_port(0))?;
     socket.set_read_timeout(Some(Duration::from_secs(20)))?;
     Ok(socket)
 }
 
-// Returns the datagram that a server receives, and its sender.
+// Receives a datagram at a server's socket. Returns the datagram and its sender.
 fn received(alloc: Global, socket: &UdpSocket) -> io::Result<(Vec<u8>, SocketAddr)> {
     let mut buffer = [0; 64];
     let (count, client) = socket.recv_from(&mut buffer)?;
@@ -43,8 +43,8 @@ fn received(alloc: Global, socket: &UdpSocket) -> io::Result<(Vec<u8>, SocketAdd
     Ok((bytes, client))
 }
 
-// Answers one request with its message ID and token, by a message of this type and code and these
-// bytes after the token. Returns the request without its message ID.
+// Receives one request and responds to it. The response has the type and code of `head`, the
+// request's message ID and token, and then `tail`. Returns the request without its message ID.
 fn answer_once(
     alloc: Global,
     socket: &UdpSocket,
@@ -63,8 +63,9 @@ fn answer_once(
     Ok(joined(alloc, front, bytes.get(4..).unwrap_or(&[]))?)
 }
 
-// `-N post` with a body: type 1, code 0.02, the path, and the body after the marker; and a
-// confirmable DELETE: type 0, code 0.04. The responses are 2.04 and 2.02.
+// Two requests: a non-confirmable POST with a body (type 1, code 0.02), and a confirmable DELETE
+// (type 0, code 0.04). Each row has the type and code of the response, 2.04 or 2.02, and the
+// request's bytes without its message ID.
 static ASKED: [(bool, Method, &[u8], [u8; 2], &[u8]); 2] = [
     (
         false,
@@ -82,6 +83,7 @@ static ASKED: [(bool, Method, &[u8], [u8; 2], &[u8]); 2] = [
     ),
 ];
 
+// The request that is sent has the type, method and body of the options.
 #[test]
 fn a_request_has_the_type_the_method_and_the_body_that_are_asked_for(
     rt: HostRuntime,
@@ -115,14 +117,16 @@ fn a_request_has_the_type_the_method_and_the_body_that_are_asked_for(
     Ok(())
 }
 
-// Serves an observer without any notification: its registration is answered with Observe 1 and its
-// deregistration without.
+// Serves an observer without any notification. The response to the registration has Observe 1, and
+// the one to the deregistration has no Observe.
 fn have_observer(alloc: Global, socket: &UdpSocket) -> io::Result<()> {
     answer_once(alloc, socket, [0x64, 0x45], b"\x61\x01\xff\x61")?;
     answer_once(alloc, socket, [0x64, 0x45], b"\xff\x61")?;
     Ok(())
 }
 
+// An observation of one second prints the first response, ends with `Done`, and lasts from 990 ms
+// to 20 seconds.
 #[test]
 fn an_observation_of_one_second_ends_in_seconds(rt: HostRuntime) -> Result<(), Fail> {
     let alloc = rt.alloc();
@@ -153,7 +157,7 @@ fn an_observation_of_one_second_ends_in_seconds(rt: HostRuntime) -> Result<(), F
     Ok(())
 }
 
-// The system, with the random bytes from 0x51 on.
+// The system, but with known random bytes: 0x51 and the bytes after it.
 #[derive(Drop)]
 struct Known<'a, R: Net + Clock> {
     rt: &'a R,
@@ -191,8 +195,8 @@ impl<'a, R: Net + Clock> Net for Known<'a, R> {
         self.rt.connect(addr)
     }
 
-    // Permits a client only the unspecified address and a free port: with these it reaches each
-    // server of its network.
+    // Permits a client only the unspecified address and a free port. A socket with these reaches
+    // each server of the client's network.
     fn bind_udp(&self, addr: SocketAddr) -> io::Result<UdpSocket> {
         if addr != SocketAddr::V4(SocketAddrV4::new(Ipv4Addr::UNSPECIFIED, 0)) {
             return Err(io::Error::from(io::ErrorKind::AddrNotAvailable));
@@ -201,15 +205,14 @@ impl<'a, R: Net + Clock> Net for Known<'a, R> {
     }
 }
 
-// Serves an observer, and returns its registration and its deregistration without their message
-// IDs.
+// Serves an observer. Returns the registration and the deregistration, without message IDs.
 fn observed(alloc: Global, socket: &UdpSocket) -> io::Result<(Vec<u8>, Vec<u8>)> {
     let registration = answer_once(alloc, socket, [0x64, 0x45], b"\x61\x01\xff\x61")?;
     let deregistration = answer_once(alloc, socket, [0x64, 0x45], b"\xff\x61")?;
     Ok((registration, deregistration))
 }
 
-// Returns the status of a fetch without a body, and its output.
+// Sends a request without a body. Returns the status and the output.
 fn fetched_from<R: Net + Clock + RandomSource>(
     rt: &R,
     alloc: Global,
@@ -221,7 +224,7 @@ fn fetched_from<R: Net + Clock + RandomSource>(
     (ended, out)
 }
 
-// Returns the status of an observation with known random bytes, and its output.
+// Observes with known random bytes. Returns the status and the output.
 fn observed_by_known<R: Net + Clock>(
     rt: &R,
     alloc: Global,
@@ -260,8 +263,7 @@ fn an_observer_has_a_random_token_and_ends_by_its_count(rt: HostRuntime) -> Resu
     Ok(())
 }
 
-// Words that are no target, and the error for each: nothing is printed, and no server gets a
-// request.
+// Words that are no target, each with the error that is printed.
 static BAD_TARGETS: [(&str, &[u8]); 3] = [
     ("r/1", b"a path begins with a slash, as /r/1\n"),
     (
@@ -274,7 +276,8 @@ static BAD_TARGETS: [(&str, &[u8]); 3] = [
     ),
 ];
 
-// A POST is sent in one datagram, and 1,263 bytes don't fit into it after a path.
+// A POST is sent in one datagram, and 1,263 bytes don't fit into it after a path. The program ends
+// with `Bad`, and says why.
 #[test]
 fn a_request_without_room_is_told(rt: HostRuntime) {
     let alloc = rt.alloc();
@@ -298,7 +301,8 @@ fn a_request_without_room_is_told(rt: HostRuntime) {
     );
 }
 
-// A path of five segments of 255 bytes doesn't fit into a datagram.
+// A path of five segments of 255 bytes doesn't fit into a datagram. An observation of it ends with
+// `Bad`, and says why.
 #[test]
 fn a_registration_without_room_is_told(rt: HostRuntime) -> Result<(), Fail> {
     let alloc = rt.alloc();
@@ -325,6 +329,7 @@ fn a_registration_without_room_is_told(rt: HostRuntime) -> Result<(), Fail> {
     Ok(())
 }
 
+// An observation of a path without a slash at its beginning ends with `Bad`, and says why.
 #[test]
 fn a_bad_target_of_an_observer_is_told(rt: HostRuntime) {
     let alloc = rt.alloc();
@@ -343,7 +348,7 @@ fn a_bad_target_of_an_observer_is_told(rt: HostRuntime) {
     assert!(rt; err.as_slice() == b"a path begins with a slash, as /r/1\n".as_slice());
 }
 
-// An error response ends the client as refused, whether it is the client's or the server's error.
+// An error response of class 4 or 5 is printed, and the program ends with `Refused`.
 #[test]
 fn an_error_response_is_printed_and_refused(rt: HostRuntime) -> Result<(), Fail> {
     let alloc = rt.alloc();
@@ -369,6 +374,7 @@ fn an_error_response_is_printed_and_refused(rt: HostRuntime) -> Result<(), Fail>
     Ok(())
 }
 
+// A request to a word that is no target ends with `Bad`, prints no response, and says why.
 #[test]
 fn a_bad_target_is_told(rt: HostRuntime) {
     let alloc = rt.alloc();
@@ -390,7 +396,7 @@ fn a_bad_target_is_told(rt: HostRuntime) {
     }
 }
 
-// An answer that can't be flushed isn't printed: it is flushed when it is written.
+// Printing a response flushes the output, and fails if the output can't be flushed.
 #[test]
 fn an_answer_is_flushed(rt: HostRuntime) -> Result<(), Fail> {
     let alloc = rt.alloc();
@@ -405,8 +411,8 @@ fn an_answer_is_flushed(rt: HostRuntime) -> Result<(), Fail> {
     Ok(())
 }
 
-// A POST of JSON: Content-Format, option 12, is 50, in one byte (RFC 7252, sections 5.10 and 12.3),
-// between the path and the query.
+// A POST of JSON has Content-Format 50, option 12, in one byte, between the path and the query (RFC
+// 7252, sections 5.10 and 12.3).
 #[test]
 fn a_body_has_the_format_that_is_given(rt: HostRuntime) -> Result<(), Fail> {
     let alloc = rt.alloc();
@@ -434,7 +440,8 @@ fn a_body_has_the_format_that_is_given(rt: HostRuntime) -> Result<(), Fail> {
     Ok(())
 }
 
-// Returns the status of a request at this port, and its output. Its input fails when it is read.
+// Sends a request to this port of this host. Returns the status and the output. Reading the input
+// would fail.
 fn ended_at<'a, R: Net + Clock + RandomSource + Files>(
     rt: &R,
     alloc: Global,
@@ -463,7 +470,8 @@ fn ended_at<'a, R: Net + Clock + RandomSource + Files>(
     (ended, out)
 }
 
-// `-n` and `-e` read no input, and without them a POST does.
+// With `-n` or `-e`, a POST doesn't read the input. Without them a POST reads the input as its
+// body, and ends with `Failed` if the input can't be read.
 #[test]
 fn no_input_is_read_where_the_body_is_none_or_a_text(rt: HostRuntime) -> Result<(), Fail> {
     let alloc = rt.alloc();
@@ -490,8 +498,8 @@ fn no_input_is_read_where_the_body_is_none_or_a_text(rt: HostRuntime) -> Result<
 // The name of the file that a test writes and removes.
 const KEPT: &str = "answer-of-a-test";
 
-// Returns the status of a GET with this response, and its output. The response's bytes are written
-// to a file with this name.
+// Sends a GET whose response has this head and tail, with `-o` and this file name. Returns the
+// status and the output.
 fn kept_in<R: Net + Clock + RandomSource + Files + Threads + Sync>(
     rt: &R,
     alloc: Global,
@@ -510,8 +518,8 @@ fn kept_in<R: Net + Clock + RandomSource + Files + Threads + Sync>(
     Ok(ended)
 }
 
-// `-o FILE`: the bytes of a success are written to the file, and its code is printed. An error is
-// printed, and the file is unchanged.
+// With `-o FILE`, the bytes of a success replace those of the file, and the code is printed. An
+// error response is printed, and doesn't change the file.
 #[test]
 fn a_success_goes_to_its_file(rt: HostRuntime) -> Result<(), Fail> {
     let alloc = rt.alloc();
@@ -531,7 +539,7 @@ fn a_success_goes_to_its_file(rt: HostRuntime) -> Result<(), Fail> {
     Ok(())
 }
 
-// Returns the status of a ping of a port of this host, and its messages.
+// Pings this port of this host. Returns the status and the messages on standard error.
 fn pinged<R: Net + Clock + RandomSource>(rt: &R, alloc: Global, port: u16) -> (Status, Vec<u8>) {
     let mut err = Vec::new(alloc);
     let pinging = Pinging {
@@ -542,7 +550,7 @@ fn pinged<R: Net + Clock + RandomSource>(rt: &R, alloc: Global, port: u16) -> (S
     (ended, err)
 }
 
-// Returns the status of a ping of a URI, and its messages.
+// Pings the server of a URI. Returns the status and the messages on standard error.
 fn pinged_at<R: Net + Clock + RandomSource>(rt: &R, alloc: Global, uri: &str) -> (Status, Vec<u8>) {
     let mut err = Vec::new(alloc);
     let pinging = Pinging {
@@ -553,7 +561,8 @@ fn pinged_at<R: Net + Clock + RandomSource>(rt: &R, alloc: Global, uri: &str) ->
     (ended, err)
 }
 
-// A server rejects a ping by a Reset message with its message ID (RFC 7252, section 4.3).
+// A server responds to a ping with a Reset message that has the ping's message ID (RFC 7252,
+// section 4.3). The ping ends with `Done`.
 #[test]
 fn a_server_answers_a_ping(rt: HostRuntime) -> Result<(), Fail> {
     let extent = Extent {
@@ -571,7 +580,7 @@ fn a_server_answers_a_ping(rt: HostRuntime) -> Result<(), Fail> {
     Ok(())
 }
 
-// A server's URI names no resource, with or without a `/` at its end (RFC 7252, section 6.4).
+// A ping accepts the URI of a server, with or without a `/` at its end (RFC 7252, section 6.4).
 #[test]
 fn a_server_answers_a_ping_of_its_uri(rt: HostRuntime) -> Result<(), Fail> {
     let extent = Extent {
@@ -593,7 +602,8 @@ fn a_server_answers_a_ping_of_its_uri(rt: HostRuntime) -> Result<(), Fail> {
     Ok(())
 }
 
-// If no server listens at the port, the system reports it immediately.
+// If no server listens at the port, the system reports this at once, and the ping ends with
+// `Failed`.
 #[test]
 fn a_ping_without_response_fails(rt: HostRuntime) -> Result<(), Fail> {
     let port = free_port(&rt)?;
@@ -607,8 +617,8 @@ fn a_ping_without_response_fails(rt: HostRuntime) -> Result<(), Fail> {
     Ok(())
 }
 
-// Targets at which a ping ends with `Bad`: a resource, a path without a port, and a port with a
-// URI.
+// Targets that a ping refuses: a path, a query, a path without a host, and a URI together with a
+// port.
 static BAD_PINGS: [(&str, Option<u16>); 4] = [
     ("coap://127.0.0.1/r/1", None),
     ("coap://127.0.0.1?a", None),
@@ -616,6 +626,7 @@ static BAD_PINGS: [(&str, Option<u16>); 4] = [
     ("coap://127.0.0.1", Some(5683)),
 ];
 
+// A ping of a refused target ends with `Bad`, and says why.
 #[test]
 fn a_bad_target_of_a_ping_is_told(rt: HostRuntime) {
     let alloc = rt.alloc();

@@ -1,8 +1,8 @@
-//! The head words, as their handles see them.
+//! The head words, as read through their handles.
 use fc_heads::Heads;
 use std::test::Fail;
 
-// A handle sees the word that it raised, and nothing of another slot.
+// A handle that raised the word of a slot reads that word or a higher one, and 0 for another slot.
 #[test]
 fn a_raised_word_is_seen(rt: HostRuntime) -> Result<(), Fail> {
     let (heads, mut seat) = Heads::new(rt.alloc())?;
@@ -12,7 +12,7 @@ fn a_raised_word_is_seen(rt: HostRuntime) -> Result<(), Fail> {
     Ok(())
 }
 
-// A handle that exchanged knowledge with one that raised a word sees that word.
+// A handle that exchanges knowledge with a handle that raised a word then reads at least that word.
 #[test]
 fn a_met_seat_sees_what_the_other_raised(rt: HostRuntime) -> Result<(), Fail> {
     let (heads, mut one) = Heads::new(rt.alloc())?;
@@ -23,7 +23,7 @@ fn a_met_seat_sees_what_the_other_raised(rt: HostRuntime) -> Result<(), Fail> {
     Ok(())
 }
 
-// A lower word that another handle raises has no effect.
+// Raising a word to a lower value leaves the word unchanged.
 #[test]
 fn a_lower_word_is_not_raised(rt: HostRuntime) -> Result<(), Fail> {
     let (heads, mut one) = Heads::new(rt.alloc())?;

@@ -1,4 +1,4 @@
-//! Hostile bytes: an image each of whose bytes was changed.
+//! Hostile images: an accepted image in which one byte is changed.
 use fc_help::{Method, NO_READINGS, Request, Vars};
 use fc_machine::{Frame, run};
 use fc_verify::{Refusal, Verified, verify};
@@ -7,7 +7,7 @@ use std::process::Abort;
 use std::test::Fail;
 
 // `jgt r3, 1023, 4`, `mov64 r4, r1`, `add64 r4, r3`, `ldxb r0, r4, 80`, `exit`, `mov64 r0, 0`,
-// `exit`: it reads the byte after the payload's last.
+// `exit`. The program reads the byte after the last byte of the payload.
 const BRANCHING: [u8; 72] = *b"FCB1\0\0\x07\0\x05\0\0\0\0\0\0\0\
     \x25\x03\x04\x00\xff\x03\0\0\
     \xbf\x14\0\0\0\0\0\0\
@@ -17,7 +17,8 @@ const BRANCHING: [u8; 72] = *b"FCB1\0\0\x07\0\x05\0\0\0\0\0\0\0\
     \xb7\0\0\0\0\0\0\0\
     \x95\0\0\0\0\0\0\0";
 
-// Returns whether a program ends a run on a payload within its budget.
+// Returns whether a run on the first `size` bytes of a payload takes at most the program's budget
+// of steps.
 fn ends_in_time(frame: &mut Frame, program: &Verified, payload: &[u8; 1024], size: usize) -> bool {
     let request = Request::new(
         Method::Post,
@@ -30,7 +31,8 @@ fn ends_in_time(frame: &mut Frame, program: &Verified, payload: &[u8; 1024], siz
     run(frame, program, &request, &found, &NO_READINGS).steps() <= program.budget()
 }
 
-// Verifies an image. If it is accepted, runs it on no payload and on the largest one.
+// Returns whether an image is accepted. If it is, checks that its runs on no payload and on the
+// largest payload end within the budget.
 fn accepts<R: Abort + AllocGlobal>(rt: &R, frame: &mut Frame, image: &[u8]) -> Result<bool, Fail> {
     match verify(rt.alloc(), image) {
         Ok(program) => {
@@ -43,8 +45,8 @@ fn accepts<R: Abort + AllocGlobal>(rt: &R, frame: &mut Frame, image: &[u8]) -> R
     }
 }
 
-// Returns the number of accepted images that differ from the one above at most in the byte at a
-// place.
+// Returns how many images are accepted, of the 256 that differ from `BRANCHING` at most in the byte
+// at `place`.
 fn accepted_at<R: Abort + AllocGlobal>(
     rt: &R,
     frame: &mut Frame,
@@ -61,7 +63,8 @@ fn accepted_at<R: Abort + AllocGlobal>(
     Ok(accepted)
 }
 
-// Each byte is set to each value, including its own, which leaves the image unchanged.
+// Each byte of the image is set to each value in turn, so that the unchanged image occurs 72 times.
+// At least 72 images are accepted, and the runs of each of them end within the image's budget.
 #[test]
 fn each_byte_of_an_image_is_set(rt: HostRuntime) -> Result<(), Fail> {
     let mut frame = Frame::new(rt.alloc())?;

@@ -3,7 +3,8 @@ use fc_core::{DEFAULT_POLICY, Front};
 use std::process::Abort;
 use std::test::Fail;
 
-// Each message ID is drawn once within its lifetime, in order.
+// Message IDs are drawn in order, each once in 247,000 ms. After that time the first one is drawn
+// again.
 #[test]
 fn an_id_comes_again_behind_its_window(rt: HostRuntime) -> Result<(), Fail> {
     let mut front = Front::new(rt.alloc(), &DEFAULT_POLICY, 0)?;

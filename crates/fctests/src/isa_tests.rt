@@ -9,8 +9,8 @@ use fc_isa::{
 use std::process::Abort;
 use std::test::Fail;
 
-// Checks that the bytes are decoded as the program, that it is listed as the line, and that it is
-// encoded as the bytes.
+// Checks that these bytes are decoded as the program, that the program's listing is `line`, and
+// that the program is encoded as the same bytes.
 fn check_spelling<R: Abort + AllocGlobal>(
     rt: &R,
     line: &str,
@@ -26,6 +26,7 @@ fn check_spelling<R: Abort + AllocGlobal>(
     Ok(())
 }
 
+// A wide load is encoded in two slots, with the low half of its number in the first.
 #[test]
 fn wide_load_has_two_slots(rt: HostRuntime) -> Result<(), Fail> {
     let bytes = b"\x18\x01\x00\x00\x07\x00\x00\x00\x00\x00\x00\x00\x01\x00\x00\x00";
@@ -41,6 +42,7 @@ fn wide_load_has_two_slots(rt: HostRuntime) -> Result<(), Fail> {
     )
 }
 
+// A store's offset of -8 is encoded as the two bytes f8 ff.
 #[test]
 fn store_has_a_signed_offset(rt: HostRuntime) -> Result<(), Fail> {
     let store = Insn::Store {
@@ -57,6 +59,7 @@ fn store_has_a_signed_offset(rt: HostRuntime) -> Result<(), Fail> {
     )
 }
 
+// A jump has its offset in bytes 2 and 3, and its immediate in bytes 4 to 7.
 #[test]
 fn jump_has_an_offset_and_an_immediate(rt: HostRuntime) -> Result<(), Fail> {
     let jump = Insn::JumpIf(Jump {
@@ -74,6 +77,7 @@ fn jump_has_an_offset_and_an_immediate(rt: HostRuntime) -> Result<(), Fail> {
     )
 }
 
+// A signed load has the opcode of the mode MEMSX: 0x81 for a word.
 #[test]
 fn signed_load_is_told_by_its_mode(rt: HostRuntime) -> Result<(), Fail> {
     let load = Insn::Load {
@@ -90,6 +94,7 @@ fn signed_load_is_told_by_its_mode(rt: HostRuntime) -> Result<(), Fail> {
     )
 }
 
+// A signed division has the opcode of the unsigned one, and the offset 1.
 #[test]
 fn signed_division_is_told_by_its_offset(rt: HostRuntime) -> Result<(), Fail> {
     let divide = Insn::Alu {
@@ -106,7 +111,7 @@ fn signed_division_is_told_by_its_offset(rt: HostRuntime) -> Result<(), Fail> {
     )
 }
 
-// Bytes, and the fault for which they are refused.
+// Bytes that aren't a program, each with the broken rule and the slot that breaks it.
 static FAULTS: [(&[u8], Rule, usize); 8] = [
     (b"\x8d\x00\x00\x00\x00\x00\x00\x00", Rule::Opcode, 0),
     (b"\xb7\x0b\x00\x00\x00\x00\x00\x00", Rule::Register, 0),
@@ -130,6 +135,7 @@ static FAULTS: [(&[u8], Rule, usize); 8] = [
     ),
 ];
 
+// Decoding these bytes returns the fault of the row.
 #[test]
 fn faults_name_their_slot(rt: HostRuntime) -> Result<(), Fail> {
     for (bytes, rule, slot) in FAULTS.iter().copied() {
@@ -142,6 +148,7 @@ fn faults_name_their_slot(rt: HostRuntime) -> Result<(), Fail> {
     Ok(())
 }
 
+// The opcode determines an instruction's form; 0xff has none.
 #[test]
 fn forms_are_told_by_the_opcode(rt: HostRuntime) {
     let divide = Shape::Alu {
@@ -153,6 +160,7 @@ fn forms_are_told_by_the_opcode(rt: HostRuntime) {
     assert!(rt; Shape::of(0xff) == Shape::Unknown);
 }
 
+// In a program, each second half follows a wide load, and each wide load is followed by one.
 #[test]
 fn second_halves_stand_behind_wide_loads(rt: HostRuntime) {
     let program = [

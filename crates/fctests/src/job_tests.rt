@@ -1,6 +1,7 @@
-//! Jobs arrive in order, each with its number, and none after the sender is gone.
+//! The channel of jobs.
 //!
-//! A full channel accepts no more.
+//! Jobs are received in the order in which they were sent, each with its number. After the sender
+//! is gone and all its jobs were received, `next` returns `None`. A send to a full channel waits.
 ghost use Rattle.std.specs.Prelude.{◌≡◌};
 
 use coap_msg::{Endpoint, Token};
@@ -36,6 +37,8 @@ pub(crate) fn job(opened: u64) -> Job {
     }
 }
 
+// Two workers receive the three jobs that were sent, in order and with the numbers 0 to 2. After
+// these they receive `None`, since the sender is gone.
 #[test]
 fn jobs_come_in_order(rt: HostRuntime) -> Result<(), Fail> {
     let (jobs, mut sent, mut gots) = Jobs::new(rt.alloc(), 2)?;
@@ -57,13 +60,13 @@ fn jobs_come_in_order(rt: HostRuntime) -> Result<(), Fail> {
     Ok(())
 }
 
-// Returns the number of the received job, and the number of its exchange.
+// Returns the number of a received job, and the number of the job's exchange.
 fn of(got: Option<(u64, Job)>) -> Option<(u64, u64)> {
     let (number, job) = got?;
     Some((number, job.origin.opening.number))
 }
 
-// A caller that waits for a worker continues when one asks for a job, here of a closed channel.
+// A caller that waits for a worker continues as soon as one calls `next`, here on a closed channel.
 #[test]
 fn a_worker_is_awaited(rt: HostRuntime) -> Result<(), Fail> {
     let (jobs, sent, mut gots) = Jobs::new(rt.alloc(), 1)?;
@@ -85,7 +88,7 @@ fn a_worker_is_awaited(rt: HostRuntime) -> Result<(), Fail> {
     Ok(())
 }
 
-// If it is known that no worker will come, no caller waits.
+// After `dismiss`, if no worker has come, `await_worker` returns `false` without waiting.
 #[test]
 fn nobody_waits_for_workers_that_do_not_come(rt: HostRuntime) -> Result<(), Fail> {
     let (jobs, _sent, _gots) = Jobs::new(rt.alloc(), 1)?;
@@ -94,20 +97,21 @@ fn nobody_waits_for_workers_that_do_not_come(rt: HostRuntime) -> Result<(), Fail
     Ok(())
 }
 
-// The capacity of the channel, and the number of jobs that are sent.
+// The capacity of the channel.
 const PLACES: usize = 256;
 
+// The number of jobs that are sent.
 const JOBS: u64 = 300;
 
-// The number of sends that were begun, and of those that are done.
+// The number of sends that have begun, and the number of those that have ended.
 #[derive(Drop)]
 struct Progress {
     begun: AtomicUsize,
     done: AtomicUsize,
 }
 
-// Sends 300 jobs, whose exchanges have the numbers from 0 on. Returns whether all of them were
-// accepted.
+// Sends 300 jobs, whose exchanges have the numbers from 0 on. Returns whether the channel accepted
+// all of them.
 fn send_all<R: Wait>(rt: &R, jobs: &Jobs, mut sent: Sent, progress: &Progress) -> bool
     requires { sent.channel ≡ jobs.now }
 {
@@ -122,8 +126,8 @@ fn send_all<R: Wait>(rt: &R, jobs: &Jobs, mut sent: Sent, progress: &Progress) -
     are_taken
 }
 
-// Waits until one more send was begun than there are places, or many iterations have passed; then
-// returns the number of sends that are done.
+// Waits until one more send has begun than the channel has places, at most 10,000 times 1 ms. Then
+// returns the number of sends that have ended.
 fn done_when_full<C: Clock>(clock: &C, progress: &Progress) -> usize {
     for _turn in 0..10_000u32 {
         if progress.begun.load(Ordering::SeqCst) > PLACES {
@@ -135,7 +139,8 @@ fn done_when_full<C: Clock>(clock: &C, progress: &Progress) -> usize {
     progress.done.load(Ordering::SeqCst)
 }
 
-// Returns whether the next jobs are all that were sent, in order, each once, and then none.
+// Receives 300 jobs and once more. Returns whether these are the jobs that were sent, in order,
+// each once, and then `None`.
 fn takes_all<R: Wait>(rt: &R, jobs: &Jobs, mut got: Got) -> bool
     requires { got.channel ≡ jobs.now }
 {
@@ -148,7 +153,7 @@ fn takes_all<R: Wait>(rt: &R, jobs: &Jobs, mut got: Got) -> bool
     are_next && jobs.next(rt, &mut got).is_none()
 }
 
-// The 257th send waits until a job is received.
+// The 257th send to a channel of 256 places waits until a job is received.
 #[test]
 fn a_full_channel_waits(rt: HostRuntime) -> Result<(), Fail> {
     let (jobs, sent, mut gots) = Jobs::new(rt.alloc(), 1)?;

@@ -1,8 +1,8 @@
 //! Tests that cross crates, or would require a second proof of a crate.
 //!
-//! The expected results of each datagram, image and number follow from the RFCs of the protocol and
-//! of the instructions, worked out by hand. The programs' output for lines, lists of events,
-//! sources and images is tested by the data of fcvectors.
+//! The expected results for datagrams, images and numbers are worked out by hand from the RFCs of
+//! the protocol and of the instructions. The cases of fcvectors test the output of the programs for
+//! lines, lists of events, sources and images.
 #![tactic(auto)]
 
 #[cfg(test)]

@@ -1,7 +1,7 @@
-//! The address of `serve`, and a server's use of its host.
+//! The address at which `serve` listens, and a server's use of its host.
 //!
-//! A client at another address of this host tests the address. The server's use of its host is its
-//! socket, its waits and its random words.
+//! A client at another address of this host tests where the server listens. The parts of the host
+//! that a server uses are its socket, the waits of a receive, and random words.
 use crate::socket_tests::{at_port, free_port, unrecorded};
 use coap_msg::Endpoint;
 use fc_cli::Status;
@@ -24,12 +24,12 @@ use std::thread::Threads;
 use std::time::{Clock, Duration, Instant};
 use std::{io, thread};
 
-// Makes a port at another address of this host than 127.0.0.1.
+// Returns the address 127.0.0.2, another one of this host, with this port.
 fn at_other(port: u16) -> SocketAddrV4 {
     SocketAddrV4::new(Ipv4Addr::new(127, 0, 0, 2), port)
 }
 
-// A writer that counts its writes.
+// A writer that counts the calls of `write`.
 #[derive(Drop)]
 struct Told<'a> {
     writes: &'a AtomicUsize,
@@ -46,7 +46,8 @@ impl<'a> Write for Told<'a> {
     }
 }
 
-// Returns whether a GET of slot 0, which is empty, is answered 4.04 in time.
+// Sends a GET of slot 0, which is empty. Returns whether the response is 4.04 and arrives before
+// the client's wait ends.
 fn is_answered(client: &UdpSocket, server: SocketAddrV4, id: u8) -> bool {
     let _sent = client.send_to(&[0x40, 0x01, 0x00, id, 0xb1, b'r', 0x01, b'0'], server);
     let mut answer = [0; 16];
@@ -56,16 +57,16 @@ fn is_answered(client: &UdpSocket, server: SocketAddrV4, id: u8) -> bool {
     }
 }
 
-// Opens a client at another address of this host, which waits this many milliseconds.
+// Opens a client's socket at 127.0.0.2. A receive from it fails after `wait` milliseconds.
 fn other_client<R: Net>(rt: &R, wait: u64) -> io::Result<UdpSocket> {
     let client = open(rt, at_other(0))?;
     client.set_read_timeout(Some(Duration::from_millis(wait)))?;
     Ok(client)
 }
 
-// Serves at an address, up to this many datagrams, while a client sends a request. The client
-// begins when the server has printed its address, or after five seconds. The server prints it
-// exactly if it is to.
+// Serves up to `limit` datagrams at an address, while `ask` sends requests. `ask` begins when the
+// server has printed its address, or after five seconds. Checks that the server ends with `Done`,
+// and prints its address exactly if `told` is true.
 fn serve_at_address<
     R: Abort + AllocGlobal + Threads + Wait + Clock + Net + Sync,
     F: FnOnce() -> Result<(), Fail> + Send,
@@ -118,8 +119,8 @@ fn serve_at_address<
     Ok(())
 }
 
-// At 0.0.0.0 a server listens at each address of this host, and responds from the one that got the
-// request.
+// A server at 0.0.0.0 listens at each address of this host. It responds from the address at which
+// it received the request.
 #[test]
 fn a_server_listens_at_every_address_where_it_is_told_to(rt: HostRuntime) -> Result<(), Fail> {
     let port = free_port(&rt)?;
@@ -131,7 +132,7 @@ fn a_server_listens_at_every_address_where_it_is_told_to(rt: HostRuntime) -> Res
     })
 }
 
-// At 127.0.0.1 it listens there alone: a datagram to 127.0.0.2 reaches no server.
+// A server at 127.0.0.1 listens at no other address: a datagram to 127.0.0.2 gets no response.
 #[test]
 fn a_server_listens_at_its_own_address_alone(rt: HostRuntime) -> Result<(), Fail> {
     let port = free_port(&rt)?;
@@ -145,7 +146,7 @@ fn a_server_listens_at_its_own_address_alone(rt: HostRuntime) -> Result<(), Fail
     })
 }
 
-// Without `--log info` a server prints nothing.
+// If `told` is false, as without `--log info`, a server doesn't print its address.
 #[test]
 fn a_server_that_is_not_to_tell_where_it_listens_does_not(rt: HostRuntime) -> Result<(), Fail> {
     let port = free_port(&rt)?;
@@ -156,7 +157,7 @@ fn a_server_that_is_not_to_tell_where_it_listens_does_not(rt: HostRuntime) -> Re
     })
 }
 
-// A socket is bound to the requested address and port.
+// A socket is bound to the address and port at which it is opened.
 #[test]
 fn a_socket_has_the_address_that_it_is_opened_at(rt: HostRuntime) -> Result<(), Fail> {
     let address = at_other(free_port(&rt)?);
@@ -165,8 +166,8 @@ fn a_socket_has_the_address_that_it_is_opened_at(rt: HostRuntime) -> Result<(), 
     Ok(())
 }
 
-// Returns the result of a receive that waits this long, and the time that it took in milliseconds,
-// while a datagram arrives after 1,500 ms.
+// Receives with this wait in milliseconds, while a datagram arrives after 1,500 ms. Returns the
+// number of received bytes, or `None` for no datagram, and the time that this took in milliseconds.
 fn received_in<R: Threads + Clock + Net + Sync>(
     rt: &R,
     wait: Option<u64>,
@@ -192,7 +193,8 @@ fn received_in<R: Threads + Clock + Net + Sync>(
     Ok((count, start.elapsed(rt)?.as_millis()))
 }
 
-// A receive of 250 ms ends before the datagram arrives, and one without end waits for it.
+// A receive with a wait of 250 ms returns `None` before the datagram arrives. A receive without a
+// limit waits for the datagram.
 #[test]
 fn a_receive_waits_as_long_as_it_is_told(rt: HostRuntime) -> Result<(), Fail> {
     let (count, _) = received_in(&rt, Some(250))?;
@@ -202,8 +204,8 @@ fn a_receive_waits_as_long_as_it_is_told(rt: HostRuntime) -> Result<(), Fail> {
     Ok(())
 }
 
-// Returns the number of bytes of two receives, the first without end and the second of 250 ms: a
-// datagram arrives immediately, and another one after 1,500 ms.
+// Receives without a limit, and then with a wait of 250 ms. One datagram arrives immediately, and
+// another one after 1,500 ms. Returns the numbers of received bytes.
 fn received_twice<R: Threads + Clock + Net + Sync>(
     rt: &R,
 ) -> Result<(Option<usize>, Option<usize>), Fail> {
@@ -229,6 +231,7 @@ fn received_twice<R: Threads + Clock + Net + Sync>(
     Ok(counts)
 }
 
+// A receive of 250 ms ends without a datagram, also after a receive without a limit.
 #[test]
 fn a_receive_after_one_without_end_ends_in_time(rt: HostRuntime) -> Result<(), Fail> {
     let (first, second) = received_twice(&rt)?;
@@ -236,7 +239,8 @@ fn a_receive_after_one_without_end_ends_in_time(rt: HostRuntime) -> Result<(), F
     Ok(())
 }
 
-// The longest message has 1,280 bytes. A datagram of up to one more byte is received complete.
+// A datagram of up to 1,281 bytes is received completely. That is one more than the longest message
+// has.
 #[test]
 fn a_datagram_comes_whole(rt: HostRuntime) -> Result<(), Fail> {
     let socket = open(&rt, at_port(0))?;
@@ -251,7 +255,7 @@ fn a_datagram_comes_whole(rt: HostRuntime) -> Result<(), Fail> {
     Ok(())
 }
 
-// No datagram can be sent to port 0, which the system refuses.
+// Sending a datagram to port 0 returns `false`, since the system refuses it.
 #[test]
 fn a_refused_datagram_counts_as_failed(rt: HostRuntime) -> Result<(), Fail> {
     let socket = open(&rt, at_port(0))?;
@@ -264,8 +268,7 @@ fn a_refused_datagram_counts_as_failed(rt: HostRuntime) -> Result<(), Fail> {
     Ok(())
 }
 
-// A random word consists of the clock's low bits, so that it differs from one time to another;
-// times are in milliseconds.
+// Times are in milliseconds. A random word consists of the low bits of the clock.
 #[test]
 fn a_random_word_is_of_the_clock(rt: HostRuntime) -> Result<(), Fail> {
     let elapsed = Elapsed::start(&rt)?;

@@ -1,4 +1,4 @@
-//! Separate locks: a worker's actions while the lock of another shard is held.
+//! Separate locks: the actions of a worker while the lock of a shard is held.
 ghost use Rattle.std.specs.Prelude.{◌≡◌};
 
 use crate::driver::{Driver, Request, datagram};
@@ -15,12 +15,13 @@ use std::test::Fail;
 use std::thread::Threads;
 use std::time::Clock;
 
-// The codes of responses to a GET (RFC 7252, section 12.1.2).
+// 2.03 (Valid), the code of a response to a GET (RFC 7252, section 12.1.2).
 const VALID: u8 = 0x43;
 
+// 2.05 (Content), the code of a response to a GET (RFC 7252, section 12.1.2).
 const CONTENT: u8 = 0x45;
 
-// A call of a shard that leaves it unchanged, and runs `call` while the shard's lock is held.
+// A call of a shard that runs `call` while the shard's lock is held, and doesn't change the shard.
 #[derive(Drop)]
 struct WhileHeld<F: Drop> {
     call: F,
@@ -42,7 +43,7 @@ impl<X, F: FnOnce() -> X + Drop> ShardCall for WhileHeld<F> {
     }
 }
 
-// A backend of which a test can hold the lock of a shard.
+// A backend on which a test can hold the lock of a shard while `call` runs.
 pub(crate) trait Locks: Bench {
     fn hold<X, F: FnOnce() -> X + Drop, R: Wait>(&self, rt: &R, shard: u8, call: F) -> X
         requires { F.pre call }
@@ -67,8 +68,8 @@ impl Gate for Open {
     }
 }
 
-// An install in slot 1, and a GET of it, which a worker answers while the lock of this shard is
-// held. The GET may have the ETag of a serial.
+// A trial that installs a program in slot 1, and sends a GET of that slot while the lock of `shard`
+// is held. If `serial` is given, the GET has the ETag of that serial.
 #[derive(Drop)]
 pub(crate) struct ShardHeld {
     pub(crate) shard: u8,
@@ -76,6 +77,7 @@ pub(crate) struct ShardHeld {
 }
 
 impl ShardHeld {
+    // Runs the trial with these workers. Returns the responses and the counts.
     pub(crate) fn hold<B: Locks + Sync, R: Threads + Wait + Clock + Sync>(
         &self,
         rt: &R,
@@ -94,8 +96,8 @@ impl ShardHeld {
 }
 
 impl<B: Locks> Drive<B> for ShardHeld {
-    // Installs the counter, and sends a GET while it holds the lock, until that is answered or many
-    // iterations have passed.
+    // Installs the counter, and sends a GET. Holds the lock until the GET is answered, or until
+    // many checks have found no response.
     fn drive<R: Wait + Clock>(
         &self,
         rt: &R,
@@ -129,7 +131,7 @@ impl<B: Locks> Drive<B> for ShardHeld {
     }
 }
 
-// Returns whether the GET is answered with this code while the lock is held.
+// Returns whether a worker answers the GET with this code while the lock is held.
 fn is_answered<R: Threads + Wait + Clock + Sync>(
     rt: &R,
     alloc: Global,
@@ -156,8 +158,8 @@ fn another_shards_lock_holds_nobody_up(rt: HostRuntime) -> Result<(), Fail> {
     Ok(())
 }
 
-// While the lock of shard 1 is held, a worker answers a GET of slot 1 that names the slot's serial:
-// it takes no shard's lock.
+// While the lock of shard 1 is held, a worker answers a GET of slot 1 with the ETag of the slot's
+// serial. Such a GET takes the lock of no shard.
 #[test]
 fn a_valid_state_takes_no_shards_lock(rt: HostRuntime) -> Result<(), Fail> {
     let held = ShardHeld {

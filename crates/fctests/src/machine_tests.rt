@@ -1,7 +1,7 @@
-//! Runs of a POST.
+//! Runs of programs on a POST.
 //!
-//! Their results follow from the tables of instructions, helpers and the request, worked out by
-//! hand.
+//! The expected results are worked out by hand from the tables of instructions, helpers and the
+//! request.
 use crate::tooling::assembled;
 use fc_cli::Status;
 use fc_help::{Method, NO_READINGS, Request, Vars};
@@ -10,7 +10,7 @@ use fc_verify::verify;
 use std::process::Abort;
 use std::test::Fail;
 
-// The results of a run, apart from its code.
+// The expected results of a run, apart from the code.
 #[derive(Drop)]
 struct Given<'a> {
     reply: &'a [u8],
@@ -19,8 +19,8 @@ struct Given<'a> {
     steps: u32,
 }
 
-// Checks that the source's program answers a POST of slot 5 without a payload with 2.04 and these
-// results. `found` are its variables before the run.
+// Checks a run of the source's program on a POST of slot 5 without a payload. The response is 2.04
+// with these results. `found` are the program's variables before the run.
 fn check_post<R: Abort + AllocGlobal>(
     rt: &R,
     text: &[u8],
@@ -45,8 +45,8 @@ fn check_post<R: Abort + AllocGlobal>(
     Ok(())
 }
 
-// The method, which is 2, becomes the first word of two, and there is a notify flag and a reply.
-// The path of a GET has one step more.
+// The program stores the method, which is 2 for a POST, in the first of two words of variables. It
+// notifies, and replies with `A`. On a GET it would take one step more.
 #[test]
 fn a_post_puts_a_word_replies_and_notifies(rt: HostRuntime) -> Result<(), Fail> {
     check_post(
@@ -62,9 +62,9 @@ fn a_post_puts_a_word_replies_and_notifies(rt: HostRuntime) -> Result<(), Fail> 
     )
 }
 
-// 1,025 bytes don't fit into the reply of a POST, 1,024 do, and then no byte more: the results 0, 1
-// and 0 are the three words. The reply consists of the request's first bytes: the method 2, the
-// slot, and zeros.
+// A reply to a POST has at most 1,024 bytes. The helper refuses 1,025 bytes, accepts 1,024, and
+// then refuses one more: its results 0, 1 and 0 are stored in the variables. The bytes are the
+// request's first ones: the method 2, the slot 5, and zeros.
 #[test]
 fn a_reply_to_a_post_has_1024_bytes(rt: HostRuntime) -> Result<(), Fail> {
     let mut reply = [0u8; 1024];

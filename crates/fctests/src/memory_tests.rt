@@ -1,6 +1,6 @@
-//! Each call that allocates memory, once with ample memory, and nothing else.
+//! Each test makes one call that allocates memory, with enough memory.
 //!
-//! tests/refused-memory refuses each of their allocations.
+//! The script tests/refused-memory refuses each allocation of these calls.
 use crate::overtaking_tests::COUNTER;
 use coap_block::Uploads;
 use coap_dedup::{DEFAULT_LIMITS, Exchanges};
@@ -19,6 +19,7 @@ use std::alloc::AllocError;
 use std::process::Abort;
 use std::test::Fail;
 
+// The counter is verified: its cost is 9 steps, and it has 8 bytes of variables.
 #[test]
 fn an_image_is_verified(rt: HostRuntime) -> Result<(), Fail> {
     let program = verify(rt.alloc(), COUNTER)?;
@@ -26,6 +27,7 @@ fn an_image_is_verified(rt: HostRuntime) -> Result<(), Fail> {
     Ok(())
 }
 
+// The bytes of `exit` are decoded as one instruction.
 #[test]
 fn slots_are_decoded(rt: HostRuntime) -> Result<(), Fail> {
     let program = decode(rt.alloc(), b"\x95\0\0\0\0\0\0\0")?;
@@ -33,6 +35,7 @@ fn slots_are_decoded(rt: HostRuntime) -> Result<(), Fail> {
     Ok(())
 }
 
+// The instruction `exit` is encoded as its eight bytes.
 #[test]
 fn instructions_are_encoded(rt: HostRuntime) -> Result<(), AllocError> {
     let program = [Insn::Exit];
@@ -42,6 +45,7 @@ fn instructions_are_encoded(rt: HostRuntime) -> Result<(), AllocError> {
     Ok(())
 }
 
+// The text `exit` is assembled to one instruction.
 #[test]
 fn a_text_is_assembled(rt: HostRuntime) -> Result<(), Fail> {
     let program = assemble(rt.alloc(), "exit")?;
@@ -49,6 +53,7 @@ fn a_text_is_assembled(rt: HostRuntime) -> Result<(), Fail> {
     Ok(())
 }
 
+// A program of one `exit` is listed as one line.
 #[test]
 fn a_program_is_listed(rt: HostRuntime) -> Result<(), AllocError> {
     let program = [Insn::Exit];
@@ -57,36 +62,42 @@ fn a_program_is_listed(rt: HostRuntime) -> Result<(), AllocError> {
     Ok(())
 }
 
+// A frame for runs is allocated.
 #[test]
 fn a_frame_is_made(rt: HostRuntime) -> Result<(), AllocError> {
     let _frame = Frame::new(rt.alloc())?;
     Ok(())
 }
 
+// A new table of exchanges has compared no key.
 #[test]
 fn exchanges_are_made(rt: HostRuntime) -> Result<(), AllocError> {
     assert!(rt; Exchanges::new(rt.alloc(), DEFAULT_LIMITS)?.comparisons() == 0);
     Ok(())
 }
 
+// A table of uploads is allocated.
 #[test]
 fn transfers_are_made(rt: HostRuntime) -> Result<(), AllocError> {
     let _none = Uploads::new(rt.alloc())?;
     Ok(())
 }
 
+// A new list of observers is empty.
 #[test]
 fn observers_are_made(rt: HostRuntime) -> Result<(), AllocError> {
     assert!(rt; Observers::new(rt.alloc(), 1, CONFIRM_AFTER)?.is_empty());
     Ok(())
 }
 
+// A new front first draws the message ID with which it was made.
 #[test]
 fn a_front_is_made(rt: HostRuntime) -> Result<(), AllocError> {
     assert!(rt; Front::new(rt.alloc(), &DEFAULT_POLICY, 7)?.fresh_id(0) == Some(7));
     Ok(())
 }
 
+// A slot of a new shard has the serial with which the shard was made.
 #[test]
 fn a_shard_is_made(rt: HostRuntime) -> Result<(), AllocError> {
     let shard = Shard::new(rt.alloc(), 3, 41, CONFIRM_AFTER)?;
@@ -94,6 +105,7 @@ fn a_shard_is_made(rt: HostRuntime) -> Result<(), AllocError> {
     Ok(())
 }
 
+// A new head word is 0.
 #[test]
 fn head_words_are_made(rt: HostRuntime) -> Result<(), AllocError> {
     let (heads, mut seat) = Heads::new(rt.alloc())?;
@@ -101,6 +113,7 @@ fn head_words_are_made(rt: HostRuntime) -> Result<(), AllocError> {
     Ok(())
 }
 
+// A channel for two workers has two receiving ends.
 #[test]
 fn a_channel_is_made(rt: HostRuntime) -> Result<(), AllocError> {
     let (_jobs, _sent, gots) = Jobs::new(rt.alloc(), 2)?;
@@ -108,7 +121,7 @@ fn a_channel_is_made(rt: HostRuntime) -> Result<(), AllocError> {
     Ok(())
 }
 
-// A ping, and a tick.
+// Two events: a ping arrives, and time passes.
 static EVENTS: [Event<'static>; 2] = [
     Event::Deliver {
         now: 0,
@@ -121,6 +134,7 @@ static EVENTS: [Event<'static>; 2] = [
     Event::Tick { now: 1 },
 ];
 
+// The ping is answered with a Reset message, and the result has an entry for each of the events.
 #[test]
 fn a_list_is_carried_out(rt: HostRuntime) -> Result<(), AllocError> {
     let world = run_world(rt.alloc(), &EVENTS)?;

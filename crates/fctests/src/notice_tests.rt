@@ -1,4 +1,4 @@
-//! Observers of a server that follows a script (RFC 7641).
+//! A client that observes a server, which follows a script (RFC 7641).
 //!
 //! The datagrams are worked out by hand.
 use crate::faulty::{Full, Unflushed};
@@ -19,11 +19,12 @@ use fc_fetch::{Observing, Shown, observe};
 use std::alloc::{AllocError, Global};
 use std::test::Fail;
 
+// The token of each observation.
 const TOKEN: [u8; 4] = [1, 2, 3, 4];
 
-// Sequence numbers and times of two states, and whether the second is newer (RFC 7641, section
-// 3.4): by less than 2^23, by more than that downwards, where the numbers begin again, or by more
-// than 128 seconds.
+// The sequence numbers and times, in milliseconds, of two states, and whether the second is newer.
+// It is newer if its number is higher by less than 2^23, modulo 2^24. It is also newer if more than
+// 128 s lie between the times (RFC 7641, section 3.4).
 static ORDER: [(u32, u64, u32, u64, bool); 10] = [
     (0, 0, 1, 0, true),
     (1, 0, 0, 0, false),
@@ -37,6 +38,7 @@ static ORDER: [(u32, u64, u32, u64, bool); 10] = [
     (7, 1_000, 3, 129_001, true),
 ];
 
+// A state is newer than another exactly if its row says so.
 #[test]
 fn states_are_in_order(rt: HostRuntime) {
     for (first, first_at, second, second_at, newer) in ORDER.iter().copied() {
@@ -47,10 +49,13 @@ fn states_are_in_order(rt: HostRuntime) {
     }
 }
 
-// A message, and its classification by an observer: a state with Observe of no byte, of one and of
-// three; an error, without Observe and with it; a success without it, or with one of four bytes; a
-// complete response in its first block, a first of two that isn't full, and the second; and an
-// unrecognised critical option.
+// Messages, each with its classification by an observing client. In their order these are:
+// - states, with an Observe of no byte, of one byte and of three;
+// - last responses: an error without and with Observe, and a success without Observe and with an
+//   Observe of four bytes;
+// - a state that is complete in its first block;
+// - malformed ones: a first block that isn't full, a second block, and an unrecognized critical
+//   option.
 static NOTICES: [(&[u8], NotificationClass); 11] = [
     (b"\x50\x45\x00\x01\x60\xff\x61", NotificationClass::State(0)),
     (b"\x50\x45\x00\x01\x61\x05", NotificationClass::State(5)),
@@ -83,6 +88,7 @@ static NOTICES: [(&[u8], NotificationClass); 11] = [
     ),
 ];
 
+// Each message has the classification of its row.
 #[test]
 fn responses_are_noticed(rt: HostRuntime) {
     for (bytes, notice) in NOTICES.iter().copied() {
@@ -93,7 +99,7 @@ fn responses_are_noticed(rt: HostRuntime) {
     }
 }
 
-// Names slot 1.
+// Returns a confirmable GET of slot 1.
 fn slot_one(alloc: Global) -> Result<ClientRequest<'static>, Fail> {
     let target = RequestTarget {
         path: Path::parse(alloc, b"/r/1")?,
@@ -105,13 +111,15 @@ fn slot_one(alloc: Global) -> Result<ClientRequest<'static>, Fail> {
     }
 }
 
-// Returns the output of an observer of slot 1, whose requests begin with message ID 7, until it has
-// this many lines or the script ends.
+// Observes slot 1 until `count` lines are printed or the script ends. Returns the output. The first
+// request has the message ID 7.
 fn watched(alloc: Global, server: &mut Scripted, count: u32) -> Result<Vec<u8>, Fail> {
     let client_request = slot_one(alloc)?;
     Ok(printed(alloc, server, &client_request, count)?)
 }
 
+// Observes with this request. Returns the output, or the error that ends the observation. See
+// `watched`.
 fn printed(
     alloc: Global,
     server: &mut Scripted,
@@ -122,7 +130,7 @@ fn printed(
     printed_to(alloc, server, client_request, count, &mut err)
 }
 
-// The same, with what standard error gets.
+// Observes as `printed` does, with `err` as standard error.
 fn printed_to(
     alloc: Global,
     server: &mut Scripted,
@@ -154,8 +162,8 @@ fn printed_to(
     Ok(out)
 }
 
-// Sends a response with this header: the type and token length, the code, the message ID, and the
-// token.
+// Adds to the script a response that arrives at this time. `head` is the type and token length, the
+// code, and the message ID. The token of the observation and `rest` follow.
 fn comes_with(
     server: &mut Scripted,
     at: u64,
@@ -166,12 +174,16 @@ fn comes_with(
     comes_at(server, at, &bytes, rest)
 }
 
+// An observation prints the first state and each newer one once, up to an error response. It
+// ignores older states and responses with other tokens. It acknowledges a confirmable state and a
+// duplicate of that state.
 #[test]
 fn an_observer_shows_what_is_newer(rt: HostRuntime) -> Result<(), Fail> {
     let mut server = follows(rt.alloc());
     comes_with(&mut server, 0, b"\x64\x45\x00\x07", b"\x61\x02\xff\x61")?;
     comes_with(&mut server, 1, b"\x54\x45\x10\x00", b"\x61\x03\xff\x62")?;
-    // An older state, one with another token, the acknowledgement again, and one with no token.
+    // An older state, a state with another token, the first response again, and one without a
+    // token.
     comes_with(&mut server, 2, b"\x54\x45\x10\x01", b"\x61\x01\xff\x78")?;
     comes(
         &mut server,
@@ -180,7 +192,7 @@ fn an_observer_shows_what_is_newer(rt: HostRuntime) -> Result<(), Fail> {
     )?;
     comes_with(&mut server, 2, b"\x64\x45\x00\x07", b"\x61\x09\xff\x78")?;
     comes(&mut server, b"\x50\x45\x10\x02", b"\x61\x09\xff\x78")?;
-    // A confirmable state, twice, and the last one.
+    // A confirmable state, twice; an error response, which is the last; and a state after it.
     comes_with(&mut server, 3, b"\x44\x45\x10\x03", b"\x61\x04\xff\x63\x0a")?;
     comes_with(&mut server, 4, b"\x44\x45\x10\x03", b"\x61\x04\xff\x63\x0a")?;
     comes_with(&mut server, 5, b"\x54\x84\x10\x04", &[])?;
@@ -201,8 +213,8 @@ fn an_observer_shows_what_is_newer(rt: HostRuntime) -> Result<(), Fail> {
     Ok(())
 }
 
-// After 128 seconds each state is newer; but a message that was shown is shown again only 247
-// seconds later.
+// Each state is newer if it arrives more than 128 s after the last one. A message whose ID was
+// shown isn't shown again for 247 s.
 #[test]
 fn a_message_is_shown_once(rt: HostRuntime) -> Result<(), Fail> {
     let mut server = follows(rt.alloc());
@@ -243,7 +255,8 @@ fn a_message_is_shown_once(rt: HostRuntime) -> Result<(), Fail> {
     Ok(())
 }
 
-// A registration that is acknowledged first, and answered by a separate confirmable state.
+// A registration can be acknowledged first, and get its response later, as a confirmable message. A
+// duplicate of that response is acknowledged, and not printed.
 #[test]
 fn a_registration_is_answered_later(rt: HostRuntime) -> Result<(), Fail> {
     let mut server = follows(rt.alloc());
@@ -259,6 +272,7 @@ fn a_registration_is_answered_later(rt: HostRuntime) -> Result<(), Fail> {
     Ok(())
 }
 
+// An observation of two lines ends after the second one.
 #[test]
 fn an_observer_prints_so_many_lines(rt: HostRuntime) -> Result<(), Fail> {
     let mut server = follows(rt.alloc());
@@ -270,8 +284,8 @@ fn an_observer_prints_so_many_lines(rt: HostRuntime) -> Result<(), Fail> {
     Ok(())
 }
 
-// Joins a state of slot 1, whose first block is in this notification, by requests with message IDs
-// from 256 on.
+// Fetches the further blocks of a state of slot 1 whose first block is in this notification. The
+// requests have message IDs from 256 on. Returns the result and the last sequence number.
 fn completed(
     alloc: Global,
     server: &mut Scripted,
@@ -281,6 +295,7 @@ fn completed(
     completed_by(alloc, server, &client_request, first)
 }
 
+// Fetches further blocks with this request. See `completed`.
 fn completed_by(
     alloc: Global,
     server: &mut Scripted,
@@ -305,8 +320,8 @@ fn completed_by(
     Ok((completion, watch.sequence))
 }
 
-// A notification of the first of two blocks: Observe 2, ETag 9, Block2 with number 0, more, 1,024
-// bytes (RFC 7959, section 2.2).
+// Returns a notification with the first of two blocks: Observe 2, ETag 9, and Block2 with number 0,
+// more blocks and 1,024 bytes (RFC 7959, section 2.2).
 fn first_of_two(alloc: Global) -> Result<Vec<u8>, AllocError> {
     joined(
         alloc,
@@ -315,8 +330,9 @@ fn first_of_two(alloc: Global) -> Result<Vec<u8>, AllocError> {
     )
 }
 
-// The second block has the same ETag. Its request is a GET of block 1 without Observe: Uri-Path `r`
-// and `1`, and Block2. Before it a notification with the same message ID arrives again.
+// The second block has the ETag of the first, and is appended to it. The request is a GET of block
+// 1 without Observe. A duplicate of the notification arrives first; the request is then sent again
+// with a new message ID and token.
 #[test]
 fn a_state_of_two_blocks_is_joined(rt: HostRuntime) -> Result<(), Fail> {
     let alloc = rt.alloc();
@@ -351,15 +367,15 @@ fn a_state_of_two_blocks_is_joined(rt: HostRuntime) -> Result<(), Fail> {
     Ok(())
 }
 
-// The response to the registration of an observer with message ID 7: the first of two blocks.
+// Adds to the script the response to a registration with message ID 7: the first of two blocks.
 fn comes_large(server: &mut Scripted, alloc: Global) -> Result<(), Fail> {
     let rest = joined(alloc, b"\x41\x09\x21\x02\xd1\x04\x0e\xff", &[b'a'; 1024])?;
     comes_with(server, 0, b"\x64\x45\x00\x07", &rest)?;
     Ok(())
 }
 
-// The second block is requested with message ID 9 and arrives after 12.5 s: 48 of 60 s are left,
-// rounded up. A whole state follows.
+// A state of two blocks is printed on one line. Its second block, requested with message ID 9,
+// arrives after 12.5 s. The next wait is the rest of the 60 s, 47.5 s rounded up to 48.
 #[test]
 fn an_observer_prints_a_state_of_two_blocks(rt: HostRuntime) -> Result<(), Fail> {
     let alloc = rt.alloc();
@@ -392,8 +408,8 @@ fn an_observer_prints_a_state_of_two_blocks(rt: HostRuntime) -> Result<(), Fail>
     Ok(())
 }
 
-// A newer state arrives while the second block is requested; the first one is dropped. It has one
-// line of the two that are wanted.
+// If a newer state arrives before the second block of a state, the older state isn't printed. It
+// doesn't count as one of the two lines.
 #[test]
 fn a_superseded_state_has_no_line(rt: HostRuntime) -> Result<(), Fail> {
     let alloc = rt.alloc();
@@ -407,7 +423,8 @@ fn a_superseded_state_has_no_line(rt: HostRuntime) -> Result<(), Fail> {
     Ok(())
 }
 
-// The request of the second block is answered by 5.03, and a whole state follows.
+// If the request for the second block gets 5.03, the state isn't printed, and standard error says
+// why. The next state is printed.
 #[test]
 fn a_state_without_its_blocks_is_reported(rt: HostRuntime) -> Result<(), Fail> {
     let alloc = rt.alloc();
@@ -424,8 +441,8 @@ fn a_state_without_its_blocks_is_reported(rt: HostRuntime) -> Result<(), Fail> {
     Ok(())
 }
 
-// A newer state arrives after the 60 s, while the second block is requested: it isn't printed, since
-// the time is over.
+// A newer state that arrives while the second block of a state is awaited isn't printed if the 60 s
+// of the observation have passed.
 #[test]
 fn the_time_ends_between_states(rt: HostRuntime) -> Result<(), Fail> {
     let alloc = rt.alloc();
@@ -443,7 +460,8 @@ fn the_time_ends_between_states(rt: HostRuntime) -> Result<(), Fail> {
     Ok(())
 }
 
-// A further block with another ETag, a newer notification, an error, and no answer.
+// A state isn't joined if the further block has another ETag, or if a newer notification arrives
+// first. Nor is it joined if the request for the block gets an error or no response.
 #[test]
 fn a_state_that_changes_is_not_joined(rt: HostRuntime) -> Result<(), Fail> {
     let alloc = rt.alloc();
@@ -475,7 +493,8 @@ fn a_state_that_changes_is_not_joined(rt: HostRuntime) -> Result<(), Fail> {
     Ok(())
 }
 
-// The first of two blocks without Observe: the server doesn't notify of changes.
+// If the response to a registration is a first block without Observe, the error is `Unobserved`:
+// the server doesn't notify of changes.
 #[test]
 fn a_large_answer_without_observe_has_its_own_error(rt: HostRuntime) -> Result<(), Fail> {
     let mut server = follows(rt.alloc());
@@ -487,7 +506,7 @@ fn a_large_answer_without_observe_has_its_own_error(rt: HostRuntime) -> Result<(
     Ok(())
 }
 
-// Returns the result of an observer's deregistration, whose message ID is 0.
+// Deregisters with the message ID after 0xffff, which is 0. Returns the result.
 fn ended(
     alloc: Global,
     server: &mut Scripted,
@@ -502,6 +521,8 @@ fn ended(
     observer.deregister(alloc, server, &mut buffer)
 }
 
+// A deregistration is a GET with Observe 1, and succeeds if a response to it arrives. Without a
+// response it fails with `Silence`, after waits of 2, 4, 8, 16 and 32 seconds.
 #[test]
 fn an_observer_ends(rt: HostRuntime) -> Result<(), Fail> {
     let alloc = rt.alloc();
@@ -524,7 +545,8 @@ fn an_observer_ends(rt: HostRuntime) -> Result<(), Fail> {
     Ok(())
 }
 
-// Returns whether an observation ends because of its output, which has space for three bytes.
+// Observes with an output that has space for three bytes. Returns whether the observation fails
+// because a line can't be printed.
 fn ends_by_its_output(
     alloc: Global,
     server: &mut Scripted,
@@ -553,7 +575,8 @@ fn ends_by_its_output(
     matches!(&shown, Err(NotesError::Print(_)))
 }
 
-// The response can't be printed: the deregistration is still sent by the whole schedule.
+// If a line can't be printed, the client still sends the deregistration, five times, with waits of
+// 2, 4, 8, 16 and 32 seconds.
 #[test]
 fn an_observer_that_fails_deregisters_by_the_schedule(rt: HostRuntime) -> Result<(), Fail> {
     let alloc = rt.alloc();
@@ -575,7 +598,8 @@ fn an_observer_that_fails_deregisters_by_the_schedule(rt: HostRuntime) -> Result
     Ok(())
 }
 
-// A first block that has fewer bytes than Block2 names is a fault (number 0, more, 1,024 bytes).
+// A first block with fewer bytes than its Block2 says is a fault. Here Block2 has number 0, more
+// blocks and 1,024 bytes.
 #[test]
 fn a_short_first_block_is_a_fault(rt: HostRuntime) -> Result<(), Fail> {
     let alloc = rt.alloc();
@@ -592,7 +616,7 @@ fn a_short_first_block_is_a_fault(rt: HostRuntime) -> Result<(), Fail> {
     Ok(())
 }
 
-// A line that can't be flushed isn't printed: each is flushed when it is written.
+// Printing a line flushes the output, and fails if the output can't be flushed.
 #[test]
 fn each_line_of_an_observer_is_flushed(rt: HostRuntime) -> Result<(), Fail> {
     let alloc = rt.alloc();
@@ -607,6 +631,7 @@ fn each_line_of_an_observer_is_flushed(rt: HostRuntime) -> Result<(), Fail> {
     Ok(())
 }
 
+// A Reset message to a registration ends the observation with `Rejected`, without a deregistration.
 #[test]
 fn a_registration_is_rejected(rt: HostRuntime) -> Result<(), Fail> {
     let mut server = follows(rt.alloc());
@@ -618,7 +643,7 @@ fn a_registration_is_rejected(rt: HostRuntime) -> Result<(), Fail> {
     Ok(())
 }
 
-// No server listens at the port.
+// If no server listens at the port, the observation ends with `Failed`, and says why.
 #[test]
 fn an_observer_of_nobody_is_status_3(rt: HostRuntime) -> Result<(), Fail> {
     let alloc = rt.alloc();

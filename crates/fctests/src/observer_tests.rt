@@ -8,6 +8,7 @@ use std::test::Fail;
 // 24 hours.
 const DAY: u64 = 86_400_000;
 
+// Returns the endpoint of the client at this port.
 fn peer(port: u16) -> Endpoint {
     Endpoint {
         ip: [192, 0, 2, 1],
@@ -15,26 +16,30 @@ fn peer(port: u16) -> Endpoint {
     }
 }
 
+// Returns the token that consists of this byte.
 fn token(byte: u8) -> Token {
     let mut token = Token::new();
     let _fits = token.try_extend_from_slice(&[byte]);
     token
 }
 
+// Returns the datagram that consists of these bytes.
 fn datagram(bytes: &[u8]) -> Datagram {
     let mut datagram = Datagram::new();
     let _fits = datagram.try_extend_from_slice(bytes);
     datagram
 }
 
-// Registers a GET of slot 1 without a payload.
+// Registers the client at this port as an observer of slot 1, with a GET without a payload and a
+// token of one byte.
 fn register(observers: &mut Observers, now: u64, port: u16, byte: u8, serial: u64) -> Registered {
     let request = Request::new(Method::Get, 1, None, b"", b"");
     observers.register(now, peer(port), &token(byte), &request, Some(2), serial)
 }
 
-// Notifies the first observer with a pending notification, by a datagram with the low byte of its
-// message ID. Returns its port, and whether it is confirmable.
+// Notifies the first observer that is due, with a datagram that consists of the low byte of `id`.
+// Returns the observer's port and whether the notification is confirmable, or `None` if no observer
+// is due.
 fn notify(
     observers: &mut Observers,
     now: u64,
@@ -49,7 +54,7 @@ fn notify(
     Some((port, confirmable))
 }
 
-// The effect of a tick, in a word.
+// The effect of a tick.
 #[derive(Clone, Copy, Debug, PartialEq, Eq)]
 enum Did {
     Resent,
@@ -57,6 +62,8 @@ enum Did {
     Nothing,
 }
 
+// Advances the observers to `now`, and returns the effect. Checks that a retransmission has these
+// bytes.
 fn tick(rt: &impl Abort, observers: &mut Observers, now: u64, bytes: &[u8]) -> Did {
     match observers.tick(now) {
         Ticked::Resend(emission) => {
@@ -68,8 +75,8 @@ fn tick(rt: &impl Abort, observers: &mut Observers, now: u64, bytes: &[u8]) -> D
     }
 }
 
-// The ticks after a confirmable notification that was sent at DAY with the random word 0: the time
-// until each, and its effect.
+// The ticks after a confirmable notification that was sent at DAY with the random word 0. Each has
+// the time since DAY, in milliseconds, and the effect.
 static TICKS: [(u64, Did); 11] = [
     (1_999, Did::Nothing),
     (2_000, Did::Resent),
@@ -84,6 +91,8 @@ static TICKS: [(u64, Did); 11] = [
     (62_001, Did::Nothing),
 ];
 
+// A notification without an acknowledgement is sent again after 2, 6, 14 and 30 s. After 62 s the
+// observer is removed.
 #[test]
 fn overdue_notifications_are_sent_again(rt: HostRuntime) -> Result<(), Fail> {
     let mut observers = Observers::new(rt.alloc(), 1, DAY)?;
@@ -103,6 +112,8 @@ fn overdue_notifications_are_sent_again(rt: HostRuntime) -> Result<(), Fail> {
     Ok(())
 }
 
+// A notification is confirmable if it is sent at least 1,000 ms, the given time, after the
+// registration.
 #[test]
 fn notifications_are_confirmable_once_their_time_has_passed(rt: HostRuntime) -> Result<(), Fail> {
     let mut observers = Observers::new(rt.alloc(), 1, 1_000)?;
@@ -112,6 +123,8 @@ fn notifications_are_confirmable_once_their_time_has_passed(rt: HostRuntime) -> 
     Ok(())
 }
 
+// A notification is acknowledged only by an Acknowledgement from the observer's endpoint with the
+// notification's message ID.
 #[test]
 fn acknowledgements_end_the_wait(rt: HostRuntime) -> Result<(), Fail> {
     let mut observers = Observers::new(rt.alloc(), 1, DAY)?;
@@ -126,6 +139,8 @@ fn acknowledgements_end_the_wait(rt: HostRuntime) -> Result<(), Fail> {
     Ok(())
 }
 
+// A Reset message removes the observer with that endpoint whose notification has the message ID. A
+// cancellation removes the observer with that endpoint and token.
 #[test]
 fn resets_and_cancelling_remove(rt: HostRuntime) -> Result<(), Fail> {
     let mut observers = Observers::new(rt.alloc(), 1, DAY)?;
@@ -142,6 +157,8 @@ fn resets_and_cancelling_remove(rt: HostRuntime) -> Result<(), Fail> {
     Ok(())
 }
 
+// A 33rd observer isn't registered. A registration with the endpoint and token of an observer
+// replaces that observer, and the new one is notified last.
 #[test]
 fn renewed_observers_are_one(rt: HostRuntime) -> Result<(), Fail> {
     let mut observers = Observers::new(rt.alloc(), 1, DAY)?;
@@ -159,6 +176,8 @@ fn renewed_observers_are_one(rt: HostRuntime) -> Result<(), Fail> {
     Ok(())
 }
 
+// A lease that is released or has expired can't be used, and its observer is due again 1 ms later.
+// A lease expires 247,000 ms after it was granted.
 #[test]
 fn turns_are_given_up(rt: HostRuntime) -> Result<(), Fail> {
     let mut observers = Observers::new(rt.alloc(), 1, DAY)?;
@@ -185,6 +204,7 @@ fn turns_are_given_up(rt: HostRuntime) -> Result<(), Fail> {
     Ok(())
 }
 
+// A lease that is marked as missing stays marked until it expires, and no other lease is marked.
 #[test]
 fn turns_keep_that_the_slot_was_empty(rt: HostRuntime) -> Result<(), Fail> {
     let mut observers = Observers::new(rt.alloc(), 1, DAY)?;
@@ -202,6 +222,9 @@ fn turns_keep_that_the_slot_was_empty(rt: HostRuntime) -> Result<(), Fail> {
     Ok(())
 }
 
+// `idle_until` returns the time of the next action: 0 for an observer that is due, the time after
+// which a lease has expired or was released, or the timeout of a notification. If there is no such
+// action, it is `u64::MAX`.
 #[test]
 fn a_list_is_idle_until_it_has_something_to_do(rt: HostRuntime) -> Result<(), Fail> {
     let mut observers = Observers::new(rt.alloc(), 1, DAY)?;

@@ -1,4 +1,6 @@
-//! Jobs that overtake one another: the order of the answers, the workers' counts.
+//! Conflicts of jobs at their commits.
+//!
+//! The tests check the order of the responses, and the workers' counts of changes and conflicts.
 ghost use Rattle.std.specs.Prelude.{◌≡◌, ◌+◌, ◌<◌, vec_len};
 ghost use Rattle.fc_workers.specs.Fronts.{beginning};
 ghost use Rattle.fc_core.specs.Policies.{default_policy};
@@ -29,15 +31,17 @@ use std::thread;
 use std::thread::Threads;
 use std::time::{Clock, Duration};
 
-// A counter: each request adds 1 to the first word of its eight bytes of variables.
+// The image of a counter: each run adds 1 to the one word of the program's variables.
 pub(crate) const COUNTER: &[u8] =
     b"FCB1\x08\x00\x09\x00\x09\x00\x00\x00\x00\x00\x00\x00\xb7\x01\x00\x00\x00\x00\x00\x00\x85\x00\x00\x00\x03\x00\x00\x00\x07\x00\x00\x00\x01\x00\x00\x00\xbf\x02\x00\x00\x00\x00\x00\x00\xb7\x01\x00\x00\x00\x00\x00\x00\x85\x00\x00\x00\x04\x00\x00\x00\x85\x00\x00\x00\x07\x00\x00\x00\xb7\x00\x00\x00\x00\x00\x00\x00\x95\x00\x00\x00\x00\x00\x00\x00";
 
-// The codes of the responses (RFC 7252, section 12.1.2).
+// 2.01 (Created), the code of a response (RFC 7252, section 12.1.2).
 pub(crate) const CREATED: u8 = 0x41;
 
+// 2.04 (Changed), the code of a response (RFC 7252, section 12.1.2).
 const CHANGED: u8 = 0x44;
 
+// 5.03 (Service Unavailable), the code of a response (RFC 7252, section 12.1.2).
 const UNAVAILABLE: u8 = 0xa3;
 
 // The results of a trial with a server.
@@ -48,7 +52,7 @@ pub(crate) struct Held<T: Drop> {
     // The number of conflicts at commits.
     pub(crate) overtakings: u64,
     pub(crate) tallies: Vec<T>,
-    // The number of readings of the device.
+    // The number of times that the device was read.
     pub(crate) readings: usize,
 }
 
@@ -77,12 +81,14 @@ impl Replies {
         }
     }
 
+    // Returns whether the response of this job was sent.
     fn has<R: Wait>(&self, rt: &R, job: u64) -> bool {
         let all = self.all.lock(rt);
         all.iter().any(|it| it.job == job)
     }
 
-    // Waits for the response of a job, for a limited number of checks.
+    // Waits until the response of this job was sent. If 10,000 checks find none, the response is
+    // recorded as missed.
     pub(crate) fn wait_for<R: Wait, C: Clock>(&self, rt: &R, clock: &C, job: u64) {
         for _turn in 0..TURNS {
             if self.has(rt, job) {
@@ -93,7 +99,8 @@ impl Replies {
         *self.missed.lock(rt) = true;
     }
 
-    // Returns the workers' results, or an error if an expected response wasn't sent.
+    // Returns the responses, the number of conflicts, and the workers' tallies. Returns an error if
+    // a response was missed.
     pub(crate) fn seen<T: Drop, L: Drop>(
         self,
         alloc: Global,
@@ -163,7 +170,7 @@ impl<'c, 'r, C: Clock> Gate for Holding<'c, 'r, C> {
     }
 }
 
-// The requests of a trial, whose jobs are sent to the workers.
+// The requests of a trial. `drive` delivers them, and sends the jobs to the workers.
 pub(crate) trait Drive<B: Bench> {
     fn drive<R: Wait + Clock>(
         &self,
@@ -184,7 +191,8 @@ pub(crate) struct Crew<T: Drop, L: Drop> {
     ghost equal: { vec_len logs ≡ vec_len tallies },
 }
 
-// Runs workers on an input, with this test hook, and returns their statistics.
+// Runs workers with this test hook, while `drive` delivers requests. Returns the workers'
+// statistics, or an error if memory can't be allocated.
 pub(crate) fn work_fed<
     B: Bench + Sync,
     G: Gate + Sync,
@@ -231,11 +239,14 @@ where
     Ok(shares?)
 }
 
-// An install, and then two POSTs for two workers. The first one is delayed.
+// A trial: an install, and then two POSTs for two workers. The first POST is delayed until the
+// response of the second was sent.
 #[derive(Drop)]
 pub(crate) struct TwoAtOnce;
 
 impl TwoAtOnce {
+    // Runs this trial with the workers. Returns the responses, conflicts and tallies, or an error if
+    // memory can't be allocated or a response wasn't seen in time.
     fn hold<B: Bench + Sync, R: Threads + Wait + Clock + Sync>(
         &self,
         rt: &R,
@@ -274,7 +285,8 @@ impl<B: Bench> Drive<B> for TwoAtOnce {
     }
 }
 
-// The worker's current job, the number of hook calls for its runs, and the hook's tallies and log.
+// The job that a worker runs, the number of hook calls for that job, and the hook's tallies and
+// log.
 #[derive(Drop)]
 struct Turn<T: Drop, L: Drop> {
     tallies: T,
@@ -283,8 +295,8 @@ struct Turn<T: Drop, L: Drop> {
     runs: u64,
 }
 
-// A test hook that installs the counter in slot 0 before the commits of the first runs of some
-// jobs, with tallies of its own.
+// A test hook that installs the counter in slot 0 before a commit, with tallies of its own. It does
+// so for the first `held` runs of each job whose number is a multiple of `every`.
 #[derive(Drop)]
 struct Changing<'a, B: Bench> {
     bench: &'a B,
@@ -314,8 +326,8 @@ impl<'a, B: Bench> Gate for Changing<'a, B> {
     }
 }
 
-// POSTs for one worker, to a slot that has the counter. Of each job whose number is a multiple of
-// `every`, this many runs have a conflict.
+// A trial: POSTs for one worker, to a slot that has the counter. Of each job whose number is a
+// multiple of `every`, the first `runs` runs have a conflict.
 #[derive(Drop)]
 pub(crate) struct Overtaken {
     posts: u16,
@@ -325,6 +337,8 @@ pub(crate) struct Overtaken {
 }
 
 impl Overtaken {
+    // Runs this trial with the workers. Returns the responses, conflicts and tallies, or an error if
+    // memory can't be allocated or a response wasn't seen in time.
     fn hold<B: Bench + Sync, R: Threads + Wait + Clock + Sync>(
         &self,
         rt: &R,
@@ -395,6 +409,8 @@ pub(crate) enum Trial {
 }
 
 impl Trial {
+    // Runs this trial with the workers. Returns the responses, conflicts and tallies, or an error if
+    // memory can't be allocated or a response wasn't seen in time.
     fn hold<B: Locks + Sync, R: Threads + Wait + Clock + Sync>(
         &self,
         rt: &R,
@@ -415,7 +431,7 @@ impl Trial {
     }
 }
 
-// A device that has no sensor. It counts its readings.
+// A device without sensors. It counts how often it is read.
 #[derive(Drop)]
 pub(crate) struct Bare {
     reads: AtomicUsize,
@@ -438,8 +454,8 @@ impl Device for Bare {
     }
 }
 
-// Runs a trial with a new server of empty slots and this many tallies. Returns the number of
-// changes of shard 0 that each of them counted.
+// Runs a trial with a new server of empty slots and this many tallies. Returns the results, with
+// the number of changes of shard 0 that each tally counted.
 pub(crate) fn hold<R: Threads + Wait + Clock + Sync>(
     rt: &R,
     alloc: Global,
@@ -451,7 +467,7 @@ pub(crate) fn hold<R: Threads + Wait + Clock + Sync>(
     hold_named::<Brand, R>(rt, alloc, tallies, trial, blanks, book)
 }
 
-// Runs it with a server whose ledgers have these names, and with this book of its front's calls.
+// Runs a trial as `hold` does, with a server that has these ledgers and this book of calls.
 fn hold_named<B: Books + Send + Sync, R: Threads + Wait + Clock + Sync>(
     rt: &R,
     alloc: Global,
@@ -497,6 +513,8 @@ fn hold_named<B: Books + Send + Sync, R: Threads + Wait + Clock + Sync>(
     })
 }
 
+// If two workers run POSTs to one slot, the one that commits last has a conflict, and runs the job
+// again. Both POSTs change the slot.
 #[test]
 fn two_workers_run_at_once(rt: HostRuntime) -> Result<(), Fail> {
     let held = hold(&rt, rt.alloc(), 2, &Trial::TwoAtOnce(TwoAtOnce))?;
@@ -515,6 +533,7 @@ fn two_workers_run_at_once(rt: HostRuntime) -> Result<(), Fail> {
     Ok(())
 }
 
+// Of 100 POSTs, seven have one conflict each, and are run again. All are answered with 2.04.
 #[test]
 fn overtaken_runs_are_run_again(rt: HostRuntime) -> Result<(), Fail> {
     let overtaken = Overtaken {
@@ -532,6 +551,8 @@ fn overtaken_runs_are_run_again(rt: HostRuntime) -> Result<(), Fail> {
     Ok(())
 }
 
+// A job that has a conflict in each of eight runs is answered with 5.03, and its worker counts no
+// change.
 #[test]
 fn eight_overtakings_end_a_job(rt: HostRuntime) -> Result<(), Fail> {
     let overtaken = Overtaken {

@@ -1,6 +1,7 @@
-//! A server through a client's own socket, over a socket of this host.
+//! A client's own socket, with a server at another socket of this host.
 //!
-//! They test the units of its waits and times, and the sources of the datagrams that it accepts.
+//! The tests check the units of the socket's waits and times, and the sources of the datagrams that
+//! it accepts.
 use crate::socket_tests::at_port;
 use coap_client::peer::BUFFER;
 use coap_client::{Peer, UdpPeer};
@@ -48,6 +49,7 @@ impl Clock for Stepping {
     }
 }
 
+// Times are in milliseconds, counted from the opening of the socket.
 #[test]
 fn a_time_is_of_milliseconds(rt: HostRuntime) -> Result<(), Fail> {
     let server = free_socket(&rt)?;
@@ -89,8 +91,8 @@ impl<'a, R: Net> Net for Intruding<'a, R> {
     }
 }
 
-// A byte from another endpoint arrived first, and then one from the server: the server's is
-// received.
+// A datagram from another endpoint, which arrived before the socket was connected, is ignored. The
+// server's datagram after it is received.
 #[test]
 fn another_endpoint_s_datagram_is_passed_over(rt: HostRuntime) -> Result<(), Fail> {
     let server = free_socket(&rt)?;
@@ -110,8 +112,8 @@ fn another_endpoint_s_datagram_is_passed_over(rt: HostRuntime) -> Result<(), Fai
     Ok(())
 }
 
-// A datagram of 1,281 bytes fills the buffer, as each longer one does, and is ignored; one of 1,280
-// bytes is the longest that is accepted.
+// A datagram of 1,281 bytes or more fills the buffer and is ignored, since it may be cut. One of
+// 1,280 bytes is received.
 #[test]
 fn a_datagram_that_may_be_cut_is_passed_over(rt: HostRuntime) -> Result<(), Fail> {
     let server = free_socket(&rt)?;

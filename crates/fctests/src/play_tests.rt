@@ -1,6 +1,6 @@
 //! Plays whose reading or writing fails or doesn't end, or that get no worker.
 //!
-//! The output for lines is tested by the data of fcvectors.
+//! The cases of fcvectors test the output for lines.
 use crate::faulty::{Full, Unflushed};
 use clap::Error;
 use fc_cli::Status;
@@ -15,8 +15,8 @@ use std::io::{BufRead, BufReader, ErrorKind, Read, Write};
 use std::process::Abort;
 use std::test::Fail;
 
-// Returns whether a play ends in this status, with exactly these bytes on its output and its error
-// stream.
+// Returns whether a play ends with this status, with exactly these bytes on its output and on its
+// error stream.
 fn plays<R: BufRead + Drop>(
     alloc: Global,
     input: R,
@@ -31,7 +31,7 @@ fn plays<R: BufRead + Drop>(
         && err.as_slice() == told.as_bytes()
 }
 
-// A reader that fails after its bytes.
+// A reader that returns these bytes, and then fails.
 #[derive(Drop)]
 struct Torn<'a>(&'a [u8]);
 
@@ -55,6 +55,7 @@ impl BufRead for Torn<'_> {
     }
 }
 
+// If reading fails, the complete lines before the failure are executed, and the status is `Failed`.
 #[test]
 fn failed_reading_is_status_3(rt: HostRuntime) {
     let input = Torn(b"0 1 4101123471b1720130\n0 1");
@@ -69,8 +70,8 @@ fn failed_reading_is_status_3(rt: HostRuntime) {
     );
 }
 
-// A good line is executed. Of a line without end after it, no more is read than shows that it is
-// too long.
+// The line before a line without end is executed. The line without end is bad as soon as it is too
+// long.
 #[test]
 fn a_line_without_end_is_bad(rt: HostRuntime) -> Result<(), Fail> {
     let line = b"0 1 4101123471b1720130\n".as_slice();
@@ -95,8 +96,8 @@ fn status_of_line(alloc: Global, start: &[u8], zeros: u64) -> io::Result<Status>
     Ok(play(alloc, input, &mut Full(0), &mut Full(99), DEFAULT_BEGIN))
 }
 
-// The longest line has the greatest time, peer 255 and 65,507 bytes, which are ignored. With a
-// leading zero it is too long.
+// The longest line has the greatest time, peer 255 and a datagram of 65,507 bytes, which the server
+// ignores. A line with one more digit is bad.
 #[test]
 fn the_longest_line_is_read(rt: HostRuntime) -> Result<(), Fail> {
     let status = status_of_line(rt.alloc(), b"18446744073709551615 255 ", 131_014)?;
@@ -106,8 +107,8 @@ fn the_longest_line_is_read(rt: HostRuntime) -> Result<(), Fail> {
     Ok(())
 }
 
-// Returns the status of a play whose output, and then whose error stream, has space for this many
-// bytes.
+// Plays with space for `out_room` bytes of output and `err_room` bytes of errors. Returns the
+// status.
 fn status_in(alloc: Global, input: &[u8], out_room: usize, err_room: usize) -> Status {
     play(
         alloc,
@@ -118,6 +119,7 @@ fn status_in(alloc: Global, input: &[u8], out_room: usize, err_room: usize) -> S
     )
 }
 
+// If the output or the error message can't be written completely, the status is `Failed`.
 #[test]
 fn failed_writing_is_status_3(rt: HostRuntime) {
     let line = b"0 1 4101123471b1720130\n";
@@ -131,6 +133,7 @@ fn failed_writing_is_status_3(rt: HostRuntime) {
     assert!(rt; status_in(rt.alloc(), b"bad", 99, 5) == Status::Failed);
 }
 
+// If the output can't be flushed, the status is `Failed`.
 #[test]
 fn failed_flushing_is_status_3(rt: HostRuntime) {
     let input: &[u8] = b"0 1 4101123471b1720130\n";
@@ -145,14 +148,14 @@ fn failed_flushing_is_status_3(rt: HostRuntime) {
     );
 }
 
-// If memory for the command line can't be allocated, the status isn't that of a bad command line.
+// If memory for the command line can't be allocated, the status is `Failed`, and not `Bad`.
 #[test]
 fn a_command_without_memory_is_status_3(rt: HostRuntime) {
     let status = explain(&rt, &Error::from(AllocError));
     assert!(rt; status.is_ok_and(|status| status == Status::Failed));
 }
 
-// If no worker could be started, the thread that reads the lines runs their jobs, and reports it.
+// If no worker could be started, the thread that reads the lines runs all jobs, and reports that.
 #[test]
 fn jobs_are_worked_off_without_workers(rt: HostRuntime) {
     let alloc = rt.alloc();

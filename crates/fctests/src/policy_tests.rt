@@ -16,7 +16,7 @@ use std::test::Fail;
 use std::thread::Threads;
 use std::time::{Clock, Duration};
 
-// 127.0.0.1 alone is a manager, and an address has two exchanges.
+// A policy with 127.0.0.1 as the only manager, and at most two exchanges for an address.
 const POLICY: Policy = Policy {
     managers: [Network {
         ip: [127, 0, 0, 1],
@@ -29,22 +29,25 @@ const POLICY: Policy = Policy {
     confirm_after: CONFIRM_AFTER,
 };
 
-// DELETE /p/0 and GET /r/0, confirmable, with these message IDs; and a GET that isn't confirmable.
+// A confirmable DELETE of /p/0 with message ID 1.
 const DELETE_1: [u8; 8] = [0x40, 0x04, 0x00, 0x01, 0xb1, b'p', 0x01, b'0'];
 
+// A confirmable GET of /r/0 with message ID 2.
 const GET_2: [u8; 8] = [0x40, 0x01, 0x00, 0x02, 0xb1, b'r', 0x01, b'0'];
 
+// A confirmable GET of /r/0 with message ID 3.
 const GET_3: [u8; 8] = [0x40, 0x01, 0x00, 0x03, 0xb1, b'r', 0x01, b'0'];
 
+// A non-confirmable GET of /r/0 with message ID 4.
 const NON_4: [u8; 8] = [0x50, 0x01, 0x00, 0x04, 0xb1, b'r', 0x01, b'0'];
 
-// Opens a client at an address of this host.
+// Opens a client's socket at this address of this host.
 fn client_at<R: Net>(rt: &R, ip: Ipv4Addr) -> io::Result<UdpSocket> {
     open(rt, SocketAddrV4::new(ip, 0))
 }
 
-// Returns the first four bytes of the response to a datagram within this many milliseconds; zeros
-// if there is none.
+// Sends a datagram. Returns the first four bytes of the response, or zeros if none arrives within
+// this many milliseconds.
 fn answered(client: &UdpSocket, port: u16, datagram: &[u8], wait: u64) -> io::Result<[u8; 4]> {
     client.set_read_timeout(Some(Duration::from_millis(wait)))?;
     client.send_to(datagram, at_port(port))?;
@@ -55,8 +58,9 @@ fn answered(client: &UdpSocket, port: u16, datagram: &[u8], wait: u64) -> io::Re
     }
 }
 
-// Another address is forbidden to remove a program, and its duplicate gets the same response. Above
-// its share the address gets 5.03 or no response. The manager's DELETE of the empty slot gets 2.02.
+// Sends requests from the manager's address and from another one. A DELETE from the other address,
+// and its duplicate, get 4.03. After two exchanges that address gets 5.03, or no response to a
+// non-confirmable request. The manager's DELETE of the empty slot gets 2.02.
 fn ask_from_two<R: Abort + Net>(rt: &R, port: u16) -> Result<(), Fail> {
     let other = client_at(rt, Ipv4Addr::new(127, 0, 0, 2))?;
     let manager = client_at(rt, Ipv4Addr::LOCALHOST)?;
@@ -84,6 +88,7 @@ fn ask_from_two<R: Abort + Net>(rt: &R, port: u16) -> Result<(), Fail> {
     Ok(())
 }
 
+// Serves both addresses with this many workers, and checks the counts that are logged at the end.
 fn serve_two<R: Abort + AllocGlobal + Threads + Wait + Clock + Net + Sync>(
     rt: &R,
     workers: u8,
@@ -100,6 +105,7 @@ fn serve_two<R: Abort + AllocGlobal + Threads + Wait + Clock + Net + Sync>(
     Ok(())
 }
 
+// With one worker and with two, managers and shares are distinguished by the clients' addresses.
 #[test]
 fn a_policy_is_of_addresses(rt: HostRuntime) -> Result<(), Fail> {
     serve_two(&rt, 1)?;

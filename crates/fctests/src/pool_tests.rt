@@ -12,7 +12,8 @@ use std::alloc::{AllocError, Global};
 use std::sync::Wait;
 use std::test::Fail;
 
-// Installs the counter in slots 1 and 9, which shard 1 owns, in slot 2, and in slot 9 again.
+// A driver that installs the counter in slots 1 and 9, which shard 1 owns, in slot 2, and in slot 9
+// again.
 #[derive(Drop)]
 struct Installs {
     alloc: Global,
@@ -31,8 +32,8 @@ impl Driver<Result<(), AllocError>> for Installs {
     }
 }
 
-// Each install is counted once, whichever worker made it, and the serials of its slot's shard have
-// increased by as many.
+// Each install is counted once, for the slot's shard, whichever worker makes it. Each install
+// increases the slot's serial by 1.
 #[test]
 fn a_pool_counts_the_changes_of_each_shard(rt: HostRuntime) -> Result<(), Fail> {
     let replies = Replies::new();

@@ -1,7 +1,7 @@
-//! Records of a server's changes of programs, over a socket.
+//! Records of the changes of programs that a server makes, over a socket.
 //!
-//! Each answered change has one record, at its last block. A duplicate datagram has none.
-//! The digests are those that `sha256sum` printed of the images.
+//! Each answered change has one record, made at the last block of a change in blocks. A duplicate
+//! datagram has no record. The digests are those that `sha256sum` printed for the images.
 use crate::socket_tests::{COUNT, at_port, client_of, largest_image, never};
 use fc_core::DEFAULT_POLICY;
 use fc_host::sensors::NoSensors;
@@ -19,21 +19,25 @@ use std::thread;
 use std::thread::Threads;
 use std::time::Clock;
 
-// The digests of COUNT, and of COUNT with a budget of 8 steps, one below its cost.
+// The digest of COUNT.
 static COUNT_DIGEST: &str = "917718e9702d2d1155476671e2632bddc03155dab4a99f8fd2fccd0dfaa9f517";
 
+// The digest of COUNT with a budget of 8 steps, one less than the cost.
 static SHORT_DIGEST: &str = "2ce74acc1cbc78650f9e5d9030d450b3f183aaacc165cab103e8be2897c37c10";
 
 // The digest of the largest image, of 4,112 bytes.
 static LARGEST_DIGEST: &str = "0dc80a6025d96e9a74cdddec3e98ae861853e4533da8871e4b96576846ab2b47";
 
-// Methods (RFC 7252, section 12.1.1), and the first byte of a confirmable message without a token.
+// The method GET (RFC 7252, section 12.1.1).
 const GET: u8 = 1;
 
+// The method PUT (RFC 7252, section 12.1.1).
 const PUT: u8 = 3;
 
+// The method DELETE (RFC 7252, section 12.1.1).
 const DELETE: u8 = 4;
 
+// The first byte of a confirmable message without a token.
 const CON: u8 = 0x40;
 
 // Returns a confirmable request of /p/N with this message ID, payload and, if given, Block1 value.
@@ -73,8 +77,8 @@ fn check_code<R: Abort>(
     Ok(())
 }
 
-// Sends a duplicate upload, a GET, an image whose cost is above its budget, two removals, and an
-// upload in five blocks. The second removal finds no program.
+// Sends an upload and its duplicate, a GET, and an image whose cost is above its budget. Then sends
+// a removal and its duplicate, a second removal, which finds no program, and an upload in blocks.
 fn change_programs<R: Abort + AllocGlobal>(
     rt: &R,
     client: &UdpSocket,
@@ -108,7 +112,8 @@ fn change_programs<R: Abort + AllocGlobal>(
     upload_by_blocks(rt, client, server)
 }
 
-// Sends five blocks of 1,024 bytes. The response to the first four is 2.31, to the last 2.01.
+// Sends the largest image in five blocks, of 1,024 bytes each but for the last. The response to
+// each of the first four is 2.31, and the response to the last is 2.01.
 fn upload_by_blocks<R: Abort + AllocGlobal>(
     rt: &R,
     client: &UdpSocket,
@@ -126,7 +131,7 @@ fn upload_by_blocks<R: Abort + AllocGlobal>(
     Ok(())
 }
 
-// Returns the lines that a server with this many workers recorded while the client made changes.
+// Returns the lines that a server with this many workers records while the client changes programs.
 fn recorded_by<R: Abort + AllocGlobal + Threads + Wait + Clock + Net + Sync>(
     rt: &R,
     client: &UdpSocket,
@@ -152,7 +157,7 @@ fn recorded_by<R: Abort + AllocGlobal + Threads + Wait + Clock + Net + Sync>(
     Ok(lines)
 }
 
-// Serves a socket. Returns whether it did, and the recorded lines.
+// Serves a socket. Returns whether serving succeeded, and the recorded lines.
 fn serve_recorded<R: Threads + Wait + Clock + Sync>(
     rt: &R,
     alloc: Global,
@@ -165,11 +170,13 @@ fn serve_recorded<R: Threads + Wait + Clock + Sync>(
     (served, lines.into_inner())
 }
 
+// Returns a recorder that writes to this logger.
 fn recorder_of<L: Log>(logger: &L) -> LoggedChanges<'_, L> {
     LoggedChanges { logger }
 }
 
-// Serves a socket with this recorder of changes, and logs nothing else. Returns whether it did.
+// Serves a socket with this recorder of changes, and logs nothing else. Returns whether serving
+// succeeded.
 fn serve_by<R: Threads + Wait + Clock + Sync, C: Recorder + Sync>(
     rt: &R,
     alloc: Global,
@@ -193,6 +200,7 @@ fn serve_by<R: Threads + Wait + Clock + Sync, C: Recorder + Sync>(
     served.is_some()
 }
 
+// Returns records with this logger for the end, this recorder of changes, and no reports.
 fn records_of<'a, L: Log, C: Recorder>(end: &'a L, changes: &'a C) -> Records<'a, L, C, NoReports> {
     Records {
         end,
@@ -201,7 +209,7 @@ fn records_of<'a, L: Log, C: Recorder>(end: &'a L, changes: &'a C) -> Records<'a
     }
 }
 
-// Returns the expected lines of these changes, for a client at this port.
+// Returns the expected lines for the changes of `change_programs`, by a client at this port.
 fn expected(alloc: Global, port: u16) -> Result<String, AllocError> {
     format!(in alloc;
         "\
@@ -214,6 +222,7 @@ fn expected(alloc: Global, port: u16) -> Result<String, AllocError> {
     )
 }
 
+// With 1, 2 and 16 workers, each change has one record, in the order of the requests.
 #[test]
 fn each_change_is_recorded_once(rt: HostRuntime) -> Result<(), Fail> {
     for workers in [1, 2, 16] {

@@ -1,7 +1,7 @@
-//! Programs with calls that are installed and run.
+//! Replies of programs that call functions and helpers.
 //!
-//! The expected replies follow from the tables of instructions, helpers and options, worked out by
-//! hand.
+//! The expected replies are worked out by hand from the tables of instructions, helpers and
+//! options.
 use crate::tooling::assembled;
 use fc_cli::Status;
 use fc_server::DEFAULT_BEGIN;
@@ -10,9 +10,9 @@ use std::alloc::Global;
 use std::process::Abort;
 use std::test::Fail;
 
-// Returns the output if the source's program, with this size of the variables, is installed in slot
-// 0 and gets two requests. The end of each datagram follows its path: a payload's marker and bytes
-// in hex digits, or nothing.
+// Installs the source's program in slot 0, with this size of the variables, and sends two GETs.
+// Returns the output. `payload` is the end of each GET in hex digits: a payload's marker and bytes,
+// or nothing.
 fn printed<R: Abort + AllocGlobal>(
     rt: &R,
     text: &[u8],
@@ -33,8 +33,8 @@ fn printed<R: Abort + AllocGlobal>(
     Ok(out)
 }
 
-// Checks that slot 0 responds to each of two requests with a 2.05 with the ETag of the first
-// install, and the hex digits of `reply` after it.
+// Checks that slot 0 responds to each of two GETs with 2.05: the ETag of the first install, and
+// then the hex digits of `reply`.
 fn check_replied<R: Abort + AllocGlobal>(
     rt: &R,
     text: &[u8],
@@ -50,7 +50,7 @@ fn check_replied<R: Abort + AllocGlobal>(
     Ok(())
 }
 
-// Checks that slot 0 responds to each of two requests with this code alone, without an option.
+// Checks that slot 0 responds to each of two GETs with this code, without options and payload.
 fn check_code<R: Abort + AllocGlobal>(rt: &R, text: &[u8], code: &str) -> Result<(), Fail> {
     let printed = printed(rt, text, 0, "")?;
     let wanted = format!(in rt.alloc(); "\n1 60{code}0002\n1 60{code}0003\n")?;
@@ -58,15 +58,15 @@ fn check_code<R: Abort + AllocGlobal>(rt: &R, text: &[u8], code: &str) -> Result
     Ok(())
 }
 
-// Programs without variables that get no payload, and their replies.
+// Sources of programs without variables, each with the reply to a GET without a payload.
 static REPLIES: [(&[u8], &str); 11] = [
-    // a byte of the frame, and no byte
+    // One program replies with a byte of the frame, and the next one with no byte.
     (
         b"stb r10, -1, 7\nmov64 r1, r10\nadd64 r1, -1\nmov64 r2, 1\ncall 5\nmov64 r0, 0\nexit",
         "ff07",
     ),
     (b"mov64 r2, 0\ncall 5\nmov64 r0, 0\nexit", ""),
-    // The low byte of a number, and the result 1 of that.
+    // `call 6` adds the low byte of a number to the reply, and its result is 1.
     (
         b"mov64 r1, 321\ncall 6\nmov64 r1, r0\ncall 6\nmov64 r0, 0\nexit",
         "ff4101",
@@ -76,28 +76,29 @@ static REPLIES: [(&[u8], &str); 11] = [
         b"mov64 r1, r10\nadd64 r1, -8\ncallf 2\nldxdw r0, r10, -8\nexit\nstdw r1, 0, 69\nmov64 r0, 0\nexit",
         "",
     ),
-    // And it reads that of its caller's caller.
+    // A function reads the frame of its caller's caller.
     (
         b"stdw r10, -8, 65\nmov64 r1, r10\nadd64 r1, -8\ncallf 1\nexit\ncallf 1\nexit\nldxb r1, r1, 0\ncall 6\nmov64 r0, 0\nexit",
         "ff41",
     ),
-    // Four frames: each function stores its number into its own, calls the next, and then shows the
-    // number.
+    // Four frames: each function stores its number into its own frame, calls the next function, and
+    // then adds the number to the reply.
     (
         b"stdw r10, -8, 1\ncallf 4\nldxb r1, r10, -8\ncall 6\nmov64 r0, 0\nexit\nstdw r10, -8, 2\ncallf 3\nldxb r1, r10, -8\ncall 6\nexit\nstdw r10, -8, 3\ncallf 3\nldxb r1, r10, -8\ncall 6\nexit\nstdw r10, -8, 4\nldxb r1, r10, -8\ncall 6\nexit",
         "ff04030201",
     ),
-    // a function that is called twice
+    // A function is called twice.
     (
         b"callf 2\ncallf 1\nexit\nmov64 r1, 120\ncall 6\nmov64 r0, 0\nexit",
         "ff7878",
     ),
-    // each call's frame is zero: the function shows a byte of it, and then fills it
+    // The frame of each call is zero: the function adds a byte of the frame to the reply, and then
+    // fills the frame.
     (
         b"stdw r10, -8, 65\ncallf 4\ncallf 3\nldxdw r0, r10, -8\nadd64 r0, 4\nexit\nldxb r1, r10, -8\nstdw r10, -8, 66\ncall 6\nmov64 r0, 0\nexit",
         "ff0000",
     ),
-    // a function with R6 to R9 of its own
+    // A function that sets R6 to R9 doesn't change those of its caller.
     (
         b"mov64 r6, 65\nmov64 r7, 66\nmov64 r8, 67\nmov64 r9, 68\ncallf 10\nmov64 r1, r6\ncall 6\nmov64 r1, r7\ncall 6\nmov64 r1, r8\ncall 6\nmov64 r1, r9\ncall 6\nmov64 r0, 0\nexit\nmov64 r6, 1\nmov64 r7, 1\nmov64 r8, 1\nmov64 r9, 1\nmov64 r0, 0\nexit",
         "ff41424344",
@@ -108,10 +109,11 @@ static REPLIES: [(&[u8], &str); 11] = [
         b"mov64 r1, 65\nmov64 r2, 66\nmov64 r5, 67\ncallf 4\nmov64 r1, r0\ncall 6\nmov64 r0, 0\nexit\nmov64 r0, r1\nadd64 r0, r2\nadd64 r0, r5\nexit",
         "ffc6",
     ),
-    // `notify`, and its result 0.
+    // The result of `notify` is 0.
     (b"call 7\nmov64 r1, r0\ncall 6\nmov64 r0, 0\nexit", "ff00"),
 ];
 
+// Each program replies with the bytes of its row.
 #[test]
 fn programs_with_calls_reply(rt: HostRuntime) -> Result<(), Fail> {
     for (text, reply) in REPLIES.iter().copied() {
@@ -120,8 +122,8 @@ fn programs_with_calls_reply(rt: HostRuntime) -> Result<(), Fail> {
     Ok(())
 }
 
-// Checks the replies of a program with 16 bytes of variables: it stores 7 into the second word, and
-// then replies with the result of a helper.
+// Checks the reply of a program with 16 bytes of variables. The program stores 7 into the second
+// word, makes these calls, and replies with the result of the last call.
 fn check_answer<R: Abort + AllocGlobal>(
     rt: &R,
     calls: &str,
@@ -134,26 +136,27 @@ fn check_answer<R: Abort + AllocGlobal>(
     check_replied(rt, text.as_bytes(), 16, payload, reply)
 }
 
-// Calls, a payload, and the last call's result, its least byte first.
+// Calls of helpers, the end of a GET with its payload, and the result of the last call, the least
+// byte first.
 static HELPED: [(&str, &str, &str); 14] = [
     // The payload's length.
     ("call 1", "", "ff0000000000000000"),
     ("call 1", "ff0a0b0c", "ff0300000000000000"),
-    // Its bytes, and the result past its end.
+    // The payload's bytes, and the result past the payload's end.
     ("mov64 r1, 1\ncall 2", "ff0a0b", "ff0b00000000000000"),
     ("mov64 r1, 2\ncall 2", "ff0a0b", "ffffffffffffffffff"),
     ("mov64 r1, -1\ncall 2", "ff0a0b", "ffffffffffffffffff"),
-    // The variables' words, and the result past their end.
+    // The words of the variables, and the result past the last word.
     ("mov64 r1, 0\ncall 3", "", "ff0000000000000000"),
     ("mov64 r1, 1\ncall 3", "", "ff0700000000000000"),
     ("mov64 r1, 2\ncall 3", "", "ff0000000000000000"),
-    // The number of a word whose bytes begin at 2^64.
+    // A word whose bytes would begin at 2^64 + 8; it isn't word 1.
     (
         "lddw r1, 2305843009213693953\ncall 3",
         "",
         "ff0000000000000000",
     ),
-    // A stored word is read back; past the end nothing is stored.
+    // A stored word is read back; past the last word nothing is stored.
     (
         "mov64 r1, 0\nmov64 r2, -2\ncall 4\nmov64 r1, 0\ncall 3",
         "",
@@ -166,10 +169,11 @@ static HELPED: [(&str, &str, &str); 14] = [
         "",
         "ff0700000000000000",
     ),
-    // `notify`.
+    // The result of `notify`.
     ("call 7", "", "ff0000000000000000"),
 ];
 
+// The result of each last call is that of its row.
 #[test]
 fn helpers_answer(rt: HostRuntime) -> Result<(), Fail> {
     for (calls, payload, reply) in HELPED.iter().copied() {
@@ -178,8 +182,7 @@ fn helpers_answer(rt: HostRuntime) -> Result<(), Fail> {
     Ok(())
 }
 
-// The variables that a GET's run writes are discarded before the next: both replies count from
-// zero.
+// The variables that a run on a GET writes are discarded, so that both replies count from zero.
 #[test]
 fn a_get_keeps_no_variables(rt: HostRuntime) -> Result<(), Fail> {
     check_replied(
@@ -191,7 +194,7 @@ fn a_get_keeps_no_variables(rt: HostRuntime) -> Result<(), Fail> {
     )
 }
 
-// A counter that sets the notify flag: nothing follows the ETag.
+// A counter that notifies, and adds nothing to its reply, is answered with the ETag alone.
 #[test]
 fn a_counter_is_asked(rt: HostRuntime) -> Result<(), Fail> {
     check_replied(
@@ -203,8 +206,8 @@ fn a_counter_is_asked(rt: HostRuntime) -> Result<(), Fail> {
     )
 }
 
-// A reply with the request's first bytes, as many as the source's number says: the method 1, and
-// zeros. The first 1,024 are sent after these hex digits of options.
+// Checks a reply of `count` bytes, which are the request's first ones: the method 1, and zeros. The
+// response has these hex digits of options, and then the first 1,024 bytes of the reply.
 fn check_block<R: Abort + AllocGlobal>(rt: &R, count: u16, options: &str) -> Result<(), Fail> {
     let alloc = rt.alloc();
     let text = format!(in alloc; "mov64 r2, {count}\ncall 5\nmov64 r0, 0\nexit")?;
@@ -216,8 +219,8 @@ fn check_block<R: Abort + AllocGlobal>(rt: &R, count: u16, options: &str) -> Res
     check_replied(rt, text.as_bytes(), 0, "", reply)
 }
 
-// Block2 is option 23, 19 above the ETag, with one byte: block 0 of 1,024 bytes, with more to
-// follow (RFC 7959, section 2.2).
+// A longer reply than 1,024 bytes is sent as block 0. Its Block2 is option 23, 19 above the ETag,
+// with one byte: block 0 of 1,024 bytes, with more to follow (RFC 7959, section 2.2).
 #[test]
 fn a_reply_above_1024_bytes_is_block_0(rt: HostRuntime) -> Result<(), Fail> {
     check_block(&rt, 1024, "")?;
@@ -225,9 +228,9 @@ fn a_reply_above_1024_bytes_is_block_0(rt: HostRuntime) -> Result<(), Fail> {
     check_block(&rt, 1100, "d1060e")
 }
 
-// Three times 1,104 bytes fit into 4,096; a fourth time they don't, and none is added; then 784
-// fit, and no byte more. The results are the bits 111010 of a number. The right number is answered
-// by 4.03, without a reply.
+// A reply has at most 4,096 bytes. Three additions of 1,104 bytes fit; a fourth doesn't, and adds
+// nothing. An addition of 784 bytes then fits, and one more byte doesn't. The results are the bits
+// 111010 of a number. The program ends with 4.03 if the number is right, and discards its reply.
 #[test]
 fn what_does_not_fit_is_not_added(rt: HostRuntime) -> Result<(), Fail> {
     check_code(
@@ -269,7 +272,7 @@ fn what_does_not_fit_is_not_added(rt: HostRuntime) -> Result<(), Fail> {
     )
 }
 
-// A function's exit with 131 isn't the program's answer: its own exit is.
+// The code of the response is that of the program's own exit, and not of a function's exit.
 #[test]
 fn the_last_exit_answers(rt: HostRuntime) -> Result<(), Fail> {
     check_code(
@@ -277,6 +280,6 @@ fn the_last_exit_answers(rt: HostRuntime) -> Result<(), Fail> {
         b"callf 2\nmov64 r0, 132\nexit\nmov64 r0, 131\nexit",
         "84",
     )?;
-    // 1 is no answer.
+    // 1 isn't the code of a response, so the response is 5.00.
     check_code(&rt, b"callf 1\nexit\nmov64 r0, 1\nexit", "a0")
 }

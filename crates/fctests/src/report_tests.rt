@@ -1,7 +1,7 @@
-//! Reports of a server's counts: which numbers each has, and the options that ask for them.
+//! Reports of a server's counts, and the options for reports.
 //!
-//! A script stands for the socket. With a period of 0 each round makes a report, of the counts
-//! before the round's datagram.
+//! A script replaces the socket. With a period of 0, each round reports the counts before the
+//! round's datagram.
 use crate::socket_tests::put_datagram;
 use coap_dedup::Limits;
 use coap_msg::{Emission, Endpoint};
@@ -25,7 +25,7 @@ use std::test::Fail;
 use std::thread::Threads;
 use std::time::Clock;
 
-// No client at 127.0.0.1 is a manager, and there are two exchanges.
+// A policy with at most two exchanges, in which no client at 127.0.0.1 is a manager.
 const POLICY: Policy = Policy {
     managers: [Network {
         ip: [192, 0, 2, 0],
@@ -38,17 +38,19 @@ const POLICY: Policy = Policy {
     confirm_after: CONFIRM_AFTER,
 };
 
-// DELETE /p/0, which is refused with 4.03; GET /r/0, which is empty; GET /r/1, for which there is
-// no exchange; and an empty confirmable message, which is rejected by a Reset.
+// A DELETE of /p/0, which is refused with 4.03.
 const DELETE_1: [u8; 8] = [0x40, 0x04, 0x00, 0x01, 0xb1, b'p', 0x01, b'0'];
 
+// A GET of /r/0, whose slot is empty.
 const GET_2: [u8; 8] = [0x40, 0x01, 0x00, 0x02, 0xb1, b'r', 0x01, b'0'];
 
+// A GET of /r/1, for which there is no room for an exchange.
 const GET_3: [u8; 8] = [0x40, 0x01, 0x00, 0x03, 0xb1, b'r', 0x01, b'1'];
 
+// An empty confirmable message, which is rejected by a Reset message.
 const EMPTY_4: [u8; 4] = [0x40, 0x00, 0x00, 0x04];
 
-// A source without a datagram at its first and its sixth call.
+// A source that returns no datagram at its first and its sixth call.
 #[derive(Drop)]
 struct Script {
     calls: usize,
@@ -74,7 +76,7 @@ impl Source for Script {
     }
 }
 
-// A sink that fails at every second datagram.
+// A sink that fails to send every second datagram.
 #[derive(Drop)]
 struct Lossy {
     sends: AtomicUsize,
@@ -99,7 +101,8 @@ const EXPECTED: &str = "\
 [INFO  fcd] report received=4 forbidden=1 unavailable=1 notified=0 resent=0 removed=0 sent=2 failed=2
 ";
 
-// Returns the lines that a server with this many workers reports, with this period.
+// Serves the script with this many workers and this period in milliseconds. Returns the lines of
+// the reports.
 fn reported_by<R: Abort + AllocGlobal + Threads + Wait + Clock + Sync>(
     rt: &R,
     workers: u8,
@@ -113,7 +116,7 @@ fn reported_by<R: Abort + AllocGlobal + Threads + Wait + Clock + Sync>(
     lines.into_inner()
 }
 
-// Serves the script with this reporter. Returns whether it was served.
+// Serves the script with this reporter. Returns whether serving succeeded.
 fn serve_by<R: Threads + Wait + Clock + Sync, Q: Reporter + Sync>(
     rt: &R,
     alloc: Global,
@@ -146,6 +149,7 @@ fn serve_by<R: Threads + Wait + Clock + Sync, Q: Reporter + Sync>(
     served.is_some()
 }
 
+// Returns records with this logger for the end, these reports, and no changes.
 fn records_of<'a, L: Log, Q: Reporter>(
     end: &'a L,
     reports: Reports<'a, Q>,
@@ -157,6 +161,7 @@ fn records_of<'a, L: Log, Q: Reporter>(
     }
 }
 
+// With one worker and with two, each round reports the counts of all rounds before it.
 #[test]
 fn reports_have_the_counts_of_their_rounds(rt: HostRuntime) -> Result<(), Fail> {
     for workers in [1, 2] {
@@ -166,7 +171,7 @@ fn reports_have_the_counts_of_their_rounds(rt: HostRuntime) -> Result<(), Fail> 
     Ok(())
 }
 
-// The script ends before a day has passed.
+// A server without a period, or with a period of a day, reports nothing until the script ends.
 #[test]
 fn nothing_is_reported_before_it_is_due(rt: HostRuntime) -> Result<(), Fail> {
     for every in [None, Some(86_400_000)] {
@@ -176,7 +181,7 @@ fn nothing_is_reported_before_it_is_due(rt: HostRuntime) -> Result<(), Fail> {
     Ok(())
 }
 
-// Reports these counts, after a datagram that couldn't be sent and two that were.
+// Reports these counts after a datagram that couldn't be sent and two that were sent.
 fn report_after_a_failure<L: Log>(logger: &L, report: &Report) {
     let reporter = LoggedReports::new(logger);
     reporter.count_sending(false);
@@ -185,6 +190,7 @@ fn report_after_a_failure<L: Log>(logger: &L, report: &Report) {
     reporter.report(report, &mut CallLog::new());
 }
 
+// A report prints each of its numbers, and the numbers of sent and of failed datagrams.
 #[test]
 fn a_report_has_each_of_its_numbers(rt: HostRuntime) -> Result<(), Fail> {
     let lines = Locked::new(&rt, Vec::new(rt.alloc()));
@@ -204,7 +210,8 @@ fn a_report_has_each_of_its_numbers(rt: HostRuntime) -> Result<(), Fail> {
     Ok(())
 }
 
-// Returns the period in milliseconds that `--log` with this value, after `report:1`, gives.
+// Returns the period of reports in milliseconds for `--log report:1` followed by `--log` with this
+// value, or the error if the value is refused.
 fn period_of(alloc: Global, value: &str) -> Result<Result<Option<u64>, BadOption>, Fail> {
     let words = [
         "fcd", "serve", "--port", "5683", "--log", "report:1", "--log", value,
@@ -216,6 +223,7 @@ fn period_of(alloc: Global, value: &str) -> Result<Result<Option<u64>, BadOption
     Ok(serve_options(matches).map(|options| options.logs.report))
 }
 
+// The last period that `--log` gives is used, and values without a period don't change it.
 #[test]
 fn the_last_period_of_reports_counts(rt: HostRuntime) -> Result<(), Fail> {
     for (value, period) in [
@@ -234,6 +242,7 @@ fn the_last_period_of_reports_counts(rt: HostRuntime) -> Result<(), Fail> {
     Ok(())
 }
 
+// `--log` refuses periods other than 1 to 86,400 seconds, and unknown words.
 #[test]
 fn other_values_of_log_are_refused(rt: HostRuntime) -> Result<(), Fail> {
     for value in [

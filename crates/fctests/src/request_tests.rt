@@ -32,6 +32,7 @@ const TOO_LARGE: Outcome = Outcome::Refused(Code::REQUEST_ENTITY_TOO_LARGE);
 
 const PROXYING_NOT_SUPPORTED: Outcome = Outcome::Refused(Code::PROXYING_NOT_SUPPORTED);
 
+// Returns the classification of a datagram, or `Unread` if it is no message.
 fn outcome_of(bytes: &[u8]) -> Outcome {
     let Ok(message) = read(bytes) else {
         return Outcome::Unread;
@@ -47,17 +48,19 @@ fn outcome_of(bytes: &[u8]) -> Outcome {
     }
 }
 
+// Checks the classification of a datagram.
 fn check_outcome(rt: &impl Abort, bytes: &[u8], wanted: Outcome) {
     assert!(rt; outcome_of(bytes) == wanted, "{bytes:?}");
 }
 
+// Checks the classification of each datagram.
 fn check_outcomes(rt: &impl Abort, cases: &[(&[u8], Outcome)]) {
     for (bytes, wanted) in cases {
         check_outcome(rt, bytes, *wanted);
     }
 }
 
-/// Returns the request of a datagram.
+/// Returns the request of a datagram, or `None` if it isn't an accepted request.
 fn request_of(bytes: &[u8]) -> Option<Request<'_>> {
     let message = read(bytes).ok()?;
     match classify(&message) {
@@ -66,6 +69,7 @@ fn request_of(bytes: &[u8]) -> Option<Request<'_>> {
     }
 }
 
+// Messages with various types, codes and methods, each with its classification.
 static TYPE_CASES: [(&[u8], Outcome); 17] = [
     // Empty messages.
     (b"\x40\x00\x00\x07", Outcome::Rejected),
@@ -77,7 +81,7 @@ static TYPE_CASES: [(&[u8], Outcome); 17] = [
     (b"\x50\x45\x00\x07", Outcome::Ignored),
     (b"\x60\x45\x00\x07", Outcome::Ignored),
     (b"\x70\x01\x00\x07", Outcome::Ignored),
-    // Each method at its resources, and where it isn't allowed.
+    // Each method at resources that allow it, and at others.
     (b"\x40\x01\x00\x01\xb1\x72\x01\x30", Outcome::Accepted),
     (b"\x50\x03\x00\x01\xb1\x70\x02\x36\x33", Outcome::Accepted),
     (b"\x40\x02\x00\x01\xb1\x72\x01\x30", Outcome::Accepted),
@@ -89,6 +93,7 @@ static TYPE_CASES: [(&[u8], Outcome); 17] = [
     (b"\x40\x05\x00\x0e\xb1\x70\x01\x30", METHOD_NOT_ALLOWED),
 ];
 
+// Requests with various paths, each with its classification.
 static PATH_CASES: [(&[u8], Outcome); 7] = [
     // `/r/00`, `/r/64`, `/r`, `/r/0/0`, `/x/0`.
     (b"\x40\x01\x00\x0f\xb1\x72\x02\x30\x30", NOT_FOUND),
@@ -107,6 +112,7 @@ static PATH_CASES: [(&[u8], Outcome); 7] = [
     ),
 ];
 
+// Requests with various critical options, each with its classification.
 static CRITICAL_CASES: [(&[u8], Outcome); 13] = [
     // If-Match, and Accept after the path.
     (b"\x40\x01\x00\x0d\x10\xa1\x72\x01\x30", BAD_OPTION),
@@ -131,8 +137,8 @@ static CRITICAL_CASES: [(&[u8], Outcome); 13] = [
         b"\x40\x01\x00\x10\x73\x00\x16\x33\x41\x72\x01\x30",
         BAD_OPTION,
     ),
-    // Proxy-Scheme, before an unrecognised option and an unknown path; without a byte it isn't
-    // recognised.
+    // Proxy-Scheme takes precedence over an unrecognised option and an unknown path; without a byte
+    // it isn't recognised.
     (b"\x40\x01\x00\x10\xd1\x1a\x61", PROXYING_NOT_SUPPORTED),
     (b"\x40\x01\x00\x10\x10\xd1\x19\x61", PROXYING_NOT_SUPPORTED),
     (b"\x40\x01\x00\x10\xd0\x1a", BAD_OPTION),
@@ -144,6 +150,7 @@ static CRITICAL_CASES: [(&[u8], Outcome); 13] = [
     ),
 ];
 
+// Requests with Block1 or Block2, each with its classification.
 static BLOCK_CASES: [(&[u8], Outcome); 13] = [
     // Block2 in a GET, on an unknown path, of the reserved size, of 4 bytes, and twice.
     (
@@ -169,16 +176,17 @@ static BLOCK_CASES: [(&[u8], Outcome); 13] = [
         b"\x40\x03\x40\x00\xb1\x70\x01\x32\xd1\x03\x0f\xff\x00",
         BAD_REQUEST,
     ),
-    // Block2 elsewhere, also on an unknown path, and in a non-confirmable request.
+    // Block2 in a POST of an unknown path, in a PUT, and in a non-confirmable DELETE.
     (b"\x40\x02\x00\x01\xb1\x78\xc1\x06", BAD_OPTION),
     (b"\x40\x03\x00\x01\xb1\x70\x01\x32\xc1\x06", BAD_OPTION),
     (b"\x50\x04\x00\x01\xb1\x70\x01\x32\xc1\x06", Outcome::Silent),
-    // Block1 elsewhere, also in a code that isn't served.
+    // Block1 in a GET, in a POST, and with a method that isn't served.
     (b"\x40\x01\x00\x01\xb1\x70\x01\x32\xd1\x03\x0a", BAD_OPTION),
     (b"\x40\x02\x00\x01\xb1\x72\x01\x32\xd1\x03\x0a", BAD_OPTION),
     (b"\x40\x05\x00\x01\xb1\x70\x01\x32\xd1\x03\x0a", BAD_OPTION),
 ];
 
+// Each datagram has the classification of its row.
 #[test]
 fn datagrams_are_classified(rt: HostRuntime) {
     check_outcomes(&rt, &TYPE_CASES);
@@ -187,11 +195,12 @@ fn datagrams_are_classified(rt: HostRuntime) {
     check_outcomes(&rt, &BLOCK_CASES);
 }
 
-// Returns whether a block has this number and size, and more follow or not.
+// Returns whether a block has this number, this M flag and this size exponent.
 fn is_block(block: Block, number: u32, more: bool, szx: u8) -> bool {
     block.number() == number && block.more() == more && block.szx() == szx
 }
 
+// A GET has the block of its Block2, and a PUT has the block of its Block1.
 #[test]
 fn requests_name_blocks(rt: HostRuntime) {
     let asked = request_of(b"\x40\x01\x00\x01\xb1\x72\x01\x30\xc1\x16").and_then(|it| it.block2);
@@ -202,9 +211,10 @@ fn requests_name_blocks(rt: HostRuntime) {
     assert!(rt; sent.is_some_and(|block| is_block(block, 0, true, 2)));
 }
 
+// A block's value is read with leading zeros, and written without them.
 #[test]
 fn values_of_blocks(rt: HostRuntime) {
-    // The least value has no byte; leading zeros are read and not written.
+    // The least value has no byte.
     assert!(rt; Block::read(&[]).value().is_empty());
     let second = Block::read(&[0x00, 0x00, 0x16]);
     assert!(rt; is_block(second, 1, false, 6) && second.size() == 1024);
@@ -218,6 +228,7 @@ fn has_electives(bytes: &[u8], content_format: Option<u16>, observe: Option<u32>
     })
 }
 
+// Checks the Content-Format and the value of Observe of a request.
 fn check_electives(
     rt: &impl Abort,
     bytes: &[u8],
@@ -227,6 +238,8 @@ fn check_electives(
     assert!(rt; has_electives(bytes, content_format, observe), "{bytes:?}");
 }
 
+// The first of two Content-Formats counts. An elective option that is too long is ignored, and so
+// is Observe outside a GET of a program's resource.
 #[test]
 fn elective_options(rt: HostRuntime) {
     // Content-Format: the first of two counts, and neither if the first is too long.
@@ -258,6 +271,7 @@ fn elective_options(rt: HostRuntime) {
     check_electives(&rt, b"\x40\x03\x00\x01\x60\x51\x70\x01\x30", None, None);
 }
 
+// The ETags of a request are those of eight bytes.
 #[test]
 fn etags(rt: HostRuntime) {
     // An ETag of seven bytes doesn't count.
@@ -267,12 +281,15 @@ fn etags(rt: HostRuntime) {
     assert!(rt; tags.is_some_and(|request| request.etags.as_slice() == [9].as_slice()));
 }
 
+// The arguments of a query are joined by `&`.
 #[test]
 fn two_queries(rt: HostRuntime) {
     let two = request_of(b"\x40\x01\x00\x01\xb1\x72\x01\x30\x41\x61\x01\x62");
     assert!(rt; two.is_some_and(|request| request.query.as_slice() == b"a&b".as_slice()));
 }
 
+// A query of at most 64 bytes and a payload of at most 1,024 bytes are accepted. A longer query
+// gets 4.00, and a longer payload 4.13.
 #[test]
 fn queries_and_payloads(rt: HostRuntime) {
     let mut bytes = [0u8; 1280];
@@ -288,6 +305,7 @@ fn queries_and_payloads(rt: HostRuntime) {
     check_outcome(&rt, &bytes[..1034], TOO_LARGE);
 }
 
+// An unsigned integer is encoded without leading zeros, and decoded with or without them.
 #[test]
 fn integers(rt: HostRuntime) {
     assert!(rt; encode_uint(0).is_empty());
@@ -296,7 +314,7 @@ fn integers(rt: HostRuntime) {
     assert!(rt; decode_uint(&[0, 0, 1, 0]) == 256);
 }
 
-/// Makes a reply with a token of one byte.
+/// Makes a reply in an acknowledgement, with a token of one byte.
 fn reply_of<'a>(code: Code, id: u16, options: ReplyOptions, payload: &'a [u8]) -> Reply<'a> {
     Reply {
         kind: MessageType::Acknowledgement,
@@ -308,6 +326,7 @@ fn reply_of<'a>(code: Code, id: u16, options: ReplyOptions, payload: &'a [u8]) -
     }
 }
 
+// Writes a reply, and checks the bytes.
 fn check_reply(rt: &impl Abort, reply: &Reply<'_>, wanted: &[u8]) {
     let mut datagram = Datagram::new();
     if reply.code != Code::EMPTY && reply.token.len() <= 8 && reply.payload.len() <= 1024 {
@@ -316,6 +335,7 @@ fn check_reply(rt: &impl Abort, reply: &Reply<'_>, wanted: &[u8]) {
     assert!(rt; datagram.as_slice() == wanted, "{datagram:?}");
 }
 
+// A reply is written as header, token, options in the order of their numbers, and payload.
 #[test]
 fn replies(rt: HostRuntime) {
     let none = ReplyOptions::default();

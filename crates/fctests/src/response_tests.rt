@@ -6,7 +6,8 @@ use coap_opts::{Block, ReplyOptions};
 use coap_reply::{BodyBlock, Envelope, content, ran, reply_kind, reset, respond, text};
 use std::process::Abort;
 
-// Returns the header data of a response with message ID 0x1234 and the token `q`.
+// Returns the header data of a response with message ID 0x1234 and the token `q`. It is an
+// acknowledgement if the request is confirmable.
 fn envelope(confirmable: bool) -> Envelope<'static> {
     Envelope {
         to: Endpoint::default(),
@@ -16,20 +17,23 @@ fn envelope(confirmable: bool) -> Envelope<'static> {
     }
 }
 
+// Checks the bytes of a response.
 fn check(rt: &impl Abort, bytes: &Datagram, wanted: &[u8]) {
     assert!(rt; bytes.as_slice() == wanted, "{bytes:?}");
 }
 
-// A body of 17 bytes, of which a block of 16 leaves one.
+// A body of 17 bytes: a block of 16 bytes, and a block of one.
 static BODY: [u8; 17] = *b"sixteen bytes, 1!";
 
-// Returns the block of the body with this number and 16 bytes.
+// Returns block `number` of the body, in blocks of 16 bytes, or `None` if there is no such block.
 fn part(number: u32) -> Option<BodyBlock<'static>>
     requires { number < 8 }
 {
     BodyBlock::cut(&BODY, Some(Block::new(number, false, 0)))
 }
 
+// The bytes of three responses. The first has an ETag, the second a text, and the third a
+// Content-Format and the second block of the body.
 #[test]
 fn responses_are_spelled(rt: HostRuntime) {
     let mut bytes = Datagram::new();
@@ -49,6 +53,7 @@ fn responses_are_spelled(rt: HostRuntime) {
     check(&rt, &bytes, b"\x61\x45\x12\x34q\xc1\x28\xb1\x10\xff!");
 }
 
+// A Reset message is empty, and has the message ID of the message that it rejects.
 #[test]
 fn resets_are_empty(rt: HostRuntime) {
     let mut emission = Emission {
@@ -64,8 +69,8 @@ fn resets_are_empty(rt: HostRuntime) {
     check(&rt, &emission.bytes, b"\x70\x00\x12\x34");
 }
 
-// A serial, whether the slot is observed, and the options of a 2.05 (Content): the ETag, and
-// Observe with 0 to 3 bytes.
+// A serial, whether the client observes the slot, and the options of a 2.05 (Content): the ETag,
+// and an Observe with 0 to 3 bytes.
 static VERSIONS: [(u64, bool, &[u8]); 5] = [
     (
         16_777_215,
@@ -78,6 +83,7 @@ static VERSIONS: [(u64, bool, &[u8]); 5] = [
     (4_294_967_552, true, b"\x48\0\0\0\x01\0\0\x01\0\x22\x01\0"),
 ];
 
+// The ETag is the whole serial, and Observe is the serial modulo 2^24.
 #[test]
 fn sequence_numbers_have_24_bits(rt: HostRuntime) {
     let mut bytes = Datagram::new();
@@ -96,6 +102,8 @@ fn sequence_numbers_have_24_bits(rt: HostRuntime) {
     }
 }
 
+// A 2.05 to an observer has ETag, Observe and Block2. A 2.04 has none of these, and a 4.03 has no
+// payload either. A block that doesn't exist gets 4.00.
 #[test]
 fn observed_runs_are_answered(rt: HostRuntime) {
     let mut bytes = Datagram::new();

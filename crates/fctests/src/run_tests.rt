@@ -1,6 +1,6 @@
-//! Requests to an image in a run, and a report that can't be written.
+//! The request of `fcasm run` to an image, and a report that can't be written.
 //!
-//! The output of runs is tested by the data of fcvectors.
+//! The cases of fcvectors test the output of runs.
 use crate::faulty::Full;
 use crate::tooling::assembled;
 use fc_cli::Status;
@@ -10,6 +10,7 @@ use fc_tools::tools::run;
 use std::alloc::{AllocError, Global};
 use std::test::Fail;
 
+// If the report of a run can't be written completely, the status is `Failed`, and `err` says why.
 #[test]
 fn a_failed_report_is_status_3(rt: HostRuntime) -> Result<(), Fail> {
     let alloc = rt.alloc();
@@ -22,6 +23,8 @@ fn a_failed_report_is_status_3(rt: HostRuntime) -> Result<(), Fail> {
     Ok(())
 }
 
+// Readings of 64 bytes are accepted. Readings of 65 bytes, and an odd number of hex digits, are
+// refused.
 #[test]
 fn readings_have_a_limit(rt: HostRuntime) -> Result<(), Fail> {
     let alloc = rt.alloc();
@@ -36,7 +39,7 @@ fn readings_have_a_limit(rt: HostRuntime) -> Result<(), Fail> {
     Ok(())
 }
 
-// Returns this many zero bytes in hex digits.
+// Returns the hex digits of this many zero bytes.
 fn zeros(alloc: Global, count: u16) -> Result<String, AllocError> {
     let mut digits = String::new(alloc);
     for _byte in 0..count {
@@ -45,11 +48,13 @@ fn zeros(alloc: Global, count: u16) -> Result<String, AllocError> {
     Ok(digits)
 }
 
-// Returns the error of an invalid request to an image.
+// Returns why a request is refused, or `None` if it is accepted.
 fn fault(asked: Result<Asked, AskedError>) -> Option<AskedError> {
     asked.err()
 }
 
+// A payload, a query and variables are an even number of hex digits. The largest ones are accepted,
+// and a payload of 1,025 bytes is refused.
 #[test]
 fn what_is_asked_is_hex_within_limits(rt: HostRuntime) -> Result<(), Fail> {
     let alloc = rt.alloc();
@@ -74,6 +79,7 @@ fn what_is_asked_is_hex_within_limits(rt: HostRuntime) -> Result<(), Fail> {
     Ok(())
 }
 
+// A query of 65 bytes and variables of 257 bytes are refused, each with a message.
 #[test]
 fn a_query_and_variables_have_limits(rt: HostRuntime) -> Result<(), Fail> {
     let alloc = rt.alloc();

@@ -7,8 +7,9 @@ use std::alloc::{AllocError, Global};
 use std::io;
 use std::process::Abort;
 
-// A server with these datagrams, in order, each at its time; an empty one means that the wait is
-// over. It stores the datagrams that it receives, and how many seconds the client waited for it.
+// A server that sends the datagrams of its script in order, each at its time. An empty datagram in
+// the script ends the client's wait. `sent` are the client's datagrams, and `waits` the client's
+// waits in seconds.
 #[derive(Drop)]
 pub(crate) struct Scripted {
     alloc: Global,
@@ -26,7 +27,7 @@ impl Peer for Scripted {
         Ok(())
     }
 
-    // The time of a datagram is the one at its place in the script.
+    // Returns the time of the last datagram that was received, or 0.
     fn now(&mut self) -> io::Result<u64> {
         let times = &self.times;
         Ok(
@@ -56,7 +57,7 @@ impl Peer for Scripted {
     }
 }
 
-// Returns these bytes, followed by those.
+// Returns the bytes of `first`, followed by those of `second`.
 pub(crate) fn joined(alloc: Global, first: &[u8], second: &[u8]) -> Result<Vec<u8>, AllocError> {
     let mut bytes = Vec::new(alloc);
     bytes.extend_from_slice(first)?;
@@ -64,6 +65,7 @@ pub(crate) fn joined(alloc: Global, first: &[u8], second: &[u8]) -> Result<Vec<u
     Ok(bytes)
 }
 
+// Makes a server with an empty script.
 pub(crate) fn follows(alloc: Global) -> Scripted {
     Scripted {
         alloc,
@@ -75,12 +77,12 @@ pub(crate) fn follows(alloc: Global) -> Scripted {
     }
 }
 
-// Adds a datagram that the server sends: these bytes, followed by those.
+// Adds to the script a datagram at time 0: `first`, followed by `second`.
 pub(crate) fn comes(server: &mut Scripted, first: &[u8], second: &[u8]) -> Result<(), AllocError> {
     comes_at(server, 0, first, second)
 }
 
-// Adds a datagram that arrives at this time, in milliseconds.
+// Adds to the script a datagram at this time, in milliseconds: `first`, followed by `second`.
 pub(crate) fn comes_at(
     server: &mut Scripted,
     time: u64,
@@ -92,7 +94,8 @@ pub(crate) fn comes_at(
     server.times.push(time).map_err(AllocError::from)
 }
 
-// Returns the result of this request to a path by confirmable messages, with message IDs from 7 on.
+// Sends this request to a path with confirmable messages, whose message IDs begin with 7. Returns
+// the response or the fault.
 pub(crate) fn fetched(
     server: &mut Scripted,
     method: Method,
@@ -102,7 +105,7 @@ pub(crate) fn fetched(
     asked(server, true, method, path, payload)
 }
 
-// The same by confirmable messages or others.
+// Sends this request with confirmable or non-confirmable messages. See `fetched`.
 pub(crate) fn asked(
     server: &mut Scripted,
     confirmable: bool,
@@ -124,7 +127,7 @@ pub(crate) fn asked(
     fetch(server.alloc, server, &client_request, 7)
 }
 
-// Makes a server with these responses: each datagram consists of two parts.
+// Makes a server with this script. Each datagram is given in two parts.
 pub(crate) fn answers(alloc: Global, script: &[(&[u8], &[u8])]) -> Result<Scripted, AllocError> {
     let mut server = follows(alloc);
     for (first, second) in script.iter().copied() {
@@ -133,7 +136,7 @@ pub(crate) fn answers(alloc: Global, script: &[(&[u8], &[u8])]) -> Result<Script
     Ok(server)
 }
 
-// Checks that the datagram that the server received at this place is `first`, followed by `second`.
+// Checks that the client's datagram at this place is `first`, followed by `second`.
 pub(crate) fn check_sent<R: Abort>(
     rt: &R,
     server: &Scripted,

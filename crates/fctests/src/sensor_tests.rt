@@ -1,4 +1,4 @@
-//! A server whose programs read a file, over a socket, while the file changes.
+//! A server whose programs read a file as their sensors, while the file changes.
 use crate::socket_tests::{at_port, client_of, install_reader, readings_of, serve_while};
 use fc_core::DEFAULT_POLICY;
 use fc_host::sensors::{FileSensors, Sensors};
@@ -13,8 +13,8 @@ use std::thread::Threads;
 use std::time::{Clock, Duration};
 use std::{fs, thread};
 
-// Returns the sensor bytes that a program reads after the clock, some time after the file was
-// written.
+// Waits 20 ms after the file was changed, and sends a GET. Returns the 56 sensor bytes that the
+// program reads, which follow the clock in the readings.
 fn sensed<R: Clock>(
     rt: &R,
     client: &UdpSocket,
@@ -28,7 +28,8 @@ fn sensed<R: Clock>(
     Ok(sensed)
 }
 
-// The file doesn't exist, has 56 bytes and more, has others, has three, and doesn't exist again.
+// Changes the file, and checks the sensor bytes of each state. Without a file they are zeros. Of 60
+// bytes the first 56 are read, and zeros follow three bytes.
 fn write_and_ask<R: Abort + AllocGlobal + Net + Clock + RandomSource + Files>(
     rt: &R,
     port: u16,
@@ -53,7 +54,7 @@ fn write_and_ask<R: Abort + AllocGlobal + Net + Clock + RandomSource + Files>(
     Ok(())
 }
 
-// Serves a program that replies with its readings, while the file changes.
+// Serves a program that replies with its readings, with this many workers, while the file changes.
 fn check_sensed<
     R: Abort + AllocGlobal + Threads + Wait + Clock + Net + RandomSource + Files + Sync,
     Z: Sensors + Sync,
@@ -69,6 +70,7 @@ fn check_sensed<
     Ok(())
 }
 
+// With one worker and with two, a program reads the bytes that the file has at that time.
 #[test]
 fn programs_read_a_file(rt: HostRuntime) -> Result<(), Fail> {
     let path = "readings-of-a-test";

@@ -4,7 +4,7 @@ use coap_client::FetchFault;
 use coap_opts::Method;
 use std::test::Fail;
 
-// An empty acknowledgement, then a confirmable response, which is acknowledged.
+// After an empty acknowledgement, a confirmable response ends the fetch, and is acknowledged.
 #[test]
 fn a_confirmable_response_is_acknowledged(rt: HostRuntime) -> Result<(), Fail> {
     let mut server = answers(
@@ -21,6 +21,7 @@ fn a_confirmable_response_is_acknowledged(rt: HostRuntime) -> Result<(), Fail> {
     Ok(())
 }
 
+// After an empty acknowledgement, a non-confirmable response ends the fetch. It isn't acknowledged.
 #[test]
 fn a_non_confirmable_response_is_taken(rt: HostRuntime) -> Result<(), Fail> {
     let mut server = answers(
@@ -32,8 +33,8 @@ fn a_non_confirmable_response_is_taken(rt: HostRuntime) -> Result<(), Fail> {
     Ok(())
 }
 
-// After a request is acknowledged, it isn't sent again; the client waits for its response, and
-// gives up.
+// A request that was acknowledged isn't sent again. Without a response the fetch ends with
+// `Silence` after a wait of 93 seconds.
 #[test]
 fn an_acknowledged_request_is_not_sent_again(rt: HostRuntime) -> Result<(), Fail> {
     let mut server = answers(rt.alloc(), &[(b"", b""), (b"\x60\x00\x00\x07", b"")])?;
@@ -43,8 +44,8 @@ fn an_acknowledged_request_is_not_sent_again(rt: HostRuntime) -> Result<(), Fail
     Ok(())
 }
 
-// A duplicate of the response to the first block is acknowledged again, and isn't accepted as the
-// response to the second.
+// A duplicate of the response to the first block is acknowledged again. It isn't accepted as the
+// response to the second block.
 #[test]
 fn a_response_that_comes_again_answers_nothing(rt: HostRuntime) -> Result<(), Fail> {
     let first: (&[u8], &[u8]) = (b"\x40\x5f\x00\x01\xd1\x0e\x0e", b"");
@@ -68,7 +69,8 @@ fn a_response_that_comes_again_answers_nothing(rt: HostRuntime) -> Result<(), Fa
     Ok(())
 }
 
-// A response before its request was acknowledged may belong to another request.
+// A response in a message of its own is ignored before the request was acknowledged, since the
+// response may belong to another request.
 #[test]
 fn a_response_before_the_acknowledgement_is_passed_over(rt: HostRuntime) -> Result<(), Fail> {
     let mut server = answers(
@@ -83,6 +85,8 @@ fn a_response_before_the_acknowledgement_is_passed_over(rt: HostRuntime) -> Resu
     Ok(())
 }
 
+// A non-confirmable request is sent once. Without a response the fetch ends with `Silence` after a
+// wait of 32 seconds.
 #[test]
 fn a_non_confirmable_request_goes_once(rt: HostRuntime) -> Result<(), Fail> {
     let mut server = answers(rt.alloc(), &[(b"\x50\x45\x12\x34\xff", b"now")])?;

@@ -6,8 +6,8 @@ use coap_client::FetchFault;
 use coap_opts::Method;
 use std::test::Fail;
 
-// The body's first block has 1,024 bytes; the server requests 64, so that the next is number 16 of
-// that size.
+// The first block of a body has 1,024 bytes. If the server then requests blocks of 64 bytes, the
+// next block is number 16 of that size.
 #[test]
 fn a_body_goes_on_in_smaller_blocks(rt: HostRuntime) -> Result<(), Fail> {
     let mut server = answers(
@@ -44,7 +44,8 @@ fn a_body_goes_on_in_smaller_blocks(rt: HostRuntime) -> Result<(), Fail> {
     Ok(())
 }
 
-// The size decreases again midway: blocks 0 of 1,024, 2 and 3 of 512, and 128 of 16 bytes.
+// If the server requests smaller blocks twice, the client does so too. It sends block 0 of 1,024
+// bytes, blocks 2 and 3 of 512, and block 128 of 16.
 #[test]
 fn a_body_goes_on_in_ever_smaller_blocks(rt: HostRuntime) -> Result<(), Fail> {
     let mut server = answers(
@@ -75,7 +76,7 @@ fn a_body_goes_on_in_ever_smaller_blocks(rt: HostRuntime) -> Result<(), Fail> {
     Ok(())
 }
 
-// A response of 74 bytes in blocks of 64.
+// A response of 74 bytes, whose first block has 64 bytes, is fetched in blocks of 64 bytes.
 #[test]
 fn an_answer_comes_in_smaller_blocks(rt: HostRuntime) -> Result<(), Fail> {
     let mut server = answers(
@@ -125,8 +126,8 @@ fn an_answer_goes_on_in_smaller_blocks(rt: HostRuntime) -> Result<(), Fail> {
     Ok(())
 }
 
-// Responses to a request of block 1 of 64 bytes: a larger block, one that begins elsewhere, a short
-// one that isn't the last, and a last one that is longer than its size.
+// Responses to a request for block 1 of 64 bytes. They have a larger block, a block that begins
+// elsewhere, a short block that isn't the last, and a last block longer than its size.
 static NOT_THE_NEXT: [&[u8]; 4] = [
     b"\x60\x45\x00\x08\xd1\x0a\x03\xff\x01",
     b"\x60\x45\x00\x08\xd1\x0a\x22\xff\x01",
@@ -134,6 +135,7 @@ static NOT_THE_NEXT: [&[u8]; 4] = [
     b"\x60\x45\x00\x08\xd1\x0a\x40\xff0123456789abcdefg",
 ];
 
+// A response that isn't the requested block ends the fetch as malformed.
 #[test]
 fn a_block_that_was_not_asked_for_is_a_fault(rt: HostRuntime) -> Result<(), Fail> {
     for reply in NOT_THE_NEXT.iter().copied() {

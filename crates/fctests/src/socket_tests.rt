@@ -29,7 +29,8 @@ use std::thread::Threads;
 use std::time::{Clock, Duration};
 use std::{io, thread};
 
-// A program that counts POSTs in eight bytes of variables: nine slots, budget nine.
+// The image of a program that counts POSTs in eight bytes of variables: nine slots, and a budget of
+// nine steps.
 pub(crate) static COUNT: [u8; 88] = [
     0x46, 0x43, 0x42, 0x31, 0x08, 0x00, 0x09, 0x00, 0x09, 0x00, 0x00, 0x00, 0x00, 0x00, 0x00, 0x00,
     0xb7, 0x01, 0x00, 0x00, 0x00, 0x00, 0x00, 0x00, 0x85, 0x00, 0x00, 0x00, 0x03, 0x00, 0x00, 0x00,
@@ -39,12 +40,13 @@ pub(crate) static COUNT: [u8; 88] = [
     0x95, 0x00, 0x00, 0x00, 0x00, 0x00, 0x00, 0x00,
 ];
 
-// A port of this host, at 127.0.0.1.
+// Returns the address 127.0.0.1 with this port.
 pub(crate) fn at_port(port: u16) -> SocketAddrV4 {
     SocketAddrV4::new(Ipv4Addr::LOCALHOST, port)
 }
 
-// Checks that a request to this path gets this response, and that the client ends with this status.
+// Sends a request to this path of the server at `port`. Checks the client's output and status, and
+// that it reports no error.
 pub(crate) fn check_asked<R: Abort + Net + Clock + RandomSource + AllocGlobal>(
     rt: &R,
     port: u16,
@@ -73,7 +75,8 @@ pub(crate) fn check_asked<R: Abort + Net + Clock + RandomSource + AllocGlobal>(
     );
 }
 
-// Installs a counter, and sends it a POST and a GET.
+// Installs a counter in slot 1, sends a POST and a GET to it, and sends a GET to the empty slot 2.
+// Checks each response.
 fn ask_counter<R: Abort + Net + Clock + RandomSource + AllocGlobal>(
     rt: &R,
     port: u16,
@@ -104,7 +107,7 @@ fn ask_counter<R: Abort + Net + Clock + RandomSource + AllocGlobal>(
     Ok(())
 }
 
-// Records a server's end by a logger, no change, and no report.
+// Returns records with this logger for the end of a server, no changes, and no reports.
 pub(crate) fn unrecorded<L: Log>(log: &L) -> Records<'_, L, NoChanges, NoReports> {
     Records {
         end: log,
@@ -113,7 +116,7 @@ pub(crate) fn unrecorded<L: Log>(log: &L) -> Records<'_, L, NoChanges, NoReports
     }
 }
 
-// Reports nothing.
+// Returns the setting in which a server makes no report.
 pub(crate) fn never<'a>() -> Reports<'a, NoReports> {
     Reports {
         every: None,
@@ -121,7 +124,7 @@ pub(crate) fn never<'a>() -> Reports<'a, NoReports> {
     }
 }
 
-// Serves a socket. Returns whether it did, and the log.
+// Serves a socket. Returns whether serving succeeded, and the log.
 fn serve_logged<R: Threads + Wait + Clock + Sync, Z: Sensors + Sync>(
     rt: &R,
     alloc: Global,
@@ -146,8 +149,8 @@ fn serve_logged<R: Threads + Wait + Clock + Sync, Z: Sensors + Sync>(
     (served.is_some(), memory)
 }
 
-// Serves a free port of this host while a client in the same process sends it requests. Returns the
-// log.
+// Serves at a free port of this host, while `ask` sends requests to that port. Checks that serving
+// succeeds. Returns the log.
 pub(crate) fn serve_while<
     R: Abort + AllocGlobal + Threads + Wait + Clock + Net + Sync,
     Z: Sensors + Sync,
@@ -170,8 +173,8 @@ pub(crate) fn serve_while<
     Ok(memory)
 }
 
-// Serves with this many workers: four datagrams, each answered. The server started a second after
-// the beginning of 1970, so its slots begin at serial 2^24 + 32,000.
+// Serves the four requests of `ask_counter` with this many workers. The server starts one second
+// after the beginning of 1970, so that its slots begin at serial 2^24 + 32,000.
 fn serve_counter<R: Abort + AllocGlobal + Threads + Wait + Clock + Net + RandomSource + Sync>(
     rt: &R,
     workers: u8,
@@ -197,13 +200,15 @@ pub(crate) fn check_logged<R: Abort>(rt: &R, memory: Memory, message: &str) {
     }
 }
 
+// With one worker and with two, a server answers each request of a client, and logs the number of
+// responses.
 #[test]
 fn a_server_answers_clients(rt: HostRuntime) -> Result<(), Fail> {
     serve_counter(&rt, 1)?;
     serve_counter(&rt, 2)
 }
 
-// A port that another socket has can't be opened.
+// A server can't open a port that another socket has. The status is `Failed`, and `err` says why.
 #[test]
 fn a_taken_port_is_status_3(rt: HostRuntime) -> Result<(), Fail> {
     let alloc = rt.alloc();
@@ -245,7 +250,8 @@ pub(crate) fn free_port<R: Net>(rt: &R) -> io::Result<u16> {
     Ok(socket.local_addr()?.port())
 }
 
-// A port without a listener is reported immediately.
+// A request to a port without a listener fails immediately. The status is `Failed`, and `err` says
+// why.
 #[test]
 fn a_refused_port_is_status_3(rt: HostRuntime) -> Result<(), Fail> {
     let alloc = rt.alloc();
@@ -268,8 +274,8 @@ fn a_refused_port_is_status_3(rt: HostRuntime) -> Result<(), Fail> {
     Ok(())
 }
 
-// An image of 512 slots, 4,112 bytes: `mov64 r0, 0`, 511 times, and `exit`, with a budget of as
-// many steps.
+// Returns the largest image of version 1, of 512 slots and 4,112 bytes: `mov64 r0, 0`, 511 times,
+// and `exit`. The budget is 512 steps.
 pub(crate) fn largest_image(alloc: Global) -> Result<Vec<u8>, AllocError> {
     let mut image = Vec::new(alloc);
     image.extend_from_slice(b"FCB1\x00\x00\x00\x02\x00\x02\x00\x00\x00\x00\x00\x00")?;
@@ -280,12 +286,12 @@ pub(crate) fn largest_image(alloc: Global) -> Result<Vec<u8>, AllocError> {
     Ok(image)
 }
 
-// A program that replies with the first 1,100 bytes of its request.
+// The image of a program that replies with the first 1,100 bytes of its request.
 static LONG: &[u8] =
     b"FCB1\x00\x00\x04\x00\x04\x00\x00\x00\x00\x00\x00\x00\xb7\x02\x00\x00\x4c\x04\x00\x00\x85\x00\x00\x00\x05\x00\x00\x00\xb7\x00\x00\x00\x00\x00\x00\x00\x95\x00\x00\x00\x00\x00\x00\x00";
 
-// Returns the output for its response to a GET: the method 1, the slot 2, and zeros. It is after
-// the code and this separator.
+// Returns the client's output for a GET of slot 2 if the slot has the program LONG. The output is
+// the code, this separator, and the reply in hex digits: the method 1, the slot 2, and zeros.
 fn long_answer(alloc: Global, separator: &str) -> Result<String, AllocError> {
     let mut text = format!(in alloc; "2.05{separator}0102")?;
     for _ in 2..1100 {
@@ -295,7 +301,8 @@ fn long_answer(alloc: Global, separator: &str) -> Result<String, AllocError> {
     Ok(text)
 }
 
-// The largest image is sent in five blocks, and a response of 1,100 bytes is received in two.
+// Sends the largest image, which takes five blocks, and LONG. Then sends a GET whose response takes
+// two blocks. Checks each response.
 fn ask_by_blocks<R: Abort + Net + Clock + RandomSource + AllocGlobal>(
     rt: &R,
     port: u16,
@@ -313,6 +320,7 @@ fn ask_by_blocks<R: Abort + Net + Clock + RandomSource + AllocGlobal>(
     Ok(())
 }
 
+// A server receives an image in five blocks, and sends a response in two.
 #[test]
 fn bodies_go_and_come_by_blocks(rt: HostRuntime) -> Result<(), Fail> {
     let extent = Extent {
@@ -327,8 +335,8 @@ fn bodies_go_and_come_by_blocks(rt: HostRuntime) -> Result<(), Fail> {
     Ok(())
 }
 
-// A state of 1,100 bytes is observed: the first block is in the response to the registration, and
-// the second is requested.
+// Installs LONG in slot 2, and observes its state of 1,100 bytes. The first block is in the
+// response to the registration, and the second block is requested. Checks the output.
 fn observe_by_blocks<R: Abort + Net + Clock + RandomSource + AllocGlobal>(
     rt: &R,
     port: u16,
@@ -352,7 +360,8 @@ fn observe_by_blocks<R: Abort + Net + Clock + RandomSource + AllocGlobal>(
     Ok(())
 }
 
-// The upload, the registration, the second block and the deregistration are four datagrams.
+// A state of two blocks is observed with four datagrams: the upload, the registration, the request
+// for the second block, and the deregistration.
 #[test]
 fn a_state_of_two_blocks_is_observed(rt: HostRuntime) -> Result<(), Fail> {
     let extent = Extent {
@@ -367,24 +376,28 @@ fn a_state_of_two_blocks_is_observed(rt: HostRuntime) -> Result<(), Fail> {
     Ok(())
 }
 
-// A source that has a datagram at every second call, and none in time at the others. The first has
-// a path that doesn't exist, which needs no job; the second has slot 0, which needs one and is
-// empty. Then the source has nothing.
+// A source that returns a datagram at its second and at its fourth call, and none at the others.
+// The first datagram is for a path that doesn't exist, which needs no job. The second is for slot
+// 0, which is empty, and needs a job.
 #[derive(Drop)]
 struct Script {
     calls: usize,
 }
 
+// A GET of /x, a path that doesn't exist.
 static NO_PATH: [u8; 6] = [0x40, 0x01, 0x00, 0x01, 0xb1, 0x78];
 
+// A GET of /r/0, whose slot is empty.
 static NO_PROGRAM: [u8; 8] = [0x40, 0x01, 0x00, 0x02, 0xb1, 0x72, 0x01, 0x30];
 
-// The endpoint of a peer.
+// The sender of the datagrams.
 const PEER: Endpoint = Endpoint {
     ip: [127, 0, 0, 1],
     port: 5683,
 };
 
+// Copies a datagram to the start of the buffer. Returns its length and sender, or `None` if the
+// buffer is too short.
 pub(crate) fn put_datagram(bytes: &[u8], buffer: &mut [u8]) -> Option<(usize, Endpoint)>
     ensures { IfSome result (λ r. r.0 ≤ length buffer.new) }
 {
@@ -410,7 +423,7 @@ impl Source for Script {
     }
 }
 
-// A sink that fails at every second datagram.
+// A sink that fails to send every second datagram.
 #[derive(Drop)]
 struct Lossy {
     sends: AtomicUsize,
@@ -424,8 +437,8 @@ impl Sink for Lossy {
     }
 }
 
-// Serves the script up to two datagrams. A receive without a result is no datagram. Of the two
-// responses, the second is lost and counted. Returns the log.
+// Serves the script with this many workers and this level of the log, up to two datagrams. Checks
+// that the source was called four times, and the sink twice. Returns the log.
 fn serve_script<R: Abort + AllocGlobal + Threads + Wait + Clock + Sync>(
     rt: &R,
     level: LevelFilter,
@@ -462,6 +475,8 @@ fn serve_script<R: Abort + AllocGlobal + Threads + Wait + Clock + Sync>(
     memory
 }
 
+// A receive that returns no datagram isn't counted. A response that can't be sent is logged as
+// failed. At the level `Off` nothing is logged.
 #[test]
 fn silence_is_no_datagram_and_a_loss_is_counted(rt: HostRuntime) -> Result<(), Fail> {
     check_logged(
@@ -482,8 +497,8 @@ fn silence_is_no_datagram_and_a_loss_is_counted(rt: HostRuntime) -> Result<(), F
     Ok(())
 }
 
-// A program that counts POSTs in eight bytes of variables, and replies with the count to a GET: a
-// POST takes 12 instructions, a GET 8.
+// The source of a program that counts POSTs in eight bytes of variables, and replies to a GET with
+// the count. A POST takes 12 steps, and a GET 8.
 static COUNTS: &[u8] = b"ldxb r6, r1, 0\n\
 mov64 r7, r2\n\
 jeq r6, 1, 7\n\
@@ -500,10 +515,10 @@ call 5\n\
 mov64 r0, 0\n\
 exit\n";
 
-// The program and the resource of a counter that eight clients share, and of one of each client's
-// own.
+// The paths of the program and the resource of the counter that eight clients share.
 const COMMON: (&str, &str) = ("/p/0", "/r/0");
 
+// The paths of the program and the resource of each client's own counter.
 static OWN: [(&str, &str); 8] = [
     ("/p/1", "/r/1"),
     ("/p/2", "/r/2"),
@@ -515,13 +530,13 @@ static OWN: [(&str, &str); 8] = [
     ("/p/8", "/r/8"),
 ];
 
-// Makes a POST to the counter with this digit, with this message ID.
+// Returns a POST with this message ID to the slot with this digit.
 fn post_datagram(id: u16, digit: u8) -> [u8; 8] {
     let [high, low] = id.to_be_bytes();
     [0x40, 0x02, high, low, 0xb1, b'r', 0x01, digit]
 }
 
-// Returns whether a client's POST with this message ID is answered 2.04.
+// Receives a datagram. Returns whether it is a 2.04 with this message ID.
 fn is_changed(client: &UdpSocket, id: u16) -> io::Result<bool> {
     let [high, low] = id.to_be_bytes();
     let mut answer = [0; 16];
@@ -529,8 +544,8 @@ fn is_changed(client: &UdpSocket, id: u16) -> io::Result<bool> {
     Ok(answer[..count] == [0x60, 0x44, high, low])
 }
 
-// Each client posts, with this message ID, to the counter of the next digit, or all of them to that
-// of digit 0; then they wait for their responses.
+// Sends a POST with this message ID from each client, to the client's own counter or, if `common`,
+// to the shared one. Then checks the response to each client.
 fn post_at_once<R: Abort>(
     rt: &R,
     clients: &[UdpSocket],
@@ -549,7 +564,8 @@ fn post_at_once<R: Abort>(
     Ok(())
 }
 
-// Eight clients post 120 times each, alternately to their own counters and to the shared one.
+// Sends 120 POSTs from each of eight clients, alternately to the client's own counter and to the
+// shared one.
 fn post_by_eight<R: Abort + AllocGlobal + Net>(rt: &R, port: u16) -> Result<(), Fail> {
     let server = at_port(port);
     let mut clients = Vec::new(rt.alloc());
@@ -563,7 +579,8 @@ fn post_by_eight<R: Abort + AllocGlobal + Net>(rt: &R, port: u16) -> Result<(), 
     Ok(())
 }
 
-// Eight clients post concurrently. Then each counter has as many as were posted to it.
+// Installs the counters, and sends the POSTs of eight clients. Checks that each counter has counted
+// all POSTs to it: 60 for a client's own, and 480 for the shared one.
 fn ask_by_eight<R: Abort + AllocGlobal + Net + Clock + RandomSource>(
     rt: &R,
     port: u16,
@@ -602,6 +619,7 @@ fn ask_by_eight<R: Abort + AllocGlobal + Net + Clock + RandomSource>(
     Ok(())
 }
 
+// With two workers, each POST is counted once, also if eight clients post to one counter at a time.
 #[test]
 fn eight_clients_count_right(rt: HostRuntime) -> Result<(), Fail> {
     // Nine PUTs, eight times 120 POSTs, nine GETs.
@@ -626,8 +644,8 @@ static READER: [u8; 56] = [
     0x95, 0x00, 0x00, 0x00, 0x00, 0x00, 0x00, 0x00,
 ];
 
-// Returns the readings in the response to `GET /r/0`: the 64 bytes after the header, the token, the
-// ETag and the payload marker.
+// Sends a GET of /r/0. Returns the readings in the response, which are the 64 bytes after the
+// header, the ETag and the payload marker. Returns zeros for a response of another form.
 pub(crate) fn readings_of(
     client: &UdpSocket,
     server: SocketAddrV4,
@@ -645,7 +663,8 @@ pub(crate) fn readings_of(
     Ok(readings)
 }
 
-// Installs the program that replies with its readings in slot 0.
+// Installs READER in slot 0 of the server at this port. Checks that the response is 2.01 with the
+// program's receipt.
 pub(crate) fn install_reader<R: Abort + Net + Clock + RandomSource + AllocGlobal>(
     rt: &R,
     port: u16,
@@ -663,14 +682,15 @@ pub(crate) fn install_reader<R: Abort + Net + Clock + RandomSource + AllocGlobal
     );
 }
 
-// Opens a client of a server at this host, which waits for five seconds.
+// Opens a client's socket at this host. A receive from it fails after five seconds.
 pub(crate) fn client_of<R: Net>(rt: &R) -> io::Result<UdpSocket> {
     let client = open(rt, at_port(0))?;
     client.set_read_timeout(Some(Duration::from_secs(5)))?;
     Ok(client)
 }
 
-// Installs the program, and sends it a request after 300 ms.
+// Installs READER, and requests the readings after 300 ms. Checks that they are a time of at least
+// 300 ms, and zeros.
 fn ask_for_readings<R: Abort + Net + Clock + RandomSource + AllocGlobal>(
     rt: &R,
     port: u16,
@@ -685,8 +705,8 @@ fn ask_for_readings<R: Abort + Net + Clock + RandomSource + AllocGlobal>(
     Ok(())
 }
 
-// Checks that a server without sensors supplies the milliseconds since its start, least significant
-// byte first, and zeros.
+// Checks the readings of a server without sensors, with this many workers. They are the
+// milliseconds since the server's start, least significant byte first, and zeros.
 fn check_clock<R: Abort + AllocGlobal + Threads + Wait + Clock + Net + RandomSource + Sync>(
     rt: &R,
     workers: u8,
@@ -702,6 +722,7 @@ fn check_clock<R: Abort + AllocGlobal + Threads + Wait + Clock + Net + RandomSou
     Ok(())
 }
 
+// With one worker and with two, the readings of a server without sensors are its clock, and zeros.
 #[test]
 fn a_server_s_readings_are_its_clock(rt: HostRuntime) -> Result<(), Fail> {
     check_clock(&rt, 1)?;

@@ -1,4 +1,4 @@
-//! Timers: the times of their requests and of receives, and their responses.
+//! Timers: when they make requests, and where responses to timers go.
 ghost use Rattle.std.specs.Prelude.{◌≤◌, IfSome, length};
 
 use coap_msg::{Emission, Endpoint};
@@ -15,9 +15,10 @@ use std::sync::Wait;
 use std::sync::atomic::{AtomicUsize, Ordering};
 use std::test::Fail;
 
-// The clock's values, reading after reading.
+// The time in milliseconds that each reading of the clock returns.
 static READINGS: [u64; 9] = [0, 1000, 1000, 1100, 4200, 4200, 4201, 4202, 5000];
 
+// A source of the times in `READINGS`.
 #[derive(Drop)]
 struct Readings {
     count: AtomicUsize,
@@ -37,13 +38,14 @@ impl TimeSource for Readings {
     }
 }
 
+// The endpoint of a client.
 const PEER: Endpoint = Endpoint {
     ip: [127, 0, 0, 1],
     port: 40_000,
 };
 
-// The expected wait of each receive of the source, and the sender of the byte that it gives, or
-// `None` without one.
+// For each receive of the source, the expected wait in milliseconds. Then the sender of the byte
+// that the source returns, or `None` if it returns no datagram.
 static WAITS: [(Option<u64>, Option<Endpoint>); 4] = [
     (Some(1000), None),
     (Some(100), None),
@@ -51,7 +53,7 @@ static WAITS: [(Option<u64>, Option<Endpoint>); 4] = [
     (Some(100), Some(PEER)),
 ];
 
-// A source that follows that list, and counts the receives whose wait was the expected one.
+// A source that follows `WAITS`, and counts the receives whose wait was the expected one.
 #[derive(Drop)]
 struct Listed {
     calls: usize,
@@ -76,9 +78,10 @@ impl Source for Listed {
     }
 }
 
-// The waits of the server's receives, and their results: a POST of /r/7 each 1,000 ms, and one of
-// /r/63 each 2,500 ms. At 4,200 ms three beats of the first timer and one of the second have come,
-// and each timer makes one request.
+// For each receive of the server, the wait in milliseconds, and the expected result. One timer
+// requests a POST of /r/7 every 1,000 ms, and another one a POST of /r/63 every 2,500 ms. At 4,200
+// ms, three times of the first timer and one of the second have passed since 1,100 ms, and each
+// timer makes one request.
 static RECEIVES: [(Option<u64>, Option<(&[u8], Endpoint)>); 7] = [
     (None, Some((b"\x50\x02\x00\x00\xb1r\x017", TIMERS))),
     (Some(100), None),
@@ -89,6 +92,7 @@ static RECEIVES: [(Option<u64>, Option<(&[u8], Endpoint)>); 7] = [
     (None, Some((b"\x50\x02\x00\x03\xb1r\x017", TIMERS))),
 ];
 
+// Returns a timer of 1,000 ms for slot 7, and one of 2,500 ms for slot 63.
 fn two_timers(alloc: Global) -> Result<Timers, AllocError> {
     let mut timers = Vec::new(alloc);
     for (milliseconds, slot) in [(1000, 7), (2500, 63)] {
@@ -99,6 +103,8 @@ fn two_timers(alloc: Global) -> Result<Timers, AllocError> {
     Ok(Timers::new(timers))
 }
 
+// A receive returns the request of a timer whose time has come. Other receives wait at most until
+// the next time of a timer.
 #[test]
 fn timers_ask_at_their_beats(rt: HostRuntime) -> Result<(), Fail> {
     let readings = Readings {
@@ -121,7 +127,7 @@ fn timers_ask_at_their_beats(rt: HostRuntime) -> Result<(), Fail> {
     Ok(())
 }
 
-// A sink that counts its datagrams.
+// A sink that counts its datagrams, and fails to send each of them.
 #[derive(Drop)]
 struct Counting {
     sent: AtomicUsize,
@@ -153,7 +159,7 @@ fn responses_to_timers_stay_here(rt: HostRuntime) {
     assert_eq!(rt; counting.sent.load(Ordering::SeqCst), 1);
 }
 
-// Returns the timers of a command line, or why it has none.
+// Returns the timers of `fcd serve` with these further words, or why the timers are refused.
 fn timers_of(alloc: Global, more: &[&str]) -> Result<Result<Vec<Timer>, BadTimer>, Fail> {
     let mut words = Vec::new(alloc);
     words.extend_from_slice(&["fcd", "serve", "--port", "5683"])?;
@@ -169,10 +175,13 @@ fn timers_of(alloc: Global, more: &[&str]) -> Result<Result<Vec<Timer>, BadTimer
     }
 }
 
+// Returns whether timers are refused because of the form of `--every`.
 fn is_refused_form(timers: &Result<Vec<Timer>, BadTimer>) -> bool {
     matches!(timers, Err(BadTimer::Form))
 }
 
+// `--every` accepts a period of 1 to 86,400,000 ms, a colon, and a slot from 0 to 63. Without
+// `--every` there are no timers.
 #[test]
 fn every_takes_a_period_and_a_slot(rt: HostRuntime) -> Result<(), Fail> {
     let alloc = rt.alloc();
@@ -198,8 +207,8 @@ fn every_takes_a_period_and_a_slot(rt: HostRuntime) -> Result<(), Fail> {
     Ok(())
 }
 
-// A request needs an exchange for 247 s: 512 of 1,024 belong to one timer of 483 ms. A share is a
-// limit as well.
+// A request of a timer occupies an exchange for 247 s: a timer of 483 ms occupies 512. All timers
+// may occupy half of the exchanges, and not more than a share.
 #[test]
 fn timers_hold_half_of_the_exchanges(rt: HostRuntime) -> Result<(), Fail> {
     let alloc = rt.alloc();

@@ -1,7 +1,8 @@
-//! Calls of a server with locks: a time, a signal, a release, and a random word.
+//! Effects of calls on a server with locks.
 //!
-//! No clause says which state of its front or of a shard such a call met, nor the effect of the
-//! word.
+//! The calls advance the time, pass a signal, release a lease, and pass a random word. The
+//! contracts don't say in which state of the front or of a shard such a call is made. They don't
+//! state the effect of the random word either.
 use crate::driver::{PEER, Request, datagram};
 use crate::lock_tests::Open;
 use crate::overtaking_tests::{COUNTER, Crew, Held, Replies, Trial, hold};
@@ -17,21 +18,21 @@ use std::test::Fail;
 use std::thread::Threads;
 use std::time::Clock;
 
-// A GET of slot 0 that registers, with token 0x6f (RFC 7641, section 2).
+// A GET of slot 0 with token 0x6f, which registers an observer (RFC 7641, section 2).
 const REGISTRATION: &[u8] = &[0x41, 1, 0, 9, 0x6f, 0x60, 0x51, b'r', 0x01, b'0'];
 
-// The calls whose effect a test checks. The server's slot 0 has the counter, an observer and a new
-// state.
+// A call whose effect a test checks. Before it, slot 0 of the server has the counter, an observer
+// and a new state.
 #[derive(Clone, Copy)]
 pub(crate) enum Told {
-    // Its exchanges have expired: then a duplicate is a new request.
+    // A time at which the exchanges have expired, so that a duplicate is a new request.
     Time,
-    // An Acknowledgement of a notification, which keeps its observer, and a Reset message, which
-    // doesn't (RFC 7641, section 3.6).
+    // An Acknowledgement of a notification, after which the observer is notified again, and a Reset
+    // message, after which it isn't (RFC 7641, section 3.6).
     Signals,
-    // A lease is released: the observer gets the next one, at a later time.
+    // The release of a lease, after which the observer gets another lease at a later time.
     Turn,
-    // A random word, which determines the wait for a confirmable notification (RFC 7252, section
+    // A random word, which determines the timeout of a confirmable notification (RFC 7252, section
     // 4.2).
     Word,
 }
@@ -70,7 +71,8 @@ impl TimeSource for Watch {
 }
 
 impl Told {
-    // Makes the calls on a new server; returns an error if they have no visible effect.
+    // Makes this call on a new server. Returns an error if the call doesn't have the expected
+    // effect.
     pub(crate) fn hold<B: Bench, R: Wait>(
         &self,
         rt: &R,
@@ -119,7 +121,7 @@ impl Told {
 // A dispatcher that runs each job itself.
 type Teller<'a, B> = Dispatcher<'a, B, Open, Replies, Watch>;
 
-// Installs the counter in slot 0, registers an observer of it, and changes its state.
+// Installs the counter in slot 0, registers an observer of that slot, and changes the slot's state.
 fn observe_counter<B: Bench, R: Wait>(
     rt: &R,
     alloc: Global,
@@ -131,7 +133,8 @@ fn observe_counter<B: Bench, R: Wait>(
     Ok(())
 }
 
-// Returns whether the exchange of the PUT has expired 300,000 ms later (RFC 7252, section 4.8.2).
+// Returns whether a duplicate of the PUT is a new request 300,000 ms later: its exchange has
+// expired (RFC 7252, section 4.8.2).
 fn shows_time<B: Bench, R: Wait>(
     rt: &R,
     alloc: Global,
@@ -142,8 +145,8 @@ fn shows_time<B: Bench, R: Wait>(
     Ok(handled == Handled::Job)
 }
 
-// Returns whether the observer is notified after the Acknowledgement of its first notification, and
-// not after the Reset of its second.
+// Returns whether the observer is notified after an Acknowledgement of the first notification, and
+// isn't notified after a Reset message to the second one.
 fn shows_signals<B: Bench, R: Wait>(
     rt: &R,
     alloc: Global,
@@ -160,7 +163,8 @@ fn shows_signals<B: Bench, R: Wait>(
     Ok(is_first && is_second && !teller.notify(rt, 0, 50))
 }
 
-// Returns whether the observer gets one more lease after its first one was released, and no sooner.
+// Returns whether the observer gets another lease 1 ms after the first one was released, and none
+// at the time of the release.
 fn shows_turn<B: Bench, R: Wait>(
     rt: &R,
     bench: &B,
@@ -179,7 +183,7 @@ fn shows_turn<B: Bench, R: Wait>(
     !is_early && bench.next_due(rt, 0, 21, &mut job, log)
 }
 
-// Returns whether a confirmable notification times out 2,500 ms after it was sent, and no sooner.
+// Returns whether a confirmable notification times out exactly 2,500 ms after it was sent.
 fn shows_word<B: Bench, R: Wait>(rt: &R, watch: &Watch, teller: &mut Teller<'_, B>) -> bool {
     watch.now.store(DAY, Ordering::SeqCst);
     let is_notified = teller.notify(rt, 0, DAY);
@@ -188,7 +192,7 @@ fn shows_word<B: Bench, R: Wait>(rt: &R, watch: &Watch, teller: &mut Teller<'_, 
     is_notified && !is_early && is_overdue
 }
 
-// Delivers a request for slot 0 at `now`, in milliseconds.
+// Delivers a request for slot 0 at `now`, in milliseconds. Returns how the datagram was handled.
 fn ask<B: Bench, R: Wait>(
     rt: &R,
     alloc: Global,
@@ -201,7 +205,7 @@ fn ask<B: Bench, R: Wait>(
     Ok(handle(rt, teller, now, &bytes))
 }
 
-// Delivers a datagram at `now`, in milliseconds.
+// Delivers a datagram at `now`, in milliseconds. Returns how the datagram was handled.
 fn handle<B: Bench, R: Wait>(
     rt: &R,
     teller: &mut Teller<'_, B>,
@@ -212,28 +216,34 @@ fn handle<B: Bench, R: Wait>(
     teller.handle(rt, now, PEER, bytes, &mut reply)
 }
 
+// Returns whether this call has the expected effect on a server with locks.
 fn is_told<R: Threads + Wait + Clock + Sync>(rt: &R, alloc: Global, told: Told) -> bool {
     hold(rt, alloc, 2, &Trial::Told(told)).is_ok()
 }
 
+// With locks, the front advances to the time of a tick, and expires exchanges.
 #[test]
 fn a_locked_front_is_told_the_time(rt: HostRuntime) -> Result<(), Fail> {
     assert!(rt; is_told(&rt, rt.alloc(), Told::Time));
     Ok(())
 }
 
+// With locks, a shard distinguishes an Acknowledgement, after which its observer is notified again,
+// from a Reset message, after which it isn't.
 #[test]
 fn a_locked_shard_is_told_which_signal_came(rt: HostRuntime) -> Result<(), Fail> {
     assert!(rt; is_told(&rt, rt.alloc(), Told::Signals));
     Ok(())
 }
 
+// With locks, a shard determines the timeout of a confirmable notification by the random word.
 #[test]
 fn a_locked_shard_is_told_the_random_word(rt: HostRuntime) -> Result<(), Fail> {
     assert!(rt; is_told(&rt, rt.alloc(), Told::Word));
     Ok(())
 }
 
+// With locks, a shard grants an observer another lease after the first one was released.
 #[test]
 fn a_locked_shard_is_told_that_a_turn_is_given_up(rt: HostRuntime) -> Result<(), Fail> {
     assert!(rt; is_told(&rt, rt.alloc(), Told::Turn));

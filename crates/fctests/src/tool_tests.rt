@@ -1,6 +1,6 @@
 //! The tools if reading or writing fails or doesn't end, and their command lines.
 //!
-//! The tools' output for sources and images is tested by the data of fcvectors.
+//! The cases of fcvectors test the tools' output for sources and images.
 use crate::faulty::{Full, Unflushed};
 use crate::tooling::{Done, with_memory};
 use fc_cli::Status;
@@ -14,11 +14,11 @@ use std::io;
 use std::io::{ErrorKind, Read, Write};
 use std::test::Fail;
 
-// `mov64 r0, 69` and `exit`, with no variables and budget 2.
+// The image of `mov64 r0, 69` and `exit`, without variables and with a budget of 2 steps.
 const IMAGE: &[u8] =
     b"FCB1\x00\x00\x02\x00\x02\x00\x00\x00\x00\x00\x00\x00\xb7\x00\x00\x00\x45\x00\x00\x00\x95\x00\x00\x00\x00\x00\x00\x00";
 
-// Makes an image without variables, whose budget is one step.
+// Assembles `input` to an image without variables, with a budget of one step. Returns the status.
 fn smallest_image<R: Read, W: Write, E: Write>(
     alloc: Global,
     input: &mut R,
@@ -36,7 +36,7 @@ fn smallest_image<R: Read, W: Write, E: Write>(
     )
 }
 
-// Words that are budgets, and words that aren't.
+// A budget is `auto`, or a decimal number below 2^32.
 #[test]
 fn a_budget_is_a_number_or_auto(rt: HostRuntime) {
     assert!(rt; "auto".parse::<Budget>() == Ok(Budget::Auto));
@@ -46,7 +46,8 @@ fn a_budget_is_a_number_or_auto(rt: HostRuntime) {
     }
 }
 
-// One byte more is read than the longest image has, and no number of slots fits this length.
+// An image without end breaks V01. One byte more is read than the longest image has, and no number
+// of slots fits this length.
 #[test]
 fn an_image_without_end_is_refused(rt: HostRuntime) -> Result<(), Fail> {
     let alloc = rt.alloc();
@@ -60,6 +61,7 @@ fn an_image_without_end_is_refused(rt: HostRuntime) -> Result<(), Fail> {
     Ok(())
 }
 
+// A text without end is refused, because it has more than 1,048,576 bytes.
 #[test]
 fn a_text_without_end_is_refused(rt: HostRuntime) -> Result<(), Fail> {
     let alloc = rt.alloc();
@@ -82,6 +84,8 @@ impl Read for Torn {
     }
 }
 
+// If reading fails, `image`, `list` and `check` print nothing. The status is `Failed`, and `err`
+// says why.
 #[test]
 fn a_failed_reader_is_status_3(rt: HostRuntime) -> Result<(), Fail> {
     let alloc = rt.alloc();
@@ -98,6 +102,8 @@ fn a_failed_reader_is_status_3(rt: HostRuntime) -> Result<(), Fail> {
     Ok(())
 }
 
+// If the output of `image`, `list` or `check` can't be written completely, the status is `Failed`,
+// and `err` says why.
 #[test]
 fn a_failed_writer_is_status_3(rt: HostRuntime) -> Result<(), Fail> {
     let alloc = rt.alloc();
@@ -115,6 +121,7 @@ fn a_failed_writer_is_status_3(rt: HostRuntime) -> Result<(), Fail> {
     Ok(())
 }
 
+// If the output of `image`, `list` or `check` can't be flushed, the status is `Failed`.
 #[test]
 fn a_failed_flush_is_status_3(rt: HostRuntime) -> Result<(), Fail> {
     let alloc = rt.alloc();
@@ -128,6 +135,8 @@ fn a_failed_flush_is_status_3(rt: HostRuntime) -> Result<(), Fail> {
     Ok(())
 }
 
+// If the report of a mistake can't be written completely, the status is `Failed`, and there is no
+// image.
 #[test]
 fn a_mistake_that_is_not_told_is_status_3(rt: HostRuntime) -> Result<(), Fail> {
     let alloc = rt.alloc();
@@ -138,6 +147,7 @@ fn a_mistake_that_is_not_told_is_status_3(rt: HostRuntime) -> Result<(), Fail> {
     Ok(())
 }
 
+// `--format` is 1 or 2. Without it the version is 1.
 #[test]
 fn words_name_versions(rt: HostRuntime) {
     assert!(rt; version_named(None) == Some(ImageVersion::One));
@@ -147,8 +157,8 @@ fn words_name_versions(rt: HostRuntime) {
     assert!(rt; version_named(Some("")).is_none());
 }
 
-// Inputs and their SHA-256, from FIPS 180-2, appendix B, and NIST's examples. That of the image
-// above is from `sha256sum`.
+// Inputs, each with its SHA-256. The first three digests are from FIPS 180-2, appendix B, and
+// NIST's examples. The digest of IMAGE is from `sha256sum`.
 static DIGESTS: [(&[u8], &[u8]); 4] = [
     (
         b"abc",
@@ -168,6 +178,7 @@ static DIGESTS: [(&[u8], &[u8]); 4] = [
     ),
 ];
 
+// `digest` prints the SHA-256 of its input in hex digits.
 #[test]
 fn digests_are_those_of_the_standard(rt: HostRuntime) -> Result<(), Fail> {
     let alloc = rt.alloc();
@@ -183,8 +194,8 @@ fn digests_are_those_of_the_standard(rt: HostRuntime) -> Result<(), Fail> {
     Ok(())
 }
 
-// An endless input has no digest. It is a failure if an input can't be read, or if its digest can't
-// be written.
+// `digest` refuses an input that is longer than any image. The status is `Failed` if the input
+// can't be read, or if the digest can't be written or flushed.
 #[test]
 fn a_digest_is_of_an_image(rt: HostRuntime) -> Result<(), Fail> {
     let alloc = rt.alloc();

@@ -1,11 +1,11 @@
-//! The tools on bytes.
+//! Calls of the tools with inputs and outputs in memory.
 use fc_cli::Status;
 use fc_isa::ImageVersion;
 use fc_tools::budget::Budget;
 use fc_tools::tools::image;
 use std::alloc::{AllocError, Global};
 
-// The result of a tool.
+// The status and the output of a tool.
 #[derive(Drop)]
 pub(crate) struct Done {
     pub(crate) status: Status,
@@ -13,7 +13,8 @@ pub(crate) struct Done {
     pub(crate) err: Vec<u8>,
 }
 
-// Only an allocation can fail if the reader and the writers are bytes.
+// Returns the result of a tool, or `AllocError` if its status is `Failed`. With inputs and outputs
+// in memory, only an allocation can fail.
 pub(crate) fn with_memory(done: Done) -> Result<Done, AllocError> {
     match done.status {
         Status::Failed => Err(AllocError),
@@ -21,6 +22,8 @@ pub(crate) fn with_memory(done: Done) -> Result<Done, AllocError> {
     }
 }
 
+// Assembles a text to an image with this size of the variables and this budget. Returns an error if
+// memory can't be allocated.
 pub(crate) fn assembled(
     alloc: Global,
     text: &[u8],

@@ -1,13 +1,16 @@
-//! Uploads and cuts, with the answers by RFC 7959 and the server's own limits.
+//! Uploads, and cuts of response bodies.
+//!
+//! The expected results follow from RFC 7959 and the server's own limits.
 use coap_block::{Added, PastEnd, Uploads, slice};
 use coap_msg::Endpoint;
 use coap_opts::Block;
 use std::process::Abort;
 use std::test::Fail;
 
+// The bytes of which each payload has the first ones.
 static BYTES: [u8; 1024] = [7; 1024];
 
-/// The answer to a payload; for a complete body its length.
+/// The result of adding a payload; for a complete body it has the body's length.
 #[derive(Clone, Copy, Debug, PartialEq, Eq)]
 enum Answer {
     Continue,
@@ -18,11 +21,13 @@ enum Answer {
     Full,
 }
 
-/// A payload, and the answer to it.
+/// The addition of a payload, and the expected result.
 ///
-/// It has its time, its endpoint's port, its slot, the value of its Block1, and its length.
+/// The addition has a time in milliseconds, the port of an endpoint, a slot, the value of Block1,
+/// and the payload's length.
 type Step = (u64, u16, u8, Option<&'static [u8]>, usize, Answer);
 
+// Returns the result of an addition, with the length of a complete body.
 fn answer_of(added: &Added) -> Answer {
     match added {
         Added::Continue => Answer::Continue,
@@ -34,6 +39,7 @@ fn answer_of(added: &Added) -> Answer {
     }
 }
 
+// Returns the endpoint with this port.
 fn peer(port: u16) -> Endpoint {
     Endpoint {
         ip: [192, 0, 2, 1],
@@ -41,7 +47,7 @@ fn peer(port: u16) -> Endpoint {
     }
 }
 
-// Returns the block of an option's value.
+// Returns the block of an option's value, or `None` if the value has more than three bytes.
 fn block(value: &[u8]) -> Option<Block> {
     if value.len() > 3 {
         return None;
@@ -49,12 +55,14 @@ fn block(value: &[u8]) -> Option<Block> {
     Some(Block::read(value))
 }
 
+// Makes these additions in order, and checks the result of each.
 fn check_steps(rt: &impl Abort, uploads: &mut Uploads, steps: &[Step]) {
     for (at, port, slot, value, length, wanted) in steps {
         check_step(rt, uploads, (*at, *port, *slot, *value, *length, *wanted));
     }
 }
 
+// Makes an addition, and checks the result.
 fn check_step(rt: &impl Abort, uploads: &mut Uploads, step: Step) {
     let (at, port, slot, value, length, wanted) = step;
     let block1 = match value {
@@ -69,8 +77,8 @@ fn check_step(rt: &impl Abort, uploads: &mut Uploads, step: Step) {
     );
 }
 
-// Eight blocks of 1,024 bytes and a last one of 16, which is the maximum; with 17 the transfer is
-// removed.
+// The largest body has eight blocks of 1,024 bytes and a last one of 16. With a last block of 17
+// bytes it is too large, and the transfer is removed.
 static BOUND: [Step; 20] = [
     (0, 1, 2, Some(b"\x0e"), 1024, Answer::Continue),
     (1, 1, 2, Some(b"\x1e"), 1024, Answer::Continue),
@@ -94,6 +102,7 @@ static BOUND: [Step; 20] = [
     (19, 1, 2, Some(b"\x86"), 16, Answer::Incomplete),
 ];
 
+// Additions out of order, of wrong lengths, and to several transfers.
 static ORDER: [Step; 26] = [
     // Blocks of 64 bytes: number 2 doesn't follow number 0, and the transfer is removed.
     (0, 1, 2, Some(b"\x0a"), 64, Answer::Continue),
@@ -104,8 +113,8 @@ static ORDER: [Step; 26] = [
     (0, 1, 2, Some(b"\x1a"), 64, Answer::Continue),
     (0, 1, 2, Some(b"\x0a"), 64, Answer::Continue),
     (0, 1, 2, Some(b"\x12"), 5, Answer::Whole(69)),
-    // A payload of another length than the block's, with more to follow, and a last one that is
-    // longer.
+    // Payloads whose length differs from the block size, with more to follow; and a last payload
+    // that is longer than the block size.
     (0, 1, 2, Some(b"\x0a"), 63, Answer::BadLength),
     (0, 1, 2, Some(b"\x0a"), 65, Answer::BadLength),
     (0, 1, 2, Some(b"\x02"), 65, Answer::BadLength),
@@ -131,7 +140,7 @@ static ORDER: [Step; 26] = [
     (0, 1, 2, None, 0, Answer::Whole(0)),
 ];
 
-// A transfer is removed when it is idle for 247,000 ms.
+// A transfer is removed once it has been idle for 247,000 ms.
 static IDLE: [Step; 4] = [
     (1000, 1, 2, Some(b"\x0a"), 64, Answer::Continue),
     (247_999, 1, 2, Some(b"\x1a"), 64, Answer::Continue),
@@ -139,6 +148,7 @@ static IDLE: [Step; 4] = [
     (741_998, 1, 2, Some(b"\x3a"), 64, Answer::Incomplete),
 ];
 
+// Each addition has the result of its row.
 #[test]
 fn payloads_are_answered(rt: HostRuntime) -> Result<(), Fail> {
     for steps in [BOUND.as_slice(), ORDER.as_slice(), IDLE.as_slice()] {
@@ -148,8 +158,8 @@ fn payloads_are_answered(rt: HostRuntime) -> Result<(), Fail> {
     Ok(())
 }
 
-// While 16 transfers are in progress, another start is refused before any other check, and one of
-// them may begin again.
+// While 16 transfers are in progress, the start of another one is refused before any other check.
+// One of the 16 may begin again, and those that were idle for 247,000 ms are removed.
 static CROWD: [Step; 9] = [
     (5, 1, 16, Some(b"\x0a"), 64, Answer::Full),
     (5, 1, 16, Some(b"\x0a"), 63, Answer::Full),
@@ -162,6 +172,7 @@ static CROWD: [Step; 9] = [
     (247_000, 1, 3, Some(b"\x12"), 1, Answer::Whole(65)),
 ];
 
+// After the starts of 16 transfers, each addition of `CROWD` has the result of its row.
 #[test]
 fn a_17th_transfer_is_refused(rt: HostRuntime) -> Result<(), Fail> {
     let mut uploads = Uploads::new(rt.alloc())?;
@@ -176,6 +187,7 @@ fn a_17th_transfer_is_refused(rt: HostRuntime) -> Result<(), Fail> {
     Ok(())
 }
 
+// A complete body has the payloads from one endpoint to one slot, in order.
 #[test]
 fn payloads_are_joined(rt: HostRuntime) -> Result<(), Fail> {
     let mut uploads = Uploads::new(rt.alloc())?;
@@ -189,19 +201,20 @@ fn payloads_are_joined(rt: HostRuntime) -> Result<(), Fail> {
     Ok(())
 }
 
-// A body's length, the value of the requested Block2, and the cut in the answer: its start, its
-// length, and its value.
+// A body's length, the value of the requested Block2, and the expected cut: its start, its length,
+// and the value of its Block2.
 type Case = (
     usize,
     Option<&'static [u8]>,
     Result<(usize, usize, Option<&'static [u8]>), PastEnd>,
 );
 
+// Requests for cuts of bodies, each with the expected result.
 static CUTS: [Case; 14] = [
     (1100, None, Ok((0, 1024, Some(b"\x0e")))),
     (1100, Some(b"\x06"), Ok((0, 1024, Some(b"\x0e")))),
     (1100, Some(b"\x16"), Ok((1024, 76, Some(b"\x16")))),
-    // Whether more follow is determined by the answer.
+    // The M flag of a request has no effect.
     (1100, Some(b"\x1e"), Ok((1024, 76, Some(b"\x16")))),
     (1100, Some(b"\x26"), Err(PastEnd)),
     (1100, Some(b"\x12"), Ok((64, 64, Some(b"\x1a")))),
@@ -211,13 +224,13 @@ static CUTS: [Case; 14] = [
     (1024, Some(b"\x16"), Err(PastEnd)),
     (1025, None, Ok((0, 1024, Some(b"\x0e")))),
     (2048, Some(b"\x16"), Ok((1024, 1024, Some(b"\x16")))),
-    // The first block of nothing; its value 0 has no bytes.
+    // The first block of an empty body; the value 0 of Block2 has no bytes.
     (0, None, Ok((0, 0, None))),
     (0, Some(b""), Ok((0, 0, Some(b"")))),
     (0, Some(b"\x10"), Err(PastEnd)),
 ];
 
-// The bytes 0 to 250, repeated.
+// Returns 2,048 bytes: 0 to 250, repeated.
 fn body() -> [u8; 2048] {
     let mut bytes = [0; 2048];
     for i in 0..2048 {
@@ -226,6 +239,7 @@ fn body() -> [u8; 2048] {
     bytes
 }
 
+// Cuts a body of the first `length` bytes, and checks the result.
 fn check_cut(rt: &impl Abort, bytes: &[u8; 2048], case: Case) {
     let (length, value, wanted) = case;
     let block2 = match value {
@@ -247,6 +261,7 @@ fn check_cut(rt: &impl Abort, bytes: &[u8; 2048], case: Case) {
     }
 }
 
+// Each cut of a body is that of its row.
 #[test]
 fn bodies_are_cut(rt: HostRuntime) {
     let bytes = body();

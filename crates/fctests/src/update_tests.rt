@@ -1,7 +1,7 @@
 //! Updates of a program that counts POSTs, with and without `keep`.
 //!
-//! They test which variables the new program finds. The datagrams are written by hand (RFC 7252,
-//! section 3.1). Uri-Query is option 15, four above Uri-Path, and Block1 is option 27.
+//! The tests check which variables the new program finds. The datagrams are written by hand (RFC
+//! 7252, section 3.1). Uri-Query is option 15, four above Uri-Path, and Block1 is option 27.
 use crate::tooling::assembled;
 use fc_cli::Status;
 use fc_server::DEFAULT_BEGIN;
@@ -10,13 +10,14 @@ use std::alloc::Global;
 use std::process::Abort;
 use std::test::Fail;
 
-// Counts each POST in its first variable.
+// The source of a program that counts POSTs in the first word of its variables.
 static COUNTER: &[u8] =
     b"mov64 r1, 0\ncall 3\nadd64 r0, 1\nmov64 r2, r0\nmov64 r1, 0\ncall 4\nmov64 r0, 0\nexit";
 
-// Responds with the first eight or sixteen bytes of its variables.
+// The source of a program that replies with the first eight bytes of its variables.
 static SHOW_8: &[u8] = b"mov64 r1, r2\nmov64 r2, 8\ncall 5\nmov64 r0, 0\nexit";
 
+// The source of a program that replies with the first 16 bytes of its variables.
 static SHOW_16: &[u8] = b"mov64 r1, r2\nmov64 r2, 16\ncall 5\nmov64 r0, 0\nexit";
 
 // Returns the image of a source with this size of the variables, in hex digits.
@@ -26,7 +27,8 @@ fn image<R: Abort + AllocGlobal>(rt: &R, text: &[u8], vars_size: u16) -> Result<
     Ok(hex::encode(rt.alloc(), &image.out)?)
 }
 
-// Returns the output after slot 1 counted two POSTs and these lines followed.
+// Installs COUNTER in slot 1, sends two POSTs to the slot, and plays these lines. Returns the
+// output.
 fn printed<R: Abort + AllocGlobal>(rt: &R, lines: &str) -> Result<Vec<u8>, Fail> {
     let alloc = rt.alloc();
     let counter = image(rt, COUNTER, 8)?;
@@ -40,8 +42,8 @@ fn printed<R: Abort + AllocGlobal>(rt: &R, lines: &str) -> Result<Vec<u8>, Fail>
     Ok(out)
 }
 
-// Checks an update with these hex digits of options. Its response is 2.04 with the receipt of
-// version 4, and a GET then finds these variables.
+// Checks an update with these options, given in hex digits. The response is 2.04 with the receipt
+// of version 4. The new program then finds these variables.
 fn check_update<R: Abort + AllocGlobal>(
     rt: &R,
     options: &str,
@@ -64,11 +66,12 @@ fn check_update<R: Abort + AllocGlobal>(
     Ok(())
 }
 
-// The options of an update after its path, and the variables that the new program finds.
+// The options of an update after its path, in hex digits, and the variables that the new program
+// finds.
 static QUERIES: [(&str, &str); 8] = [
     // keep
     ("446b656570", "0200000000000000"),
-    // none; an empty one
+    // no query; an empty argument
     ("", "0000000000000000"),
     ("40", "0000000000000000"),
     // keep=1; keeps; KEEP
@@ -80,6 +83,7 @@ static QUERIES: [(&str, &str); 8] = [
     ("446b6565700178", "0000000000000000"),
 ];
 
+// The new program finds the old variables if the query is `keep` alone, and zeros otherwise.
 #[test]
 fn keep_alone_keeps_the_variables(rt: HostRuntime) -> Result<(), Fail> {
     for (options, vars) in QUERIES.iter().copied() {
@@ -88,6 +92,7 @@ fn keep_alone_keeps_the_variables(rt: HostRuntime) -> Result<(), Fail> {
     Ok(())
 }
 
+// With `keep`, a new program with another size of the variables finds zeros.
 #[test]
 fn another_size_is_zeroed(rt: HostRuntime) -> Result<(), Fail> {
     check_update(
@@ -105,8 +110,9 @@ fn block(alloc: Global, image: &[u8], start: usize) -> Result<String, Fail> {
     Ok(hex::encode(alloc, rest.get(..16).unwrap_or(rest))?)
 }
 
-// Checks an update in blocks of 16 bytes, except 8 in the last. `first` has the options of the
-// first three before Block1, and `last` those of the last.
+// Checks an update in three blocks of 16 bytes and one of 8. `first` and `last` are the options of
+// the first three blocks and of the last one, in hex digits, up to the value of Block1. The new
+// program then finds these variables.
 fn check_blocks<R: Abort + AllocGlobal>(
     rt: &R,
     first: &str,
@@ -131,8 +137,8 @@ fn check_blocks<R: Abort + AllocGlobal>(
     Ok(())
 }
 
-// With keep, Block1 is 12 above Uri-Query; without it, 16 above Uri-Path. The request of the last
-// block decides.
+// The request with the last block of an update decides whether the variables are kept. With `keep`,
+// Block1 is 12 above Uri-Query; without it, 16 above Uri-Path.
 #[test]
 fn the_last_block_says_whether_to_keep(rt: HostRuntime) -> Result<(), Fail> {
     check_blocks(&rt, "446b656570c1", "446b656570c1", "0200000000000000")?;
@@ -141,8 +147,9 @@ fn the_last_block_says_whether_to_keep(rt: HostRuntime) -> Result<(), Fail> {
     check_blocks(&rt, "446b656570c1", "d103", "0000000000000000")
 }
 
-// The cases are an empty slot, a refused image, after which the counter goes on, a duplicate
-// update, which changes nothing again, and the variables of another slot.
+// `keep` keeps the variables of the slot's own program. In an empty slot it gives zeros, and the
+// variables of another slot aren't used. A refused image leaves the variables as they are, and a
+// duplicate of an update changes nothing.
 #[test]
 fn keep_is_for_the_own_slot_s_program(rt: HostRuntime) -> Result<(), Fail> {
     let alloc = rt.alloc();

@@ -1,7 +1,7 @@
-//! The wait of a server for each datagram.
+//! How long a server waits for each datagram.
 //!
-//! It is 100 ms. After a receive without a datagram it is unlimited, while the server has nothing
-//! to do.
+//! The wait is 100 ms. After a receive without a datagram it is unlimited, as long as the server
+//! has nothing to do.
 ghost use Rattle.std.specs.Prelude.{◌≤◌, IfSome, length};
 
 use crate::failing_tests::{POST, PUT};
@@ -21,13 +21,14 @@ use std::thread;
 use std::thread::Threads;
 use std::time::{Clock, Duration};
 
-// A registration of an observer of slot 1, and its deregistration.
+// The registration of an observer of slot 1.
 const REGISTER: &[u8] = b"\x40\x01\x00\x03\x60\x51\x72\x01\x31";
 
+// The deregistration of an observer of slot 1.
 const DEREGISTER: &[u8] = b"\x40\x01\x00\x04\x61\x01\x51\x72\x01\x31";
 
-// The wait of each receive in milliseconds, and the datagram. An observer that was notified of the
-// last change has nothing to wait for.
+// The expected wait of each receive in milliseconds, or `None` for an unlimited one, and the
+// datagram. The server has nothing to do if the observer was notified of the last change.
 static RECEIVES: [(Option<u64>, Option<&[u8]>); 10] = [
     (Some(100), None),
     (None, Some(PUT)),
@@ -41,7 +42,7 @@ static RECEIVES: [(Option<u64>, Option<&[u8]>); 10] = [
     (None, Some(POST)),
 ];
 
-// A source that follows that list, and counts the receives whose wait was the expected one.
+// A source that follows `RECEIVES`, and counts the receives whose wait was the expected one.
 #[derive(Drop)]
 struct Listed {
     calls: usize,
@@ -65,7 +66,7 @@ impl Source for Listed {
     }
 }
 
-// A sink that accepts everything.
+// A sink that sends each datagram.
 #[derive(Drop)]
 struct Everywhere;
 
@@ -77,7 +78,7 @@ impl Sink for Everywhere {
     }
 }
 
-// Serves the list with this many workers.
+// Serves `RECEIVES` with this many workers, and checks that each wait is the expected one.
 fn check_waits<R: Abort + AllocGlobal + Threads + Wait + Clock + Sync>(rt: &R, workers: u8) {
     let alloc = rt.alloc();
     let memory = Memory::new(alloc);
@@ -104,20 +105,21 @@ fn check_waits<R: Abort + AllocGlobal + Threads + Wait + Clock + Sync>(rt: &R, w
     assert!(rt; served.map(|listed| listed.right) == Some(10), "{workers}");
 }
 
+// With one worker and with two, a server that has nothing to do waits without a limit.
 #[test]
 fn a_server_that_has_nothing_to_do_waits_without_end(rt: HostRuntime) {
     check_waits(&rt, 1);
     check_waits(&rt, 2);
 }
 
-// A PUT of a program into slot 1 that takes at most 8,207 steps: four times 1,024 iterations of
-// two.
+// A PUT to slot 1 of an image with a budget of 8,207 steps. The program has a loop of four
+// iterations, and in it one of 1,024 iterations of two steps.
 static PUT_EXPENSIVE: &[u8] =
     b"\x40\x03\x00\x01\xb1\x70\x01\x31\xff\x46\x43\x42\x32\x00\x00\x08\x00\x0f\x20\x00\x00\x00\x00\x00\x00\xb7\x06\x00\x00\x00\x00\x00\x00\xb7\x07\x00\x00\x00\x00\x00\x00\x07\x07\x00\x00\x01\x00\x00\x00\xa5\x07\xfe\xff\x00\x04\x00\x00\x07\x06\x00\x00\x01\x00\x00\x00\xa5\x06\xfb\xff\x04\x00\x00\x00\xb7\x00\x00\x00\x00\x00\x00\x00\x95\x00\x00\x00\x00\x00\x00\x00";
 
-// A source that gives an expensive program, once a worker had time to ask for a job, and a POST to
-// it. It stores the wait of its fourth call, while the POST's job runs. Another POST ends the
-// server.
+// A source that returns a PUT of an expensive program after 500 ms, so that a worker can ask for a
+// job before. Then it returns a POST to that program. The fourth call, while the POST's job runs,
+// stores its wait in `seen`. A second POST ends the server.
 #[derive(Drop)]
 struct Busy<'a, C: Clock> {
     clock: &'a C,
@@ -125,9 +127,10 @@ struct Busy<'a, C: Clock> {
     seen: &'a AtomicUsize,
 }
 
-// The values that are stored: the wait was 100 ms while the job ran, or it was another one.
+// The value that is stored for a wait of 100 ms.
 const SHORT: usize = 1;
 
+// The value that is stored for any other wait.
 const LONG: usize = 2;
 
 impl<'a, C: Clock> Source for Busy<'a, C> {
@@ -155,7 +158,7 @@ impl<'a, C: Clock> Source for Busy<'a, C> {
     }
 }
 
-// A sink that delays the response to a POST until that wait is known, and for at most five seconds.
+// A sink that delays the response to a POST until `seen` is stored, for at most five seconds.
 #[derive(Drop)]
 struct HeldUp<'a, C: Clock> {
     clock: &'a C,

@@ -1,4 +1,4 @@
--- Forms of the lines of a case, and the bytes of its pieces.
+-- The forms of the lines of a case, and the bytes of the pieces.
 use Rattle.std.specs.Prelude.{◌≡◌, ◌⊎◌, ℕ, List, [], ◌∷◌, ◌++◌, true, false, if◌then◌else◌}
 use Rattle.std.specs.List.{repeat}
 use Rattle.fc_cli.specs.declared.status.Status.{Status}
@@ -10,7 +10,7 @@ use Rattle.fcvectors.specs.declared.line.Copies.{Copies}
 use Rattle.fcvectors.specs.declared.line.CaseLine.{CaseLine}
 use Rattle.fcvectors.specs.declared.line.CaseLine.TheVariants.{Blank, Command, Piece, Ending}
 
--- `#`, `$`, `=`, `>`, `!`, `*` and `\`.
+-- the marks `#`, `$`, `=`, `>`, `!`, `*` and `\`.
 abbrev pub hash : ℕ
 hash = 35
 
@@ -32,14 +32,15 @@ star = 42
 abbrev pub backslash : ℕ
 backslash = 92
 
--- a mark, a space and a text; or the mark alone, and no text.
+-- the line is the mark, a space and the text; or it is the mark alone, and the text is empty.
 abbrev pub HasMark : ℕ → List ℕ → List ℕ → Type 0
 HasMark mark line text = (line ≡ mark ∷ (space ∷ text)) ⊎ ((line ≡ mark ∷ []) × (text ≡ []))
 
+-- the line doesn't begin with the mark and a space, and isn't the mark alone.
 abbrev pub HasNoMark : ℕ → List ℕ → Type 0
 HasNoMark mark line = (text : List ℕ) → HasMark mark line text → ⊥
 
--- nothing, or a comment.
+-- the line is empty, or a comment.
 abbrev pub IsBlank : List ℕ → Type 0
 IsBlank line = (line ≡ []) ⊎ ((rest : List ℕ) × (line ≡ hash ∷ rest))
 
@@ -49,7 +50,7 @@ IsPieceOf line Stdin piece = (piece ≡ line) × HasNoMark greater line × HasNo
 IsPieceOf line Stdout piece = HasMark greater line piece
 IsPieceOf line Stderr piece = HasMark exclamation line piece
 
--- `*N*TEXT`: N copies of the text; or a text that begins with no star, once.
+-- `*N*TEXT` is N copies of TEXT, and a text that doesn't begin with a star is one copy of itself.
 abbrev pub IsCounted : List ℕ → ℕ → List ℕ → Type 0
 IsCounted counted count text =
     ((digits : List ℕ) × (counted ≡ star ∷ (digits ++ (star ∷ text))) × IsNumber digits count)
@@ -61,7 +62,7 @@ IsPiece piece copies =
     ((counted : List ℕ) × (piece ≡ counted ++ (backslash ∷ [])) × IsCounted counted copies.count copies.text.now × (copies.ends_line ≡ false))
     ⊎ (IsCounted piece copies.count copies.text.now × ((front : List ℕ) → piece ≡ front ++ (backslash ∷ []) → ⊥) × (copies.ends_line ≡ true))
 
--- `refused`, `bad` and `failed`.
+-- the word for a status: `refused`, `bad` or `failed`. `Done` has none.
 abbrev pub IsWordOf : Status → List ℕ → Type 0
 IsWordOf Done word = ⊥
 IsWordOf Refused word = word ≡ 114 ∷ 101 ∷ 102 ∷ 117 ∷ 115 ∷ 101 ∷ 100 ∷ []
@@ -76,7 +77,7 @@ IsCaseLine line (Ending status) = (word : List ℕ) × HasMark equals_sign line 
 IsCaseLine line (Piece stream copies) = (piece : List ℕ) × IsPieceOf line stream piece × IsPiece piece copies
     × HasNoMark dollar line × HasNoMark equals_sign line × (IsBlank line → ⊥)
 
--- bytes of one of the copies, and of all.
+-- the bytes of one of the copies, and of all copies.
 abbrev pub copy_bytes : Copies → List ℕ
 copy_bytes copies = copies.text.now ++ (if copies.ends_line then 10 ∷ [] else [])
 

@@ -1,6 +1,6 @@
 //! Cases: files of vectors.
 //!
-//! A vector has a command, its input, and the output that it must have.
+//! A vector consists of a command, the command's input, and the expected output.
 ghost use Rattle.std.specs.Prelude.{◌≡◌, ◌++◌, ◌∷◌, [], IfOk, IfSome, OnOk, IsTrue};
 ghost use Rattle.std.specs.List.{flat_map};
 ghost use Rattle.fcvectors.specs.Cases.{AreLines, Allows, AllowsTold, IsVectorOf, dots, last_status, piece_bytes, status_after};
@@ -32,7 +32,7 @@ pub(crate) struct Output {
     pub(crate) stderr: Vec<u8>,
 }
 
-/// A vector: the input of a command, and the output that it must have.
+/// A vector: a command, the command's input, and the expected output.
 #[derive(Drop)]
 pub(crate) struct Vector<'a> {
     pub(crate) command: &'a [u8],
@@ -43,7 +43,8 @@ pub(crate) struct Vector<'a> {
 /// Parses the lines of a case.
 ///
 /// # Errors
-/// Returns the first line that has no form of a case, or that memory couldn't be allocated.
+/// Returns `BadLine` with the number of the first malformed line, or `Memory` if memory can't be
+/// allocated.
 pub(crate) fn lines_of(alloc: Global, text: &[u8]) -> Result<Vec<CaseLine<'_>>, CaseError>
     ensures { IfOk result (λ lines. AreLines text.now lines.items) }
 {
@@ -71,14 +72,16 @@ pub(crate) fn is_command(line: &CaseLine<'_>) -> bool {
     matches!(line, CaseLine::Command(_))
 }
 
-/// Returns whether lines are a vector: one of them isn't blank.
+/// Returns whether these lines are a vector.
+///
+/// They are if at least one of them isn't blank.
 pub(crate) fn is_vector(lines: &[CaseLine<'_>]) -> bool {
     lines.iter().any(|line| !matches!(line, CaseLine::Blank))
 }
 
 /// Returns the vector of these lines.
 ///
-/// Its command is that of the first line, or `command` if that line has none.
+/// The vector's command is that of the first line, or `command` if the first line has none.
 ///
 /// # Errors
 /// Returns `AllocError` if memory can't be allocated.
@@ -108,7 +111,8 @@ fn command_of<'a>(lines: &[CaseLine<'a>]) -> Option<&'a [u8]> {
     }
 }
 
-// Returns the bytes of a stream, from its pieces in order.
+// Returns the bytes of a stream: those of the stream's pieces in the lines, in order. Returns an
+// error if memory can't be allocated.
 fn bytes_of(alloc: Global, lines: &[CaseLine<'_>], stream: Stream) -> Result<Vec<u8>, AllocError>
     ensures { IfOk result (λ bytes. bytes.items ≡ flat_map (piece_bytes stream) lines.now) }
 {
@@ -119,7 +123,8 @@ fn bytes_of(alloc: Global, lines: &[CaseLine<'_>], stream: Stream) -> Result<Vec
     Ok(bytes)
 }
 
-// Appends a line's piece of a stream.
+// Appends the bytes of a line if the line is a piece of `stream`. Any other line appends nothing.
+// Returns an error if memory can't be allocated.
 fn append_piece(line: &CaseLine<'_>, stream: Stream, bytes: &mut Vec<u8>) -> Result<(), AllocError>
     ensures { OnOk result (bytes.new.items ≡ bytes.old.items ++ piece_bytes stream line.now) }
 {
@@ -138,7 +143,8 @@ fn status_of(lines: &[CaseLine<'_>]) -> Status
         .fold(Status::Done, |status, line| status_after(status, line))
 }
 
-// Returns the status that the line gives, or `status`, the one before it, if it gives none.
+// Returns the status that a line gives. For a line without a status, returns `status`, which is
+// that of the lines before.
 fn status_after(status: Status, line: &CaseLine<'_>) -> Status
     ensures { result ≡ status_after status line.now }
 {
@@ -149,12 +155,15 @@ fn status_after(status: Status, line: &CaseLine<'_>) -> Status
 }
 
 impl Output {
-    /// Returns whether this expected output allows another one.
+    /// Returns whether this expected output allows the output `other`.
     ///
-    /// The other output has the same status and the same bytes on standard output. On standard
-    /// error it has the same bytes, or begins with those before `..` if that is the last expected
-    /// line. If none are expected there, the other output has some exactly if the status isn't
-    /// `Done`. The clause says this of `true` alone.
+    /// If `true`, `other` has the same status and standard output, and its standard error:
+    ///
+    /// - is the expected one;
+    /// - or begins with the expected one up to `..` and a line feed at the end;
+    /// - or, if none is expected, is empty exactly if the status is `Done`.
+    ///
+    /// The contract says nothing if `false`.
     pub(crate) fn allows(&self, other: &Output) -> bool
         ensures { IsTrue result → Allows self.now other.now }
     {
@@ -163,7 +172,7 @@ impl Output {
             && self.allows_told(&other.stderr)
     }
 
-    // Returns whether the bytes `told` on standard error are allowed. See `allows`.
+    // Returns whether this expected output allows the bytes `told` on standard error. See `allows`.
     fn allows_told(&self, told: &[u8]) -> bool
         ensures { IsTrue result → AllowsTold self.now.status self.now.stderr.items told.now }
     {
@@ -177,7 +186,7 @@ impl Output {
     }
 }
 
-// Returns the text before the last line if that is `..`, or `None`.
+// Returns the text before `..` and a line feed at the end, or `None` if it doesn't end with these.
 fn before_dots(said: &[u8]) -> Option<&[u8]>
     ensures { IfSome result (λ start. said.now ≡ start.now ++ dots) }
 {

@@ -7,9 +7,9 @@ use std::{fs, io};
 #[derive(Clone, Copy)]
 pub(crate) struct Suite {
     pub(crate) folder: &'static str,
-    /// The ending of its files' names.
+    /// The ending of the names of the files.
     pub(crate) extension: &'static str,
-    /// The command of a vector without one; empty if each has to have one.
+    /// The command of a vector that names none, or empty if each has to name one.
     pub(crate) command: &'static [u8],
 }
 
@@ -34,21 +34,21 @@ pub(crate) static SUITES: [Suite; 3] = [
     },
 ];
 
-/// Returns the suite of a file, and the file's name without its ending.
+/// Returns the suite of a file, and the file's path without the suite's ending.
 ///
-/// Returns `None` if its name has another ending.
+/// Returns `None` if the path has the ending of no suite.
 pub(crate) fn suite_of(path: &str) -> Option<(&'static Suite, &str)> {
     SUITES
         .iter()
         .find_map(|suite| Some((suite, path.strip_suffix(suite.extension)?)))
 }
 
-/// Returns the paths of the cases of all suites, in order.
+/// Returns the paths of the cases of all suites, in the order of the suites.
 ///
 /// The cases of a suite are in the order of their names.
 ///
 /// # Errors
-/// Returns that a folder can't be read, or that memory couldn't be allocated.
+/// Returns an error if a folder can't be read, or if memory can't be allocated.
 pub(crate) fn all_paths<R: Files + AllocGlobal + Clone + Drop>(rt: &R) -> io::Result<Vec<String>> {
     let mut paths = Vec::new(rt.alloc());
     for suite in &SUITES {
@@ -57,7 +57,8 @@ pub(crate) fn all_paths<R: Files + AllocGlobal + Clone + Drop>(rt: &R) -> io::Re
     Ok(paths)
 }
 
-// Adds the paths of a suite's cases, in order.
+// Appends the paths of a suite's cases to `paths`, in the order of the names. The errors are those
+// of `all_paths`.
 fn add_paths<R: Files + AllocGlobal + Clone + Drop>(
     rt: &R,
     suite: &Suite,

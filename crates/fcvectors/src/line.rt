@@ -6,7 +6,7 @@ use fc_cli::Status;
 use fc_lines::line::number;
 use std::alloc::AllocError;
 
-/// The streams of a program, with a vector's input and expected output.
+/// A standard stream of a program. A vector gives the bytes of each.
 #[derive(Clone, Copy, Debug, PartialEq, Eq)]
 pub(crate) enum Stream {
     Stdin,
@@ -25,13 +25,13 @@ pub(crate) struct Copies<'a> {
 /// A line of a case.
 #[derive(Clone, Copy)]
 pub(crate) enum CaseLine<'a> {
-    /// Nothing, or a comment.
+    /// An empty line, or a comment.
     Blank,
     /// The start of a vector, with its command.
     Command(&'a [u8]),
     /// A piece of a stream.
     Piece(Stream, Copies<'a>),
-    /// The status at the end of the vector.
+    /// The status with which the vector is expected to end.
     Ending(Status),
 }
 
@@ -63,11 +63,11 @@ impl Copies<'_> {
 
 /// Parses a line of a case, without its line feed.
 ///
-/// - Nothing, or `# ..`: a comment.
+/// - An empty line, or one that begins with `#`: blank.
 /// - `$ COMMAND`: the start of a vector.
 /// - `> PIECE`: a piece of standard output.
 /// - `! PIECE`: a piece of standard error.
-/// - `= refused`, `= bad` or `= failed`: the status at the end.
+/// - `= refused`, `= bad` or `= failed`: the expected status.
 /// - Any other line: a piece of standard input.
 ///
 /// A piece is a text, or `*N*TEXT`, which is N copies of the text. A line feed follows each copy,
@@ -88,7 +88,7 @@ pub(crate) fn parse(line: &[u8]) -> Option<CaseLine<'_>>
     Some(CaseLine::Piece(stream, copies_of(piece)?))
 }
 
-// Returns the stream of a line without a command or an ending, and its piece.
+// Returns the stream and the piece of a line that is neither a command nor a status.
 fn piece_of(line: &[u8]) -> (Stream, &[u8])
     ensures { IsPieceOf line.now result.0 result.1.now }
 {
@@ -101,8 +101,8 @@ fn piece_of(line: &[u8]) -> (Stream, &[u8])
     }
 }
 
-// Returns the text after a mark and a space, which is empty after a mark alone, or `None` if the
-// line doesn't begin so.
+// Returns the text after `mark` and a space at the start of a line, or an empty text if the line is
+// `mark` alone. Returns `None` for any other line.
 fn after_mark(line: &[u8], mark: u8) -> Option<&[u8]>
     ensures { MatchOption result ((text : List ℕ) → HasMark mark line.now text → ⊥) (λ text. HasMark mark line.now text.now) }
 {
@@ -116,7 +116,7 @@ fn after_mark(line: &[u8], mark: u8) -> Option<&[u8]>
     }
 }
 
-// Returns the copies of a piece, or `None` if the piece is malformed.
+// Returns the copies that a piece represents, or `None` if the piece is malformed.
 fn copies_of(piece: &[u8]) -> Option<Copies<'_>>
     ensures { IfSome result (IsPiece piece.now) }
 {
@@ -126,8 +126,9 @@ fn copies_of(piece: &[u8]) -> Option<Copies<'_>>
     }
 }
 
-// Returns the copies of a text, as many as `*N*` at its start says, or one. It is `None` if `*`
-// isn't followed by a number and another `*`.
+// Returns N copies of TEXT if `text` is `*N*TEXT`, and one copy if `text` doesn't begin with `*`.
+// Returns `None` if no number and second `*` follow a `*` at the start. `ends_line` says whether a
+// line feed follows each copy.
 fn counted(text: &[u8], ends_line: bool) -> Option<Copies<'_>>
     ensures copies { IfSome result (λ copies. IsCounted text.now copies.count copies.text.now) }
     ensures ends_line { IfSome result (λ copies. copies.ends_line ≡ ends_line) }
@@ -148,7 +149,7 @@ fn counted(text: &[u8], ends_line: bool) -> Option<Copies<'_>>
     })
 }
 
-// Returns the status with this word, or `None` if there is none. `Done` has no word.
+// Returns the status that this word names, or `None` if it names none. No word names `Done`.
 fn status_named(word: &[u8]) -> Option<Status>
     ensures { IfSome result (λ status. IsWordOf status word.now) }
 {

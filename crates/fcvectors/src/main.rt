@@ -1,15 +1,16 @@
 //! Cases of lines, events, sources and images as data, and a program to check them.
 //!
-//! It executes each case by the library's function that a program calls, and compares the output.
+//! The program executes each case by the library functions that the other programs call, and
+//! compares the output with the expected one.
 //!
 //! # What is proved
 //!
-//! - Each line of a case has the form that it is parsed as. A vector's streams are those of its
-//!   lines, in order, and its status is that of their last ending.
+//! - Each line of a case has the form that it is parsed as. A vector's streams have the bytes of
+//!   its lines, in order. The vector has the last status that a line gives, or else `Done`.
 //! - An allowed output has the vector's status and standard output. Its standard error is the
-//!   vector's; or begins with the text before a last line `..`; or, if the vector has none, is
-//!   empty exactly if the status is `Done`.
-//! - It isn't proved that every vector is executed. The stored run shows it, and includes a case
+//!   vector's, or begins with the vector's up to `..` at the end. If the vector has none, standard
+//!   error is empty exactly if the status is `Done`.
+//! - It isn't proved that every vector is executed. The stored run shows this, and includes a case
 //!   that differs.
 //!
 //! By the contracts of `line::parse`, `case::lines_of`, `vector_of`, `Output::allows`.
@@ -49,7 +50,7 @@ fn command<'a>(alloc: Global) -> Result<Command<'a>, Error> {
     )
 }
 
-// Runs the program by the words of its command line. If a word isn't UTF-8, the status is `Bad`.
+// Runs the program with the words of its command line. If a word isn't UTF-8, the status is `Bad`.
 fn run<R: Runtime + AllocGlobal + Threads + Wait + Sync, E: Write>(
     rt: &R,
     err: &mut E,
@@ -60,8 +61,9 @@ fn run<R: Runtime + AllocGlobal + Threads + Wait + Sync, E: Write>(
     }
 }
 
-// Executes the cases that the command line names, or all. If the command line doesn't match,
-// `parse` has printed why, and nothing is executed.
+// Executes the cases that the command line names, or all cases if it names none. Returns the status
+// of `check_files`. If the command line doesn't match, nothing is executed, and the status is that
+// of `parse`, which has printed why.
 fn obey<R: Runtime + AllocGlobal + Threads + Wait + Sync, E: Write>(
     rt: &R,
     err: &mut E,
@@ -84,8 +86,8 @@ fn obey<R: Runtime + AllocGlobal + Threads + Wait + Sync, E: Write>(
     Ok(status)
 }
 
-// Executes the cases in these files. Returns `Refused` if one of them differs, and stops at the
-// first that can't be executed.
+// Executes the cases in these files, up to the first case that can't be executed, and returns that
+// case's status. If all are executed, returns `Refused` if one of them differs, and else `Done`.
 fn check_files<R: Runtime + AllocGlobal + Threads + Wait + Sync, W: Write, E: Write>(
     rt: &R,
     out: &mut W,
@@ -103,8 +105,9 @@ fn check_files<R: Runtime + AllocGlobal + Threads + Wait + Sync, W: Write, E: Wr
     Ok(status)
 }
 
-// Executes the case in this file, and prints whether it has the expected result. Returns `Done` if
-// it has, `Refused` if it differs, and `Bad` or `Failed` if it isn't executed.
+// Executes the case in this file, and prints whether the output is as expected. Returns `Done` if
+// the output is, `Refused` if it differs, and `Bad` or `Failed` if the case can't be executed.
+// Returns an error if reading or printing fails.
 fn check_file<R: Runtime + AllocGlobal + Threads + Wait + Sync, W: Write, E: Write>(
     rt: &R,
     out: &mut W,
@@ -126,7 +129,7 @@ fn tell_misnamed<E: Write>(err: &mut E, path: &str) -> anyhow::Result<Status> {
     Ok(Status::Bad)
 }
 
-// Prints the result of a case, and returns the status for it.
+// Prints the result of a case, and returns the status for that result.
 fn tell_found<W: Write, E: Write>(
     out: &mut W,
     err: &mut E,
@@ -140,14 +143,14 @@ fn tell_found<W: Write, E: Write>(
     }
 }
 
-// Prints to `out` that the case has the expected result. Returns `Done`.
+// Prints to `out` that the output of the case is as expected. Returns `Done`.
 fn print_agreement<W: Write>(out: &mut W, name: &str) -> anyhow::Result<Status> {
     writeln!(out, "ok {name}")?;
     Ok(Status::Done)
 }
 
-// Prints to `out` that the case differs, and at which line, and to `err` the output that came.
-// Returns `Refused`.
+// Prints to `out` the line of the vector that differs, and to `err` the actual output. Returns
+// `Refused`.
 fn tell_difference<W: Write, E: Write>(
     out: &mut W,
     err: &mut E,
@@ -159,8 +162,8 @@ fn tell_difference<W: Write, E: Write>(
     Ok(Status::Refused)
 }
 
-// Executes the case of this text. `command` is for vectors without one. Returns the first
-// difference, or `None` if there is none.
+// Executes the case of this text. `command` is the command of vectors that name none. Returns the
+// first difference, or `None` if there is none.
 fn check_text<R: Runtime + AllocGlobal + Threads + Wait + Sync>(
     rt: &R,
     text: &[u8],
@@ -170,7 +173,8 @@ fn check_text<R: Runtime + AllocGlobal + Threads + Wait + Sync>(
     check_case(rt, &lines, command)
 }
 
-// Prints to `err` why a case isn't executed. Returns `Failed` or `Bad`.
+// Prints to `err` why a case can't be executed. Returns `Failed` if memory couldn't be allocated,
+// and else `Bad`.
 fn explain<E: Write>(err: &mut E, name: &str, error: &CaseError) -> anyhow::Result<Status> {
     match error {
         CaseError::Memory(_) => {

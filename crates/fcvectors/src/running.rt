@@ -12,10 +12,10 @@ use std::thread::Threads;
 /// The players of lines: this thread alone, one worker, and two workers.
 static PLAYERS: [Option<u8>; 3] = [None, Some(1), Some(2)];
 
-/// The output of a vector that differs from the expected one.
+/// The actual output of a vector, if the expected output doesn't allow it.
 #[derive(Drop)]
 pub(crate) struct Difference {
-    /// The first line of the vector, counted from 1.
+    /// The number of the vector's first line, counted from 1.
     pub(crate) line: usize,
     pub(crate) workers: Option<u8>,
     pub(crate) came: Output,
@@ -23,11 +23,12 @@ pub(crate) struct Difference {
 
 /// Executes the vectors of a case, up to the first that differs.
 ///
-/// Returns that vector's output, or `None` if no vector differs. If one of the lines before the
-/// first command isn't blank, they are a vector with the command `command`.
+/// Returns that vector's actual output, or `None` if no vector differs. If one of the lines before
+/// the first command isn't blank, these lines are a vector with the command `command`.
 ///
 /// # Errors
-/// Returns that a vector has no command or an unknown one, or that memory couldn't be allocated.
+/// Returns `BadCommand` if a vector has no command or an unknown one, and `Memory` if memory can't
+/// be allocated.
 pub(crate) fn check_case<'a, R: AllocGlobal + Threads + Wait + Sync>(
     rt: &R,
     lines: &[CaseLine<'a>],
@@ -46,8 +47,8 @@ pub(crate) fn check_case<'a, R: AllocGlobal + Threads + Wait + Sync>(
     Ok(None)
 }
 
-// Executes the vector at this line; a vector that plays lines is executed by each of the players.
-// Returns the first difference, or `None` if there is none.
+// Executes the vector at this line, or, if the vector plays lines, executes it with each of the
+// players. Returns the first difference, or `None` if there is none.
 fn check_vector<R: AllocGlobal + Threads + Wait + Sync>(
     rt: &R,
     vector: &Vector<'_>,
@@ -65,7 +66,8 @@ fn check_vector<R: AllocGlobal + Threads + Wait + Sync>(
     Ok(None)
 }
 
-// Returns all players for a command whose last stage plays, and the first of them for any other.
+// Returns all players for a command whose last stage plays, and only the first player for any other
+// command.
 fn players_of(command: &[u8]) -> &'static [Option<u8>] {
     if is_play(command) {
         &PLAYERS
@@ -74,8 +76,8 @@ fn players_of(command: &[u8]) -> &'static [Option<u8>] {
     }
 }
 
-// Makes a difference. The error is that the vector failed for lack of memory: that is no
-// difference.
+// Makes a difference of an actual output. If its status is `Failed`, returns the error `Memory`
+// instead: the vector failed because memory couldn't be allocated.
 fn found(line: usize, workers: Option<u8>, came: Output) -> Result<Difference, CaseError> {
     if came.status == Status::Failed {
         return Err(CaseError::Memory(AllocError));
@@ -88,7 +90,7 @@ fn found(line: usize, workers: Option<u8>, came: Output) -> Result<Difference, C
 }
 
 impl Difference {
-    /// Prints the vector's output to `err`: player, status, and its two streams.
+    /// Prints the number of workers and the actual output to `err`.
     ///
     /// # Errors
     /// Returns the writer's error.

@@ -23,14 +23,17 @@ use std::thread::Threads;
 /// The greatest serial.
 const LAST_SERIAL: u64 = 9_223_372_036_854_775_807;
 
-/// The number of bytes in a line of hex digits: those of a slot.
+/// The number of bytes that a line of hex digits represents: one slot of an image.
 const LINE: usize = 8;
 
 /// Executes a command on an input.
 ///
-/// Its stages are separated by `|`. Each reads the output of the one before it, as long as they end
-/// with `Done`. Lines are played by this many workers, or on this thread alone. Returns `None` if a
-/// stage or an option of it is unknown.
+/// The command's stages are separated by `|`. The first stage reads `input`, and each later one the
+/// output of the stage before. No stage runs after one that doesn't end with `Done`. `workers` is
+/// the number of workers that play lines, or `None` for this thread alone.
+///
+/// Returns `None` if the command isn't UTF-8, or if a stage that is to run is unknown or has an
+/// unknown or malformed option.
 ///
 /// # Errors
 /// Returns `AllocError` if memory for the data between stages can't be allocated.
@@ -70,8 +73,8 @@ pub(crate) fn is_play(command: &[u8]) -> bool {
     command[start..].trim_ascii_start().starts_with(b"play")
 }
 
-// Runs a stage, by its name and its options, on `input`, and writes to `output`. Returns `None` if
-// the name or an option is unknown.
+// Runs a stage, given by name and options, on `input`, and writes to `output`. Returns the stage's
+// status, or `None` if the name or an option is unknown or malformed.
 fn run_stage<R: AllocGlobal + Threads + Wait + Sync>(
     rt: &R,
     workers: Option<u8>,
@@ -91,7 +94,8 @@ fn run_stage<R: AllocGlobal + Threads + Wait + Sync>(
     }
 }
 
-// Runs a stage that has no options. Returns `None` if its name is unknown.
+// Runs a stage that has no options. Returns the stage's status, or `None` if the name is unknown or
+// the input of `unhex` isn't hex digits.
 fn run_plain(alloc: Global, name: &str, mut input: &[u8], output: &mut Output) -> Option<Status> {
     let Output { stdout, stderr, .. } = output;
     match name {
@@ -104,7 +108,8 @@ fn run_plain(alloc: Global, name: &str, mut input: &[u8], output: &mut Output) -
     }
 }
 
-// Returns the status of a stage that only writes.
+// Returns the status of a stage that only writes: `Done`, or `Failed` if memory couldn't be
+// allocated.
 fn ending(writing: Result<(), AllocError>) -> Status {
     match writing {
         Ok(()) => Status::Done,
@@ -112,8 +117,9 @@ fn ending(writing: Result<(), AllocError>) -> Status {
     }
 }
 
-// Plays lines from the first serial and the first message ID in the options, 0 if there are none.
-// Returns `None` if an option is unknown or malformed.
+// Plays lines on a server with the first serial, first message ID and policy in the options. The
+// serial and the message ID are 0 if they aren't given. Returns the status of playing, or `None` if
+// an option is unknown or malformed.
 fn play_from<R: AllocGlobal + Threads + Wait + Sync>(
     rt: &R,
     workers: Option<u8>,
@@ -155,8 +161,8 @@ fn play_from<R: AllocGlobal + Threads + Wait + Sync>(
     })
 }
 
-// Returns the policy in the options: its networks are separated by commas, and without an option it
-// is the default. It is `None` if an option is malformed, or memory can't be allocated.
+// Returns the policy in the options. Networks are separated by commas, and an option that isn't
+// given has its default. Returns `None` if an option is malformed, or if memory can't be allocated.
 fn policy_in(alloc: Global, options: &str) -> Option<Policy> {
     let networks = option(options, "--managers").unwrap_or("0.0.0.0/0");
     let networks = networks.split(',').collect::<Vec<_>>(alloc).ok()?;
@@ -168,14 +174,14 @@ fn policy_in(alloc: Global, options: &str) -> Option<Policy> {
     )
 }
 
-// Returns the limit in the option with this name, or `default` if it isn't given. It is `None` if
-// the option isn't a number.
+// Returns the limit in the option with this name, or `default` if the option isn't given. Returns
+// `None` if the option isn't a number.
 fn limit(options: &str, name: &str, default: usize) -> Option<usize> {
     usize::try_from(number_in(options, name, default as u64)?).ok()
 }
 
-// Returns the number in the option with this name, or `default` if it isn't given. It is `None` if
-// the option isn't a number.
+// Returns the number in the option with this name, or `default` if the option isn't given. Returns
+// `None` if the option isn't a number.
 fn number_in(options: &str, name: &str, default: u64) -> Option<u64> {
     match option(options, name) {
         Some(text) => text.parse::<u64>().ok(),
@@ -183,8 +189,8 @@ fn number_in(options: &str, name: &str, default: u64) -> Option<u64> {
     }
 }
 
-// Assembles a source to an image, as `fcasm image` does. Returns `None` if an option is unknown,
-// malformed, or missing.
+// Assembles a source to an image, as `fcasm image` does, and returns the status. Returns `None` if
+// an option is unknown or malformed, or if a required one is missing.
 fn write_image(
     alloc: Global,
     options: &str,
@@ -201,7 +207,8 @@ fn write_image(
     Some(image(alloc, &mut input, stdout, stderr, vars, budget, version))
 }
 
-// Lists an image, as `fcasm list` does. Returns `None` if an option is unknown.
+// Lists an image, as `fcasm list` does, and returns the status. Returns `None` if an option is
+// unknown.
 fn write_listing(
     alloc: Global,
     options: &str,
@@ -215,8 +222,8 @@ fn write_listing(
     Some(list(alloc, &mut input, stdout, stderr, !options.is_empty()))
 }
 
-// Runs a program on the request in the options, as `fcasm run` does. Returns `None` if an option or
-// the method is unknown.
+// Runs a program on the request in the options, as `fcasm run` does, and returns the status.
+// Returns `None` if an option or the method is unknown.
 fn run_asked(
     alloc: Global,
     options: &str,
@@ -254,21 +261,22 @@ fn asked_by(alloc: Global, options: &str) -> Option<Result<Asked, AskedError>> {
     })
 }
 
-// Returns the word after an option's name, or `None` if the option isn't given.
+// Returns the word after an option's name, or `None` if the name or that word is missing.
 fn option<'a>(options: &'a str, name: &str) -> Option<&'a str> {
     let mut words = options.split_whitespace();
     words.find(|word| *word == name)?;
     words.next()
 }
 
-// Returns whether each word that begins with two dashes is one of these names. If not, the stage
-// has an unknown option.
+// Returns whether each word that begins with two dashes is one of these names. If one isn't, the
+// stage has an unknown option.
 fn are_options(options: &str, names: &[&str]) -> bool {
     let mut words = options.split_whitespace();
     words.all(|word| !word.starts_with("--") || names.iter().any(|name| *name == word))
 }
 
-// Writes bytes as hex digits, with the eight bytes of a slot in each line.
+// Appends bytes to `out` as lines of hex digits, each with the eight bytes of a slot. Returns an
+// error if memory can't be allocated.
 fn write_digits(alloc: Global, bytes: &[u8], out: &mut Vec<u8>) -> Result<(), AllocError> {
     for slot in bytes.chunks(LINE) {
         let digits = hex::encode(alloc, slot)?;
@@ -278,7 +286,9 @@ fn write_digits(alloc: Global, bytes: &[u8], out: &mut Vec<u8>) -> Result<(), Al
     Ok(())
 }
 
-// Writes the bytes of lines of hex digits; returns `None` if they aren't hex digits.
+// Replaces `out` by the bytes that lines of hex digits represent, and returns `Done`. Returns
+// `Failed` if memory can't be allocated, and `None` if the lines aren't an even number of hex
+// digits.
 fn write_bytes(alloc: Global, lines: &[u8], out: &mut Vec<u8>) -> Option<Status> {
     let digits = lines.iter().copied().filter(|byte| *byte != b'\n');
     let Ok(digits) = digits.collect::<Vec<u8>>(alloc) else {

@@ -35,7 +35,7 @@ module _ {M : Type 1} {𝓤 : Ura M} {𝓛 : Logic 𝓤} {K : Type 0} {Γ : List
       feq_i t (List Val) (v ∷ []) (v ∷ []) refl $ fjoin t $
       fpack t (Valss (RawPtr ∷ bool ∷ [])) (within (shape handle.the_type) (h.at, (h.held, tt)) (v ∷ [])) (ptr_val h.at ∷ [], (vbool h.held ∷ [], tt)) $ fjoin t $ s)
 
-  -- by its flag, which says whether it holds a box
+  -- a case for each value of the handle's flag, which says whether the handle holds a box
   by_value : K → (p : Ptr) (held : Bool) (value : Option (inner.the_row).Denot) → held ≡ is_some value
       → (value ≡ None → held ≡ false → Seq K 𝓛 Γ G)
       → ((b o : ℕ) (x : (inner.the_row).Denot) → value ≡ Some x → p ≡ block_ptr b o → held ≡ true → Seq K 𝓛 (‵ (box_owns chunk inner.the_row (block_ptr b o) x) ∷ Γ) G)

@@ -1,4 +1,4 @@
--- The initial state of a server, by the configuration that C passes.
+-- The initial state of a server, from the configuration that C passes.
 use Rattle.std.specs.Prelude.{ℕ, ◌&&◌, Bool, true, List, [], ◌∷◌, nat_le, if◌then◌else◌, ◌==◌}
 use Rattle.fc_core.specs.declared.policy.Network.{Network}
 use Rattle.fc_core.specs.Policies.{any_address}
@@ -22,7 +22,7 @@ is_valid c =
     nat_le c.manager_count 4 && nat_le c.exchanges 65536 && nat_le c.confirm_after 86400000 && nat_le c.first_serial 9223372036854775807
     && are_prefixes c.managers
 
--- the default if the value is 0.
+-- the value, or the default if the value is 0.
 abbrev pub or_default : ℕ → ℕ → ℕ
 or_default value default = if value == 0 then default else value
 
@@ -30,8 +30,8 @@ or_default value default = if value == 0 then default else value
 abbrev pub network_for : Subnet → Network
 network_for s = record { ip = s.address; bits = s.prefix }
 
--- if no manager is given, any address may change programs. Otherwise the last manager given is
--- repeated for those that are missing.
+-- the four networks of managers. If no manager is given, any address may change programs. Otherwise
+-- the last manager that is given is repeated until there are four.
 abbrev pub four_of : ℕ → Network → Network → Network → Network → List Network
 four_of count a b c d =
     if count == 0 then any_address ∷ any_address ∷ any_address ∷ any_address ∷ []
@@ -44,7 +44,7 @@ abbrev pub managers_for : ℕ → List Subnet → List Network
 managers_for count (a ∷ b ∷ c ∷ d ∷ []) = four_of count (network_for a) (network_for b) (network_for c) (network_for d)
 managers_for count other = []
 
--- the serial and the message ID are the configuration's, and so is the policy.
+-- the initial state of a server: the configuration's serial, message ID and policy, with defaults.
 abbrev pub begin_for : Config → Begin
 begin_for c = record {
   serial = c.first_serial;

@@ -13,7 +13,7 @@ abbrev pub owned_at : (Ty → Ptr → Fml) → (R : RattleType) → Ptr → Opti
 owned_at holds R p None = ftrue
 owned_at holds R p (Some x) = box_owns holds R p x
 
--- the same for a handle; its flag says whether there is a box.
+-- the ownership of a handle: that at its pointer; the flag `held` says whether there is a box.
 abbrev pub owned : (Ty → Ptr → Fml) → (R : RattleType) → Ptr → Bool → Option R.Denot → Fml
 owned holds R p held value = fsep (feq Bool held (is_some value)) (owned_at holds R p value)
 

@@ -30,8 +30,8 @@ number_in Two = 2
 abbrev pub verdict_for : Program → Verdict
 verdict_for p = record { version = number_in p.version; cost = p.cost; budget = p.budget; vars_size = p.vars_size; rule = 0; slot = 0 }
 
--- the verdict on a refused image: the rule and the slot, and zeros. A slot above the greatest
--- 32-bit number is reported as that number.
+-- the verdict on a refused image: the broken rule, the slot that breaks it, and zeros. A slot above
+-- 2^32 - 1 is reported as 2^32 - 1.
 abbrev pub refusal_for : Fault → Verdict
 refusal_for f = record { version = 0; cost = 0; budget = 0; vars_size = 0; rule = number_of f.rule; slot = min f.slot 4294967295 }
 
@@ -42,7 +42,7 @@ pub record HasLoaded (image : List ℕ) (new : Option Program) (verdict : Verdic
   pub accepts : judged image ≡ Accepts program
   pub told : verdict ≡ verdict_for program
 
--- the image breaks this rule at this slot, and the verdict is the refusal's.
+-- the image is refused for a fault, a broken rule with its slot, and the verdict states this fault.
 pub record HasRefused (image : List ℕ) (verdict : Verdict) : Type 0 where
   pub fault : Fault
   pub refused : IsRefusal image (Broken fault)
@@ -50,7 +50,7 @@ pub record HasRefused (image : List ℕ) (verdict : Verdict) : Type 0 where
 
 -- ---- running
 
--- the method, by the flag of C.
+-- the method that the flag of C states.
 abbrev pub method_for : Bool → Method
 method_for true = Post
 method_for false = Get
@@ -64,8 +64,8 @@ format_for false n = None
 abbrev pub request_for : RequestHead → List ℕ → List ℕ → Request
 request_for head query payload = request_with (method_for head.is_post) head.slot (format_for head.has_format head.format) query payload
 
--- the lengths are in their ranges: the variables are of the program's size, and the reply has room
--- for the longest reply.
+-- the lengths are in their ranges: the variables have the program's `vars_size`, and `reply` has
+-- room for the longest reply.
 pub record FitsRun (program : Program) (head : RequestHead) (query payload vars reply : List ℕ) : Type 0 where
   pub query_fits : length query ≤ 64
   pub payload_fits : length payload ≤ 1024
@@ -89,8 +89,8 @@ pub record IsReported (r : Ran) (vars old reply : List ℕ) (response : Response
   pub rest_is : drop response.size reply ≡ drop response.size old
   pub vars_are : vars ≡ (meaning_of r).vars
 
--- a program has run, and the frame doesn't matter: the program and its input determine all that was
--- written.
+-- a program has run. The program and its input determine all that was written, so the frame doesn't
+-- matter.
 pub record HasRunProgram (program : Program) (request : Request) (readings found vars old reply : List ℕ) (response : ResponseHead) : Type 0 where
   pub run : IsRun program (input_with request found readings)
   pub reported : IsReported (ran program request found readings) vars old reply response

@@ -16,7 +16,8 @@ use Rattle.numzela.specs.declared.server.Datagram.{Datagram}
 use Rattle.numzela.specs.declared.server.Peer.{Peer}
 use Rattle.numzela.specs.declared.server.Serving.{Serving}
 
--- the configuration is valid, and the handle holds a server that begins by it.
+-- the configuration is valid, and the handle holds a server in the initial state that the
+-- configuration states.
 pub record HasBegun (config : Config) (new : Option Serving) : Type 0 where
   pub made : Serving
   pub holds : new ≡ Some made
@@ -29,7 +30,7 @@ pub record HasBegun (config : Config) (new : Option Serving) : Type 0 where
 abbrev pub endpoint_for : Peer → Endpoint
 endpoint_for p = record { ip = p.address; port = p.port }
 
--- the datagram written is this emission, and its size is the emission's.
+-- the written datagram is the emission, with the emission's receiver, size and bytes.
 pub record IsWritten (emission : Emission) (out : Datagram) : Type 0 where
   pub to : endpoint_for out.to ≡ emission.to
   pub size : out.size ≡ length emission.bytes.items
@@ -41,13 +42,13 @@ Writes status None out = status ≡ 0
 Writes status (Some emission) out = (status ≡ 1) × IsWritten emission out
 
 -- the server handled a datagram as its engine does, whatever the history so far, and the emission
--- that this sends was written.
+-- that the engine sends, if any, was written.
 pub record HasReceived (readings : List ℕ) (now : ℕ) (from : Peer) (bytes : Bor (List ℕ)) (old new : ServerState) (status : ℕ) (out : Datagram) : Type 0 where
   pub sent : Option Emission
   pub handles : let to = endpoint_for from in Handles readings now to bytes (delivered (advanced old.front now) to bytes.now) old new sent
   pub writes : Writes status sent out
 
--- the same for the server of a handle.
+-- the server of a handle handled a datagram, and the handle holds it afterwards.
 pub record HasReceivedHeld (readings : List ℕ) (now : ℕ) (from : Peer) (bytes : Bor (List ℕ)) (old new : Option Serving) (status : ℕ) (out : Datagram) : Type 0 where
   pub before : Serving
   pub after : Serving
@@ -57,8 +58,8 @@ pub record HasReceivedHeld (readings : List ℕ) (now : ℕ) (from : Peer) (byte
 
 -- ---- what is left to do
 
--- steps were taken. Either the status is OK, they sent nothing, and `AreFlushed` holds; or it is
--- SEND, one of them sent just the written datagram, and the others nothing.
+-- steps were taken. If the status is OK, the steps sent nothing, and `AreFlushed` holds. Otherwise
+-- the status is SEND, one step sent just the written datagram, and the other steps sent nothing.
 pub record HasFlushed (now : ℕ) (old new : SingleThread) (status : ℕ) (out : Datagram) : Type 0 where
   pub steps : List FlushingStep
   pub taken : AreStepsBy alone_calls now steps old new
@@ -73,7 +74,7 @@ pub record HasPolled (readings : List ℕ) (now random : ℕ) (old new : SingleT
   pub with : handed.handed ≡ record { readings = readings; random = random }
   pub flushed : HasFlushed now handed new status out
 
--- the same for the server of a handle.
+-- the server of a handle was polled, and the handle holds it afterwards.
 pub record HasPolledHeld (readings : List ℕ) (now random : ℕ) (old new : Option Serving) (status : ℕ) (out : Datagram) : Type 0 where
   pub before : Serving
   pub after : Serving
@@ -83,7 +84,7 @@ pub record HasPolledHeld (readings : List ℕ) (now random : ℕ) (old new : Opt
 
 -- ---- time
 
--- the server's clock advanced, and it sent nothing.
+-- the clock of the handle's server advanced, and the server sent nothing.
 pub record HasAdvanced (now : ℕ) (old new : Option Serving) : Type 0 where
   pub before : Serving
   pub after : Serving

@@ -1,4 +1,4 @@
-//! The configuration of a server, as C passes it: zeros are the defaults.
+//! The configuration of a server, as C passes it. A configuration of zeros is the default.
 ghost use Rattle.std.specs.Prelude.{◌≡◌, true};
 ghost use Rattle.fc_server.specs.States.{CanBegin};
 ghost use Rattle.numzela.specs.Configs.{begin_for, is_prefix, is_valid, managers_for, network_for, or_default};
@@ -10,7 +10,7 @@ use fc_server::Begin;
 
 /// Greatest `confirm_after`, in milliseconds, and its default: 24 hours.
 ///
-/// After this time a notification is confirmable (RFC 7641, section 4.5).
+/// After the time `confirm_after`, a notification is confirmable (RFC 7641, section 4.5).
 const LONGEST: u64 = 86_400_000;
 
 /// The greatest serial that slots may begin with.
@@ -28,8 +28,9 @@ pub struct Subnet {
 
 /// The initial state of a server, and its policy.
 ///
-/// A 0 in `confirm_after`, `exchanges` or `share` is the default. With no managers any address may
-/// change programs.
+/// `first_serial` is the slots' first serial, and `first_id` the server's first message ID.
+/// `confirm_after` is in milliseconds. A 0 in `confirm_after`, `exchanges` or `share` is the
+/// default. With no managers any address may change programs.
 #[repr(C)]
 #[derive(Clone, Copy)]
 pub struct Config {
@@ -45,8 +46,9 @@ pub struct Config {
 /// Returns whether each field is in its range.
 ///
 /// There are at most four managers, prefixes of at most 32 bits, and 65,536 exchanges.
-/// `confirm_after` is at most 86,400,000 ms, and the serial is below 2^63. The prefixes of all four
-/// entries count. `numzela_server_new` makes no server with any other configuration.
+/// `confirm_after` is at most 86,400,000 ms, and the serial is below 2^63. All four entries of
+/// `managers` need a valid prefix, even those past the count. `numzela_server_new` makes no server
+/// with any other configuration.
 pub(crate) fn is_valid(config: &Config) -> bool
     ensures valid { result ≡ is_valid config.now }
     ensures begins { result ≡ true → CanBegin (begin_for config.now) }
@@ -94,8 +96,8 @@ fn or_default(value: u64, default: u64) -> u64
     if value == 0 { default } else { value }
 }
 
-// Returns the networks of the first `count` managers. The last one of them is repeated for those
-// that are missing. With none, every address is a manager's.
+// Returns the networks of the first `count` managers. The last of these networks is repeated until
+// there are four. If `count` is 0, all four networks contain every address.
 fn managers_for(count: u8, subnets: &[Subnet; 4]) -> Managers
     ensures { result ≡ managers_for count subnets.now }
 {

@@ -9,7 +9,7 @@ use std::alloc::{AllocError, Global};
 use std::marker::Model;
 use std::mem::replace;
 
-/// The handle of a frame: a box, or nothing.
+/// The handle of a frame, which owns a box with the frame, or nothing.
 ///
 /// A handle of zeros is empty.
 #[repr(C)]
@@ -91,7 +91,7 @@ impl Frame {
         replace(self, Frame::empty()).into_box(alloc)
     }
 
-    // Puts a frame into the handle, from which `take` has taken any other.
+    // Puts a frame into the handle, which `take` has left empty.
     pub(crate) fn put(&mut self, machine: Box<fc_machine::Frame>)
         ensures { self.new.value ≡ Some machine.value }
     {
@@ -101,7 +101,8 @@ impl Frame {
 
 /// Makes a frame in an empty handle.
 ///
-/// Returns `OK`, `NO_MEMORY` or `IN_USE`. Unless the result is `OK`, the handle is unchanged.
+/// Returns `OK`, `NO_MEMORY` if memory can't be allocated, or `IN_USE` if the handle isn't empty.
+/// Unless the result is `OK`, the handle is unchanged.
 #[unsafe(no_mangle)]
 pub extern "C" fn numzela_frame_new(alloc: Global, frame: &mut Frame) -> u32
     ensures ok { result ≡ OK → is_some frame.new.value ≡ true }

@@ -21,8 +21,8 @@ pub fn statuses_have_their_numbers()
 
 /// A server with a configuration of zeros begins with the defaults.
 ///
-/// They are serial 0, message ID 0, and the default policy. The entries of `managers` don't count
-/// then.
+/// The defaults are serial 0, message ID 0, and the default policy, for any entries of `managers`.
+/// If the entries are zeros too, the configuration is valid.
 pub fn zeros_are_the_defaults()
     ensures begins { (a b c d : Subnet) → begin_for (record {
       first_serial = 0;
@@ -46,10 +46,10 @@ pub fn zeros_are_the_defaults()
         }) ≡ true }
 {}
 
-/// The last manager given is repeated for those that are missing.
+/// The last manager that is given is repeated until there are four.
 ///
-/// For 192.0.2.0/24 and 10.0.0.0/8, with a count of 2, these are the four networks: the first, and
-/// three times the second.
+/// For 192.0.2.0/24 and 10.0.0.0/8, with a count of 2, the four networks are the first one, and
+/// then the second one three times.
 pub fn the_last_manager_is_repeated()
     ensures { (c d : Subnet)
         → managers_for 2 (record { address = 192 ∷ 0 ∷ 2 ∷ 0 ∷ []; prefix = 24 } ∷ record { address = 10 ∷ 0 ∷ 0 ∷ 0 ∷ []; prefix = 8 } ∷ c ∷ d ∷ [])

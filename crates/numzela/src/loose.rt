@@ -1,13 +1,13 @@
 //! A box as its pointer, which owns the box's contents.
 //!
-//! The kit's `once_cell` has the same for itself alone, with the same proofs.
+//! The kit's `once_cell` has the same type with the same proofs, but no other crate can use it.
 ghost use Rattle.std.specs.Prelude.{◌≡◌};
 ghost use Rattle.std.specs.Box.Ownership.{box_owns};
 
 use std::alloc::Allocator;
 use std::marker::Model;
 
-/// The type that C sees at the end of a handle's pointer.
+/// The type to which a handle's pointer points, for C.
 #[repr(C)]
 #[derive(Drop)]
 pub struct Opaque {
@@ -34,7 +34,7 @@ impl<T: Drop, A: Allocator> Loose<T, A> {
         Loose { at, alloc }
     }
 
-    /// Makes the box again that [`Loose::of`] took apart.
+    /// Makes the box that [`Loose::of`] took apart.
     pub(crate) fn into_box(self) -> Box<T, A>
         ensures { result.value ≡ self.value }
     {

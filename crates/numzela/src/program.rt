@@ -20,7 +20,7 @@ use std::alloc::Global;
 use std::marker::Model;
 use std::mem::replace;
 
-/// The handle of a program: a box, or nothing.
+/// The handle of a program, which owns a box with the program, or nothing.
 ///
 /// A handle of zeros is empty.
 #[repr(C)]
@@ -102,7 +102,7 @@ impl Program {
         replace(self, Program::empty()).into_box(alloc)
     }
 
-    // Puts a program into the handle, from which `take` has taken any other.
+    // Puts a program into the handle, which `take` has left empty.
     fn put(&mut self, verified: Box<Verified>)
         ensures { self.new.value ≡ Some verified.value }
     {
@@ -112,8 +112,9 @@ impl Program {
 
 /// The verdict on an image.
 ///
-/// For an accepted image it has the program's version, cost, budget and size of variables. For a
-/// refused image it has the rule that the image breaks, and the slot. The other numbers are 0.
+/// For an accepted image it has the image's version, the program's cost and budget, and the size of
+/// its variables. For a refused image it has the rule that the image breaks, and the slot that
+/// breaks it. The other numbers are 0.
 #[repr(C)]
 #[derive(Clone, Copy)]
 pub struct Verdict {
@@ -127,8 +128,8 @@ pub struct Verdict {
 
 /// A request without its bytes.
 ///
-/// It has the slot of its resource, which may be any, its method, and the Content-Format of its
-/// payload.
+/// It has the slot of the requested resource (any number), the method, and the Content-Format of
+/// the payload if `has_format`.
 #[repr(C)]
 #[derive(Clone, Copy)]
 pub struct RequestHead {
@@ -153,8 +154,9 @@ pub struct ResponseHead {
 
 /// Verifies an image, and loads its program into an empty handle.
 ///
-/// Returns `OK`, `REFUSED`, `NO_MEMORY` or `IN_USE`. Unless the result is `OK`, the handle is
-/// unchanged. The verdict is written if the result is `OK` or `REFUSED`.
+/// Returns `OK`, `REFUSED` if the image breaks a rule, `NO_MEMORY` if memory can't be allocated, or
+/// `IN_USE` if the handle isn't empty. Unless the result is `OK`, the handle is unchanged. The
+/// verdict is written if the result is `OK` or `REFUSED`.
 #[unsafe(no_mangle)]
 pub extern "C" fn numzela_program_load(
     alloc: Global,
@@ -215,7 +217,7 @@ fn accepted(verified: &Verified) -> Verdict
     }
 }
 
-// Returns the number of an image's version for C.
+// Returns the number of an image's version, 1 or 2, for C.
 fn version_number(version: ImageVersion) -> u32
     ensures { result ≡ number_in version }
 {
@@ -279,7 +281,8 @@ pub extern "C" fn numzela_program_run(
     status
 }
 
-// Runs a program in the frame of a handle. Returns `EMPTY` if the handle holds no frame.
+// Runs a program in the frame of a handle. Returns `EMPTY` if the handle holds no frame, and
+// otherwise the status of `run_in`.
 fn run_held(
     alloc: Global,
     frame: &mut Frame,
@@ -320,8 +323,8 @@ fn run_held(
     status
 }
 
-// Runs a program in a frame. Returns `OUT_OF_RANGE`, and writes nothing, if a length isn't in its
-// range.
+// Runs a program in a frame, writes the results, and returns `OK`. Returns `OUT_OF_RANGE`, and
+// writes nothing, if a length isn't in its range.
 fn run_in(
     machine: &mut fc_machine::Frame,
     verified: &Verified,

@@ -1,4 +1,4 @@
-//! A single-threaded server for a caller with the sockets, clock and device.
+//! A single-threaded server, whose caller has the sockets, the clock and the device.
 ghost use Rattle.std.specs.Prelude.{◌≡◌, ◌≤◌, ◌⊎◌, [], false, is_some, true, Option, Some, None, IfOk};
 ghost use Rattle.fc_core.specs.Receiving.{emission_if};
 ghost use Rattle.fc_server.specs.Serving.{Serves};
@@ -29,7 +29,7 @@ pub struct Serving {
     emission: Emission,
 }
 
-/// The handle of a server: a box, or nothing.
+/// The handle of a server, which owns a box with the server, or nothing.
 ///
 /// A handle of zeros is empty.
 #[repr(C)]
@@ -112,7 +112,7 @@ impl Server {
         replace(self, Server::empty()).into_box(alloc)
     }
 
-    // Puts a server into the handle, from which `take` has taken any other.
+    // Puts a server into the handle, which `take` has left empty.
     fn put(&mut self, serving: Box<Serving>)
         ensures { self.new.value ≡ Some serving.value }
     {
@@ -141,7 +141,8 @@ pub struct Datagram {
 
 /// Makes a server of empty slots in an empty handle.
 ///
-/// Returns `OK`, `OUT_OF_RANGE`, `NO_MEMORY` or `IN_USE`. Unless the result is `OK`, the handle is
+/// Returns `OK`, `OUT_OF_RANGE` if the configuration isn't valid, `NO_MEMORY` if memory can't be
+/// allocated, or `IN_USE` if the handle isn't empty. Unless the result is `OK`, the handle is
 /// unchanged.
 #[unsafe(no_mangle)]
 pub extern "C" fn numzela_server_new(alloc: Global, server: &mut Server, config: &Config) -> u32
@@ -211,9 +212,10 @@ pub extern "C" fn numzela_server_receive(
 
 /// Performs the pending work, up to the next datagram to send.
 ///
-/// The datagram, a retransmission or a notification, is written. The time is in milliseconds.
-/// Returns `SEND` if a datagram was written, else `OK`, or `EMPTY` if the handle is empty. Unless
-/// the result is `SEND`, `out` is unchanged. The caller polls again after each `SEND`.
+/// The datagram, a retransmission or a notification, is written. The time is in milliseconds. The
+/// jobs get `readings` as their sensor input, and `random`. Returns `SEND` if a datagram was
+/// written, else `OK`, or `EMPTY` if the handle is empty. Unless the result is `SEND`, `out` is
+/// unchanged. The caller polls again after each `SEND`.
 #[unsafe(no_mangle)]
 pub extern "C" fn numzela_server_poll(
     alloc: Global,
@@ -253,8 +255,8 @@ pub extern "C" fn numzela_server_advance(alloc: Global, server: &mut Server, now
 
 /// Writes a time in milliseconds before which there is nothing to do.
 ///
-/// A datagram that is received may change that. At 2^64 - 1 there is nothing to do at any time.
-/// Returns `OK`, or `EMPTY` if the handle is empty; then `deadline` is unchanged.
+/// A datagram that is received may change this time. The time 2^64 - 1 means that there is never
+/// anything to do. Returns `OK`, or `EMPTY` if the handle is empty; then `deadline` is unchanged.
 #[unsafe(no_mangle)]
 pub extern "C" fn numzela_server_deadline(
     alloc: Global,
@@ -317,9 +319,9 @@ impl Serving {
         self.flush(now, out)
     }
 
-    // Takes the pending steps at a time, up to the first that sends. Returns `SEND` if a datagram
-    // was written over `out`. Otherwise returns `OK`: no work is left, no message ID was available,
-    // or `STEPS` steps were taken.
+    // Takes the pending steps at the time `now`, up to the first step that sends. Returns `SEND` if
+    // a datagram was written over `out`. Otherwise returns `OK`: no work is left, no message ID was
+    // available, or `STEPS` steps were taken.
     fn flush(&mut self, now: u64, out: &mut Datagram) -> u32
         ensures flushed { HasFlushed now self.old.alone self.new.alone result out.new }
         ensures status { result ≤ 1 }

@@ -5,8 +5,8 @@ use fc_rules::{rule_numbered, rule_text};
 
 /// Writes the text of the rule with a number, as far as it fits.
 ///
-/// The text says how an image breaks the rule. Returns the number of bytes that were written. It is
-/// 0 if no rule has the number; the clause says only that the bytes fit.
+/// The text says how an image breaks the rule. Returns the number of bytes that were written, which
+/// is 0 if there is no such rule. The contract says only that these bytes fit into `out`.
 #[unsafe(no_mangle)]
 pub extern "C" fn numzela_rule_text(rule: u32, out: &mut [u8]) -> usize
     ensures { result ≤ length out.old }

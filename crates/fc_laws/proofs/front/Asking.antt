@@ -1,4 +1,4 @@
--- A job of a delivery has the request of its message.
+-- A job that a delivered message makes has the fields of that message's request.
 use Rattle.std.proofs.Common.{◌≡◌, ◌≢◌, ℕ, ◌+◌, ◌<◌, ◌≤◌, Bool, true, false, List, [], ◌∷◌, ◌++◌, length, map, Option, Some, None, Ok, refl, sym, ap, ◌∙◌, subst, arith, max, if◌then◌else◌}
 use Rattle.std.specs.Prelude.{◌↔◌, ◌==◌, ◌||◌, codes, if◌then◌else◌, nat_lt}
 use Rattle.std.specs.List.{flat_map, join_by}
@@ -60,7 +60,7 @@ one_job [] j e = absurd (cc e)
 one_job (x ∷ []) j e = ap (λ (y : Job). y ∷ []) (ap head_job e)
 one_job (x ∷ y ∷ l) j e = absurd (cc e)
 
--- the message is served, with this job.
+-- the classified message opens an exchange and makes this job.
 record IsOpened (x : Received) (o : Opening) (to : Endpoint) (j : Job) : Type 0 where
   message : Message
   asked : Asked
@@ -88,7 +88,7 @@ looked_opened (IsAgain bytes) m first new r body e = absurd (cc e)
 looked_opened IsTableFull m first new r body e = absurd (cc e)
 looked_opened IsOverShare m first new r body e = absurd (over_opened (is_confirmable m.kind) m first r body e)
 
--- a request of a message that is served with a body.
+-- the message is a request that is served with this body, and its endpoint is allowed to send it.
 record IsCarriedOut (f : FrontState) (to : Endpoint) (m : Message) (v : Verdict) (first : Message) (r : Asked) (body : List ℕ) : Type 0 where
   message : m ≡ first
   asks : v ≡ IsAsked r
@@ -124,7 +124,7 @@ carried_out f to m IsReset first r body e = absurd (cc e)
 carried_out f to m (IsSignal reset) first r body e = absurd (cc e)
 carried_out f to m IsIgnored first r body e = absurd (cc e)
 
--- the job is that of a message's request, with its complete body.
+-- the job is that of the message's request, with the complete body of the request.
 pub record IsJobOf (f : FrontState) (to : Endpoint) (m : Message) (j : Job) : Type 0 where
   pub asked : Asked
   pub body : List ℕ
@@ -157,11 +157,11 @@ method_by m r code method made c is = let same : Some (method_in r.action) ≡ S
 resource_by : (m : Message) (r : Asked) (at : Resource) → IsMadeOf m r → values option.URI_PATH m ≡ path_of at → IsResource at → resource_in r.action ≡ at
 resource_by m r at made p within = let same : Some (resource_in r.action) ≡ Some at = sym made.resource_is ∙ (ap resource_of p ∙ path_named at within) in cc same
 
--- a job's request, made from its message.
+-- the request of a job is made from the fields of the job's message.
 fields_of : (f : FrontState) (to : Endpoint) (m : Message) (j : Job) (w : IsJobOf f to m j) → IsMadeOf m w.asked
 fields_of f to m j w = asked_made m w.asked w.asks
 
--- action of its code and its path.
+-- the action of a served request is that of its code and its path.
 action_by : (m : Message) (r : Asked) (code : ℕ) (method : Method) (at : Resource) (action : Action) → IsMadeOf m r → m.code ≡ code → method_of code ≡ Some method → values option.URI_PATH m ≡ path_of at → IsResource at → action_of at method ≡ Some action → r.action ≡ action
 action_by m r code method at action made c is p within served =
     let same : Some r.action ≡ Some action = sym (action_served r.action) ∙ ((λ i. action_of (resource_by m r at made p within i) (method_by m r code method made c is i)) ∙ served) in
@@ -189,7 +189,7 @@ whole_is : (b : Bool) (bytes body : List ℕ) → (if b then IsTooLarge else IsW
 whole_is true bytes body e = absurd (cc e)
 whole_is false bytes body e = cc e
 
--- without a block the body is the payload
+-- the body of a request without a block is the request's payload.
 body_is : (f : FrontState) (to : Endpoint) (r : Asked) (body : List ℕ) → r.block1 ≡ None → add_in f to r ≡ IsWhole body → body ≡ r.payload
 body_is f to r body none e =
     whole_is (nat_lt 8208 (0 + length r.payload)) r.payload body (subst (λ (b : Option Place). add_of f.transfers f.now to (slot_asked r.action) b r.payload ≡ IsWhole body) none e)
@@ -205,7 +205,7 @@ puts r s from m j n lt b q none =
 
 -- ---- whether a PUT keeps the variables
 
--- a PUT's query determines what happens to the variables, whatever its body.
+-- the query of a PUT determines what happens to the variables, whatever the PUT's body.
 put_variables : (r : Entry) (s : Seen) (from : Endpoint) (m : Message) (j : Job) (n : ℕ) → n < 64 → BringsJob r s from m j → Requests m 3 (program_path n)
     → initial_vars_of j.ask ≡ initial_vars_by (query m)
 put_variables r s from m j n lt b q =
@@ -221,7 +221,7 @@ zeroed_if false differs = refl
 zeroed_by : (query : List ℕ) → (query ≡ codes "keep" → ⊥) → initial_vars_by query ≡ Zeros
 zeroed_by query differs = zeroed_if (bytes_eq query (codes "keep")) (λ e. differs ((bytes_eq-Decides query (codes "keep")).0 e))
 
--- a `&` is among these bytes
+-- whether a `&` is among these bytes.
 abbrev has_ampersand : List ℕ → Bool
 has_ampersand [] = false
 has_ampersand (b ∷ bytes) = (b == 38) || has_ampersand bytes
@@ -237,7 +237,7 @@ among (b ∷ before) after = either_true (b == 38) (has_ampersand (before ++ (38
 no_ampersand : (before after : List ℕ) → before ++ (38 ∷ after) ≡ codes "keep" → ⊥
 no_ampersand before after e = let clash : true ≡ false = sym (among before after) ∙ ap has_ampersand e in cc clash
 
--- so only one option makes it.
+-- if query options joined by `&` make `keep`, there is only one option, and it is `keep`.
 joined_keep : (values : List (List ℕ)) → join_by (λ v. v) (codes "&") values ≡ codes "keep" → values ≡ codes "keep" ∷ []
 joined_keep [] e = absurd (cc e)
 joined_keep (value ∷ []) e = ap (λ (v : List ℕ). v ∷ []) (sym (append-nil value) ∙ e)
@@ -356,7 +356,7 @@ no_block_is r s from m j b not_get not_put =
     let second = no_block methods.Get (method_in w.asked.action) w.asked.block2 within.block2 (λ e. not_get (code ∙ ap method_code e)) in
     ap (λ (x : Job). x.block) w.is ∙ (λ i. named_block (first i) (second i))
 
--- it is another resource than a run.
+-- the resource isn't that of a run.
 abbrev IsElsewhere : Resource → Type 0
 IsElsewhere (resources.Run n) = ⊥
 IsElsewhere other = Unit {0}
@@ -366,7 +366,7 @@ elsewhere (resources.Run m) n w e = w
 elsewhere (resources.Program m) n w e = cc e
 elsewhere resources.Core n w e = cc e
 
--- for a run, the value of Observe counts.
+-- the Observe of a request to run a program has the value of its option.
 observed_by : (action : Action) (n : ℕ) (value : Option ℕ) → resource_in action ≡ resources.Run n → observe_at action value ≡ value
 observed_by (actions.Get k) n value e = refl
 observed_by (actions.Post k) n value e = refl
@@ -395,7 +395,7 @@ etags_are r s from m j b plain =
     let neither = ap observes fields.observe_is ∙ plain_by w.asked.action (number_in option.OBSERVE m) plain.no_registration plain.no_cancellation in
     ap (λ (x : Job). x.etags.items) w.is ∙ (λ i. etags_by (neither i) (fields.etags_are i))
 
--- if the client registers or cancels.
+-- a job whose message registers or cancels has no ETags.
 no_etags : (r : Entry) (s : Seen) (from : Endpoint) (m : Message) (j : Job) (n value : ℕ) → n < 64 → BringsJob r s from m j → values option.URI_PATH m ≡ run_path n → number_in option.OBSERVE m ≡ Some value → observes (Some value) ≡ true → j.etags.items ≡ []
 no_etags r s from m j n value lt b p is counts =
     let w = job_brought r s from m j b in

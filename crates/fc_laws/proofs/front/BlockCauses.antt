@@ -54,7 +54,7 @@ is_too_large IsFull m r e = let same : code 5 3 ≡ 141 = ap settled_code e in a
 pub by_added : (x y : Add) (m : Message) (r : Asked) → x ≡ y → received_added x m r ≡ received_added y m r
 by_added x y m r e = ap (λ (z : Add). received_added z m r) e
 
--- the immediate answer.
+-- the response that is sent immediately.
 abbrev response_of : Received → Response
 response_of (Immediate m r response) = response
 response_of other = bare 0
@@ -70,7 +70,7 @@ answered_at_once IsFull m r b response is e = Unavailable (sym (ap response_of e
 pub at_once : (s : Seen) (now : ℕ) (to : Endpoint) (m : Message) (r : Asked) (b : Place) (response : Response) → r.block1 ≡ Some b → asked_at s now to m r ≡ Immediate m r response → IsAnswerAtOnce b response
 at_once s now to m r b response is e = answered_at_once (add_in (front_at s now) to r) m r b response is e
 
--- ---- its effects
+-- ---- the effects of a block that doesn't fit
 
 pub responding_emits : (e : Event) (s : Seen) (m : Message) (r : Asked) (answer : ℕ) (emitted : Option Emission) → Asks s e m r → RespondsNowBy s e m r answer → Emits s e emitted → emitted ≡ bare_by s e m answer
 responding_emits (Deliver now to bytes) s m r answer emitted w is legal = legal ∙ ap (λ (x : Received). sent x (front_at s now) to) (anew_is s now to bytes.now m r w ∙ is)

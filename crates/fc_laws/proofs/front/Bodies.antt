@@ -77,7 +77,7 @@ is_whole IsFull m r body e = absurd (cc e)
 pub is_opened : (x : Add) (m : Message) (r : Asked) (body : List ℕ) → x ≡ IsWhole body → received_added x m r ≡ Opened m r body
 is_opened x m r body e = ap (λ (x : Add). received_added x m r) e
 
--- code that is sent immediately.
+-- the code of the response that is sent immediately.
 abbrev pub settled_code : Received → ℕ
 settled_code (Immediate m r response) = response.code
 settled_code other = 0
@@ -93,13 +93,13 @@ goes_on IsFull m r b e = let same : code 5 3 ≡ code 2 31 = ap settled_code e i
 pub is_continued : (x : Add) (m : Message) (r : Asked) (b : Place) → r.block1 ≡ Some b → x ≡ Continues → received_added x m r ≡ Immediate m r (settled_by (code 2 31) (Some b))
 is_continued x m r b is e = ap (λ (x : Add). received_added x m r) e ∙ ap (λ (block : Option Place). Immediate m r (settled_by (code 2 31) block)) is
 
--- result for the block of a new request.
+-- the result of adding the payload of a new request with a block is that of adding the block.
 pub added_block : (s : Seen) (now : ℕ) (to : Endpoint) (r : Asked) (b : Place) → r.block1 ≡ Some b → add_of (transfers s.additions) (max s.time now) to (slot_asked r.action) r.block1 r.payload ≡ block_added (transfers s.additions) (max s.time now) to (slot_asked r.action) b r.payload
 added_block s now to r b is = ap (λ (block : Option Place). add_of (transfers s.additions) (max s.time now) to (slot_asked r.action) block r.payload) is
 
 -- ---- added payloads
 
--- the classification of a new request is the result for its payload.
+-- the classification of a new request is determined by the result of adding its payload.
 pub anew_is : (s : Seen) (now : ℕ) (to : Endpoint) (bytes : List ℕ) (m : Message) (r : Asked) → IsAskedAnew s now to bytes m r → received_at s now to bytes ≡ asked_at s now to m r
 anew_is s now to bytes m r w =
     let message : w.opens.message ≡ m = cc (sym w.opens.read ∙ w.read) in
@@ -108,7 +108,7 @@ anew_is s now to bytes m r w =
     ∙ (ap (λ (v : Verdict). new_as (front_at s now) to v m) w.asks
     ∙ ap (λ (b : Bool). received_if b (front_at s now) to m r) w.allowed))
 
--- whatever the result for its payload, it is added.
+-- whatever the result of adding the payload of a new request, the payload is added.
 added_anyway : (x : Add) (m : Message) (r : Asked) (at : ℕ) (to : Endpoint) → added_by (received_added x m r) at to ≡ addition_of at to r ∷ []
 added_anyway Continues m r at to = refl
 added_anyway (IsWhole body) m r at to = refl
@@ -166,11 +166,11 @@ others_add_nothing e s not = ap (λ (l : List Addition). l ++ s.additions) (adds
 
 -- ---- effects of a block that fits
 
--- a PUT of slot N installs its body there
+-- the job of a PUT of slot N is to install the request's body there.
 put_asks : (o : Opening) (to : Endpoint) (m : Message) (r : Asked) (n : ℕ) (b : Place) (body : List ℕ) → PutsBlock r n b → (job_of o to m r body).ask ≡ Installs (record { items = body }) (initial_vars_by r.query)
 put_asks o to m r n b body w = λ i. ask_by (w.action i) r body
 
--- if this holds for each PUT at a time, the last block that fits produces its body.
+-- if a last block that fits completes the body at each time, the event's job installs this body.
 pub put_brings : (e : Event) (o : Option Emission) (s : Seen) (m : Message) (r : Asked) (n : ℕ) (b : Place) (body : List ℕ) → ((now : ℕ) (to : Endpoint) → FitsBehind s.additions (addition_at s now to r) b body → asked_at s now to m r ≡ Opened m r body) → Asks s e m r → PutsBlock r n b → FitsBy s e r b body → BringsInstall (did e o) s r n body
 put_brings (Deliver now to bytes) o s m r n b body is w puts fits = record {
   job = job_of (next_opening (front_at s now)) to m r body;
@@ -180,8 +180,8 @@ put_brings (Deliver now to bytes) o s m r n b body is w puts fits = record {
 }
 put_brings other o s m r n b body is w puts fits = absurd w
 
--- if this holds for each at a time, a block that isn't the last is answered immediately, and
--- produces nothing.
+-- if a block that fits is answered 2.31 (Continue) at each time, the event emits that response to
+-- its request.
 pub put_continues : (e : Event) (s : Seen) (m : Message) (r : Asked) (b : Place) (body : List ℕ) (emitted : Option Emission) → ((now : ℕ) (to : Endpoint) → FitsBehind s.additions (addition_at s now to r) b body → asked_at s now to m r ≡ Immediate m r (settled_by (code 2 31) (Some b))) → Asks s e m r → FitsBy s e r b body → Emits s e emitted → emitted ≡ continue_by s e m b
 put_continues (Deliver now to bytes) s m r b body emitted is w fits legal = legal ∙ ap (λ (x : Received). sent x (front_at s now) to) (anew_is s now to bytes.now m r w ∙ is now to fits)
 put_continues other s m r b body emitted is w fits legal = absurd w

@@ -85,12 +85,13 @@ needed_draws s e (TellsTurn k now turn found event at) = subst (DrawsOne s) (sym
 
 -- ---- if none is needed
 
--- message IDs are drawn only for messages that aren't confirmable.
+-- if a message is confirmable, no message ID is drawn for it.
 kept_ids : (c : Bool) (ids : Ids) (at : ℕ) → (c ≡ false → ⊥) → drawn_for c ids at ≡ ids
 kept_ids true ids at not = refl
 kept_ids false ids at not = absurd (not refl)
 
--- for any result for its payload, if it isn't answered immediately.
+-- if a new request isn't answered immediately, or is confirmable, it draws no message ID, whatever
+-- the result of adding its payload.
 added_keeps : (a : Add) (m : Message) (r : Asked) (ids : Ids) (at : ℕ) → ((response : Response) → received_added a m r ≡ Immediate m r response → is_confirmable m.kind ≡ false → ⊥)
     → drawn_by (received_added a m r) ids at ≡ ids
 added_keeps (IsWhole body) m r ids at not = refl
@@ -109,7 +110,7 @@ looked_keeps (IsAgain bytes) m new ids at crowded keeps = refl
 looked_keeps IsTableFull m new ids at crowded keeps = kept_ids (is_confirmable m.kind) ids at (crowded refl)
 looked_keeps IsOverShare m new ids at crowded keeps = over_draws (is_confirmable m.kind) m ids at refl
 
--- a search that finds no place.
+-- the look-up of a duplicate never finds the table full.
 repeated_full : (c : Bool) (a : Option (ArrayVec ℕ)) → repeated_by c a ≡ IsTableFull → ⊥
 repeated_full c None e = absurd (cc e)
 repeated_full true (Some bytes) e = absurd (cc e)
@@ -148,7 +149,7 @@ crowded_of s now to bytes m read asks is =
       full = no_place s at (one_false (nat_lt (length (held_at s at)) (places_of s.policy.limits)) (nat_lt (length s.exchanges) 18446744073709551615) parts.1);
     }
 
--- a message by its verdict
+-- a message that needs no message ID draws none; one case for each verdict.
 module _ (s : Seen) (now : ℕ) (to : Endpoint) (bytes : Bor (List ℕ)) (m : Message) (read : reading_of bytes.now ≡ Ok m) (not : NeedsId s (Deliver now to bytes) → ⊥) where
   crowded_not : IsOnRequest (verdict m) → look_in (front_at s now) to m ≡ IsTableFull → is_confirmable m.kind ≡ false → ⊥
   crowded_not asks is kind = not (AnswersAtOnce m kind (FindsNoRoom (crowded_of s now to bytes.now m read asks is)))
@@ -210,7 +211,7 @@ others_keep s other not = refl
 
 -- ---- drawn message IDs
 
--- draws after an event that leaves these message IDs.
+-- if an event leaves the message IDs unchanged, it draws none.
 same_draws : (new old : Ids) (d : Draw) (ds : List Draw) → new ≡ old → draws_by (new.next == old.next) d ds ≡ ds
 same_draws new old d ds is = ap (λ (b : Bool). draws_by b d ds) (eq-eqb new.next old.next (ap (λ (x : Ids). x.next) is))
 

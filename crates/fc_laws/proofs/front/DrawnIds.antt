@@ -22,8 +22,8 @@ use Rattle.fc_core.specs.Receiving.{Received, Full, Refused, Immediate, is_confi
 use Rattle.fc_core.specs.Receiving as receiving
 use Rattle.fc_core.specs.Stages.{content_at, needs_id}
 
--- message IDs after an event at a time: unchanged, or after a draw of the next one, which wasn't
--- drawn within a lifetime.
+-- the message IDs after an event at this time: unchanged, or after a draw of the next one. That
+-- message ID wasn't drawn within the lifetime before.
 data Draws (old : Ids) (at : ℕ) (new : Ids) : Type 0 where
   Same : (is : new ≡ old) → Draws old at new
   Next : (fresh : is_recent at (last_drawn old) ≡ false) (is : new ≡ record { next = (old.next + 1) % 65536; last = set old.last old.next (Some at) }) → Draws old at new
@@ -65,7 +65,7 @@ kept_by old new at (Next fresh is) none = absurd (cc (sym none ∙ ap (λ (b : B
 pub kept_where_none_free : (e : Event) (s : Seen) → free_id s.ids (time_by (at_front e) s) ≡ None → ids_by (at_front e) s ≡ s.ids
 kept_where_none_free e s none = kept_by s.ids (ids_by (at_front e) s) (time_by (at_front e) s) (event_draws e s) none
 
--- each draw was at the time when its message ID was last drawn, or before.
+-- for each draw, the message ID was last drawn at the time of that draw or later.
 abbrev AllKept : List (Option ℕ) → List Draw → Type 0
 AllKept last [] = Unit {0}
 AllKept last (d ∷ ds) = ((at : ℕ) × (get_or last d.id None ≡ Some at) × (d.at ≤ at)) × AllKept last ds
@@ -102,7 +102,7 @@ abbrev HasDraw : ℕ → ℕ → List Draw → Type 0
 HasDraw id a [] = ⊥
 HasDraw id a (d ∷ ds) = ((d.id ≡ id) × (d.at ≡ a)) ⊎ HasDraw id a ds
 
--- if a message ID was last drawn at a time, there is that draw.
+-- if a message ID was last drawn at a time, the list has a draw of this message ID at this time.
 abbrev AreDraws : List (Option ℕ) → List Draw → Type 0
 AreDraws last ds = (id a : ℕ) → id < 65536 → get_or last id None ≡ Some a → HasDraw id a ds
 

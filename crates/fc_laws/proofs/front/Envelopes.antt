@@ -19,7 +19,8 @@ use Rattle.fc_core.specs.Replies.{IsReplyTo}
 use Rattle.fc_laws.specs.ReplyLaws.{IsAnswerTo}
 use Rattle.fc_core.specs.Stages.{content_at}
 
--- an answer that is sent has a message ID, and is a response with it.
+-- if an answer is sent, there is a message ID for it, and the answer is a response with this
+-- message ID.
 replies_by : (live : Bool) (id : Option ℕ) (j : Job) (content : Content) (e : Emission) → IsAnswered live id j content (Some e) → (own : ℕ) × (id ≡ Some own) × IsReplyTo j own content e
 replies_by true (Some id) j content e w = (id, refl, w)
 replies_by true None j content e w = absurd (cc w)
@@ -28,7 +29,7 @@ replies_by false id j content e w = absurd (cc w)
 answered_as : (s : Seen) (k now : ℕ) (content : Content) (o : Option Emission) → stage s k ≡ ToAnswer content → Emits s (Answer k now) o → AnswerEmits (Some content) (job s k) (front_at s now) o
 answered_as s k now content o is sent = subst (λ (st : Stage). AnswerEmits (content_at st) (job s k) (front_at s now) o) is sent
 
--- to a request that is confirmable or not.
+-- an answer that is sent has the message ID that fits its request, confirmable or not.
 replied : (s : Seen) (k now : ℕ) (content : Content) (e : Emission) (c : Bool) → stage s k ≡ ToAnswer content → (job s k).confirmable ≡ c → Emits s (Answer k now) (Some e) → (own : ℕ) × (reply_id c (job s k).origin.id (free_id s.ids (max s.time now)) ≡ Some own) × IsAnswerTo (job s k) content (reply_kind c) own e
 replied s k now content e c is confirms sent =
     let j = job s k in

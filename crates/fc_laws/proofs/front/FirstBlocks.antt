@@ -1,4 +1,4 @@
--- The sent part of an answer without a requested block, and of an error.
+-- The part of an answer that is sent if no block is requested, and the response of an error.
 use Rattle.std.proofs.Common.{◌≡◌, ℕ, ◌<◌, ◌≤◌, List, ◌++◌, length, take, Bool, true, false, Option, Some, None, refl, ap, ◌∙◌, subst, if◌then◌else◌}
 use Rattle.std.specs.Prelude.{◌==◌}
 use Rattle.std.proofs.lemmas.Bool.{eqb-true, le-ltb, lt-ltb}
@@ -20,7 +20,7 @@ longer body lt = ap (λ (b : Bool). (if b then cut_at body 0 6 else Some (record
 pub post : (p : Program) (input : Input) → IsRun p input → input.request.method ≡ Post → cut_for None (meant p input).reply ≡ Some (record { bytes = (meant p input).reply; place = None })
 post p input r is = whole (meant p input).reply (subst (λ (m : Method). length (meant p input).reply ≤ room_of m) is r.reply)
 
--- a code that isn't of class 2 is neither 2.05 nor 2.04
+-- a code that isn't of class 2 is neither 2.05 nor 2.04, so it is answered without its reply.
 by_tests : (answer : ℕ) (found : Response) (cut : Option Part) (tested changed : Bool) → (answer == 69) ≡ tested → (answer == 68) ≡ changed → (code_class answer ≡ 2 → ⊥) → (if tested then found else if changed then text answer (part_bytes cut) else bare answer) ≡ bare answer
 by_tests answer found cut true changed is other differs = absurd (differs (ap code_class (eqb-true answer 69 is)))
 by_tests answer found cut false true other is differs = absurd (differs (ap code_class (eqb-true answer 68 is)))

@@ -16,7 +16,7 @@ use Rattle.fc_core.specs.Legal.{Emits}
 use Rattle.fc_core.specs.Receiving.{Received, delivered, handed_on, received, received_as, sent}
 use Rattle.fc_laws.proofs.front.Repeats.{new_as, opening_is, received_of}
 
--- a message by its verdict
+-- the classification of a message is determined by the message's verdict.
 as_judged : (f : FrontState) (to : Endpoint) (bytes : List ℕ) (m : Message) (v : Verdict) → reading_of bytes ≡ Ok m → verdict m ≡ v
     → received f to bytes ≡ received_as f to m v
 as_judged f to bytes m v read is = received_of f to bytes (Ok m) read ∙ ap (received_as f to m) is

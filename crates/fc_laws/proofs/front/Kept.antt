@@ -108,7 +108,8 @@ numbered (Then h r) = numbered_by r.event r.emitted (seen h) (numbered h)
 abbrev answer_of : Exchange → Option (ArrayVec ℕ)
 answer_of e = e.answer
 
--- an answer of an exchange before these
+-- the answer of an exchange whose number is less than those of the list leaves the list's answers
+-- unchanged.
 past_answers : (n : ℕ) (bytes : ArrayVec ℕ) (from : ℕ) (es : List Exchange) → n < from → AreNumbered from es → map answer_of (map (λ e. answered_if (e.number == n) bytes e) es) ≡ map answer_of es
 past_answers n bytes from [] lt w = refl
 past_answers n bytes from (e ∷ es) lt w =
@@ -146,7 +147,7 @@ seam : (o : Option Emission) (kept : List (Option (ArrayVec ℕ))) (n : ℕ) →
 seam None kept n len = refl
 seam (Some em) kept n len = ap (λ (i : ℕ). set (kept ++ None ∷ []) i (Some em.bytes)) (sym len) ∙ set-append_seam kept None [] (Some em.bytes)
 
--- the datagram sent for a new request is stored.
+-- the datagram that is sent in response to a new request is stored in the exchange of the request.
 abbrev KeepsSent : Received → FrontState → Endpoint → Opening → Type 0
 KeepsSent x f to opening = (o : Option Emission) (kept : List (Option (ArrayVec ℕ))) (n : ℕ) → length kept ≡ n → o ≡ sent x f to → answers_with (kept_of x o) n (kept ++ map answer_of (opened_by x opening to)) ≡ kept ++ emitted_bytes o ∷ []
 

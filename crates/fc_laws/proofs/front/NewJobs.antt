@@ -1,4 +1,4 @@
--- The jobs that an event makes, and a property of each.
+-- The jobs that an event makes, and a property of each of these jobs.
 use Rattle.std.proofs.Common.{◌≡◌, ℕ, zero, suc, ◌+◌, ◌*◌, ◌-◌, ◌<◌, ◌≤◌, List, [], ◌∷◌, ◌++◌, length, map, Option, Some, None, refl, sym, ap, ◌∙◌, subst, arith, max, get_or, length-append}
 use Rattle.std.specs.Option.{option_map, option_to_list}
 use Rattle.std.proofs.Math.Seq.{get_or-append_right}
@@ -22,7 +22,7 @@ use Rattle.fc_core.proofs.Lists.{Each}
 use Rattle.fc_laws.specs.ExchangeLaws.{IsOfLease}
 use Rattle.fc_laws.proofs.jobs.Steps.{moved_length}
 
--- ---- their number
+-- ---- the number of jobs
 
 one_turn : (o : Option Job) → length (map new_task (option_to_list o) ++ []) ≤ 1
 one_turn None = omega arith
@@ -41,7 +41,7 @@ one_brought other s = omega arith
 pub length_after : (r : Entry) (s : Seen) → length (and_then r s).tasks ≡ length s.tasks + length (tasks_brought r.event s)
 length_after r s = length-append (tasks_moved (names r.event) r.event s) (tasks_brought r.event s) ∙ ap (λ (n : ℕ). n + length (tasks_brought r.event s)) (moved_length r.event s (names r.event))
 
--- ---- a property of each
+-- ---- a property of each job
 
 each_at : {X : Type 0} (P : X → Type 0) (xs : List X) (i : ℕ) (d : X) → Each P xs → i < length xs → P (get_or xs i d)
 each_at P [] i d e lt = absurd (omega arith)
@@ -57,7 +57,7 @@ tasks_each P [] w = tt
 tasks_each P (j ∷ js) w = (w.0, tasks_each P js w.1)
 
 module _ (P : Task → Type 0) where
-  -- a job with a new number has the property of each job that the event makes.
+  -- if each job that an event makes has the property, a job with a new number has the property.
   pub new_has : (r : Entry) (s : Seen) (k : ℕ) → length s.tasks ≤ k → HasCome (and_then r s) k → Each P (tasks_brought r.event s) → P (task_at (and_then r s).tasks k)
   new_has r s k le come each =
       let before : length (tasks_moved (names r.event) r.event s) ≡ length s.tasks = moved_length r.event s (names r.event) in
@@ -73,7 +73,7 @@ module _ (P : Task → Type 0) where
     turn_has n None w = tt
     turn_has n (Some turn) w = granted_has n turn.number (option_map interest_of (entry_out turn w))
 
-    -- the job of a lease, if one is granted.
+    -- the job of a lease, if one is granted, has the property.
     pub due_has : (s : Seen) (i at : ℕ) (p : Option ℕ) → Each P (map new_task (option_to_list (turn_at p s i at)) ++ [])
     due_has s i at None = tt
     due_has s i at (Some k) =

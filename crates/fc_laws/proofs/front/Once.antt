@@ -32,7 +32,7 @@ use Rattle.fc_laws.proofs.jobs.Others.{job_stays}
 use Rattle.fc_laws.proofs.front.Repeats.{look_is, new_look, received_of, room_in}
 use Rattle.fc_laws.proofs.front.NewJobs.{due_has, each_weaker, length_after, new_has, one_brought}
 
--- a property of one of them.
+-- some element of the list has the property.
 abbrev Any : {X : Type 0} → (X → Type 0) → List X → Type 0
 Any P [] = ⊥
 Any P (x ∷ xs) = P x ⊎ Any P xs
@@ -56,14 +56,14 @@ not_found_if P p y ys true is rest e a = absurd (cc e)
 not_found_if P p y ys false is rest e (inl here) = (y, here, is)
 not_found_if P p y ys false is rest e (inr there) = rest e there
 
--- an element that exists and isn't found fails the test.
+-- if no element passes the test, an element with the property exists that fails the test.
 not_found : {X : Type 0} (P : X → Type 0) (p : X → Bool) (xs : List X) → find p xs ≡ None → Any P xs → (x : X) × P x × (p x ≡ false)
 not_found P p [] e a = absurd a
 not_found P p (x ∷ xs) e a = not_found_if P p x xs (p x) refl (not_found P p xs) e a
 
 -- ---- the exchange of a job
 
--- the exchange that was opened for a job with this origin.
+-- the exchange was opened for a job with this origin.
 abbrev IsOf : Origin → Exchange → Type 0
 IsOf o e = (e.endpoint ≡ o.endpoint) × (e.id ≡ o.id) × (e.at ≡ o.opening.at)
 
@@ -88,7 +88,7 @@ still_open o other emitted s a = a
 
 -- ---- new jobs
 
--- a new job is no duplicate, and its exchange is opened with it.
+-- a new job is no duplicate, and its exchange is opened together with it.
 record IsNewJob (s : Seen) (es : List Exchange) (j : Job) : Type 0 where
   time : ℕ
   none : repeated s time j.origin.endpoint j.origin.id ≡ None
@@ -157,7 +157,7 @@ brought_new (Deliver now to bytes) emitted s =
 brought_new (Due shard now) emitted s =
     let at = max (s.shard_time shard) now in
     let es = exchanges_by (at_front (Due shard now)) emitted s in
-    -- a lease is no request.
+    -- the job of a lease isn't that of a request.
     due_has (λ t. IsOfRequest t.job → IsNewJob s es t.job) (λ j lease is. absurd (cc (is.0, lease.1))) s shard at (due_in s shard at)
 brought_new (Fire slot now) emitted s = (λ is. absurd (omega (arith, is.1)), tt)
 brought_new other emitted s = tt
@@ -171,7 +171,7 @@ opened_after r s k come asks w = ⊎_elim
     (λ (le : length s.tasks ≤ k). (new_job r s k le come asks).opened)
     (cases_lt k (length s.tasks))
 
--- the job of each request has its exchange
+-- each job of a request has its exchange in the table.
 opened_for : (h : History) (k : ℕ) → HasCome (seen h) k → IsOfRequest (job (seen h) k) → Any (IsOf (job (seen h) k).origin) (seen h).exchanges
 unfolding seen
 opened_for (Begins serial id policy) k come asks = absurd (omega arith)
@@ -190,7 +190,8 @@ second_false : (a b : Bool) → (a && b) ≡ false → b ≡ true → a ≡ fals
 second_false true b e is = absurd (cc (e, is))
 second_false false b e is = refl
 
--- an exchange that isn't found for a duplicate is a lifetime old.
+-- an exchange that isn't found as the original of a duplicate was opened at least a lifetime
+-- before.
 past_window : (s : Seen) (at : ℕ) (o p : Origin) → repeated s at p.endpoint p.id ≡ None → Any (IsOf o) s.exchanges → o.endpoint ≡ p.endpoint → o.id ≡ p.id → o.opening.at + 247000 ≤ at
 past_window s at o p none a to id =
     let found = not_found (IsOf o) (λ e. is_within at e && is_of p.endpoint p.id e) s.exchanges none a in
@@ -199,7 +200,8 @@ past_window s at o p none a to id =
     let old : e.at + 247000 ≤ at = ltb-false at (e.at + 247000) (second_false (is_within at e) (is_of p.endpoint p.id e) found.2 passes) in
     subst (λ (n : ℕ). n + 247000 ≤ at) found.1.2 old
 
--- two jobs of requests with one endpoint and message ID are a lifetime apart.
+-- the exchanges of two jobs of requests with one endpoint and message ID were opened at least a
+-- lifetime apart.
 abbrev AreApart : Seen → ℕ → ℕ → Type 0
 AreApart s j k = IsOfRequest (job s j) → IsOfRequest (job s k) → (job s j).origin.endpoint ≡ (job s k).origin.endpoint → (job s j).origin.id ≡ (job s k).origin.id → (job s j).origin.opening.at + 247000 ≤ (job s k).origin.opening.at
 

@@ -35,7 +35,7 @@ use Rattle.fc_laws.specs.TurnLaws.{time_at}
 
 -- ---- a transition that changes nothing
 
--- it makes no call on the slot's observers except to pass them a time.
+-- the calls on the slot's observers are none, or only pass a time.
 data IsIdle (calls : List ObserverCall) : Type 0 where
   Nothing : (is : calls ≡ []) → IsIdle calls
   Time : (at : ℕ) (is : calls ≡ Advance at ∷ []) → IsIdle calls
@@ -49,7 +49,7 @@ changes_still : (b : Bool) (cs own : List Change) → cs ≡ [] → (if b then c
 changes_still true cs own is = ap (λ (x : List Change). x ++ own) is
 changes_still false cs own is = refl
 
--- the observers of slot n after these calls are unchanged, except for their time.
+-- the calls leave the observers of slot n unchanged, except their time.
 abbrev AreLeft : ℕ → ℕ → List ObserverCall → List ObserverCall → Type 0
 AreLeft n confirm_after own calls =
     observers n confirm_after calls ≡ record (observers n confirm_after own) { time = (observers n confirm_after calls).time }
@@ -59,7 +59,8 @@ observers_still true cs own n confirm_after (Nothing is) = subst (λ (x : List O
 observers_still true cs own n confirm_after (Time at is) = subst (λ (x : List ObserverCall). AreLeft n confirm_after own (x ++ own)) (sym is) refl
 observers_still false cs own n confirm_after q = refl
 
--- an event that names job k, and has no effect on the front except a draw of a message ID.
+-- the event names job k. Its only effect on the front is the time, and perhaps a draw of a message
+-- ID.
 record IsOf (k : ℕ) (e : Event) (o : Option Emission) (s : Seen) : Type 0 where
   named : names e ≡ Some k
   brought : tasks_brought e s ≡ []
@@ -90,7 +91,7 @@ left k e o s of still = record {
 
 -- ---- the transitions of refused calls
 
--- transition of an event of a job at this stage.
+-- the transition of an event, for a job at this stage.
 abbrev effect_at : Event → Inputs → Stage → Effect
 effect_at e s x = effect_of e s (call_at e s x)
 
@@ -131,7 +132,7 @@ present_missed : (b : Bool) (turn : Turn) (p : Present) → mark_missing_calls b
 present_missed true turn p = refl
 present_missed false turn p = refl
 
--- no observer is notified of a lease that isn't out any more.
+-- if a lease isn't active any more, no observer is notified.
 none_if : (b : Bool) (o : Option ObserverEntry) → o ≡ None → (if b then option_map interest_of o else None) ≡ None
 none_if true o is = ap (option_map interest_of) is
 none_if false o is = refl
@@ -144,10 +145,11 @@ unanswered : (b : Bool) (number : ℕ) (o : Option Emission) (xs : List Exchange
 unanswered true number o xs is = ap (λ (x : Option Emission). answered_in number x xs) is
 unanswered false number o xs is = refl
 
--- ---- each of them
+-- ---- each refused call
 
 module _ (k : ℕ) (o : Option Emission) (s : Seen) where
-  -- for an event at this stage of its job.
+  -- if the transition at the job's stage changes nothing else, the event leaves all but the stage
+  -- of the job unchanged.
   at_stage : (e : Event) (x : Stage) → IsOf k e o s → stage s k ≡ x → IsStill (effect_at e (inputs s k) x) → LeavesAllButStage k s (and_then (did e o) s)
   at_stage e x of at still = left k e o s of (subst (λ (y : Stage). IsStill (effect_at e (inputs s k) y)) (sym at) still)
 

@@ -24,7 +24,7 @@ use Rattle.fc_laws.proofs.front.Repeats.{new_as, opening_is, received_of}
 
 -- ---- a refusal
 
--- a new request is refused.
+-- a new request that is refused by this code is classified as refused by it.
 refusal_is : (s : Seen) (now : ℕ) (to : Endpoint) (m : Message) (answer : ℕ) → IsRefusal s to m answer → new_as (front_at s now) to (verdict m) m ≡ Refused m answer
 refusal_is s now to m answer (inl is) = ap (λ (v : Verdict). new_as (front_at s now) to v m) is
 refusal_is s now to m answer (inr w) =
@@ -32,7 +32,7 @@ refusal_is s now to m answer (inr w) =
     ∙ (ap (λ (b : Bool). received_if b (front_at s now) to m w.asked) w.allowed
     ∙ ap (λ (n : ℕ). Refused m n) (sym w.answer_is))
 
--- it is classified as a new request that is refused.
+-- a datagram with a refused new request is classified as refused by the request's code.
 pub refused_is : (s : Seen) (now : ℕ) (to : Endpoint) (bytes : List ℕ) (m : Message) (answer : ℕ) → IsRefusedAnew s now to bytes m answer → received_at s now to bytes ≡ Refused m answer
 refused_is s now to bytes m answer w =
     let same : w.opens.message ≡ m = cc (sym w.opens.read ∙ w.read) in
@@ -71,7 +71,7 @@ rejected_is s now to bytes id (NoRequest m read kind code own) =
     ∙ (ap (λ (v : Verdict). received_as (front_at s now) to m v) (reset_verdict m kind code)
     ∙ ap Rejected own)
 
--- the bytes of a Reset message
+-- the Reset message for a message ID has these bytes.
 reset_bytes : (to : Endpoint) (id : ℕ) → reset_of to id ≡ reset_to to id
 unfolding sent_in
 reset_bytes to id = refl

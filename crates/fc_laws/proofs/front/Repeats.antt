@@ -42,7 +42,7 @@ find-filter : {X : Type 0} (p q : X → Bool) (xs : List X) → find p (filter q
 find-filter p q [] = refl
 find-filter p q (x ∷ xs) = found_if p q x (filter q xs) (find (λ y. q y && p y) xs) (q x) (find-filter p q xs)
 
--- classification of a new request.
+-- the classification of a new request, by its verdict.
 abbrev pub new_as : FrontState → Endpoint → Verdict → Message → Received
 new_as f to (IsAsked asked) m = request_received f to m asked
 new_as f to (IsRefused answer) m = Refused m answer
@@ -77,7 +77,7 @@ request_is s now to bytes m o read asks is =
 
 -- ---- duplicates
 
--- classification of a duplicate.
+-- the classification of a duplicate, by the exchange's type and stored answer.
 abbrev repeat_as : Bool → Option (ArrayVec ℕ) → Received
 repeat_as true (Some bytes) = Again bytes.items
 repeat_as confirmable answer = Unanswered
@@ -88,7 +88,7 @@ repeat_looked false None m new = refl
 repeat_looked true (Some bytes) m new = refl
 repeat_looked false (Some bytes) m new = refl
 
--- a datagram that opens, stores, draws, produces and adds nothing.
+-- a classified datagram that opens, stores, draws, makes and adds nothing.
 record IsIdle (x : Received) : Type 0 where
   opens : (o : Opening) (to : Endpoint) → opened_by x o to ≡ []
   keeps : (emitted : Option Emission) → kept_of x emitted ≡ None
@@ -113,7 +113,7 @@ repeat_is s now to bytes e w = request_is s now to bytes w.message (Some e) w.re
 idle : (s : Seen) (now : ℕ) (to : Endpoint) (bytes : List ℕ) (e : Exchange) → IsRepeat s now to bytes e → IsIdle (received_at s now to bytes)
 idle s now to bytes e w = subst IsIdle (sym (repeat_is s now to bytes e w)) (repeat_idle e.confirmable e.answer)
 
--- an answer of nothing doesn't change the exchanges.
+-- if nothing is emitted and no exchange is opened, the exchanges are unchanged.
 kept_nothing : (o : Option Emission) (n : ℕ) (new old : List Exchange) → o ≡ None → new ≡ [] → answered_in n o (old ++ new) ≡ old
 kept_nothing None n new old is none = ap (λ (l : List Exchange). old ++ l) none ∙ append-nil old
 kept_nothing (Some emission) n new old is none = absurd (cc)
@@ -157,7 +157,7 @@ repeats_emit_again r s e w legal = emits_again s r.event e r.emitted w legal
 
 -- ---- openings
 
--- an answer doesn't change an exchange's arrival.
+-- storing an answer doesn't change an exchange's arrival.
 answered_arrival : (b : Bool) (bytes : ArrayVec ℕ) (e : Exchange) → arrival_of (answered_if b bytes e) ≡ arrival_of e
 answered_arrival true bytes e = refl
 answered_arrival false bytes e = refl
@@ -173,11 +173,11 @@ kept_arrivals n (Some emission) es = answered_arrivals n emission.bytes es
 pub received_arrivals : (s : Seen) (now : ℕ) (to : Endpoint) (x : Received) (o : Option Emission) → map arrival_of (exchanges_received x to o s now) ≡ arrivals s ++ map arrival_of (opened_by x (next_opening (front_at s now)) to)
 received_arrivals s now to x o = kept_arrivals (length s.exchanges) (kept_of x o) (s.exchanges ++ opened_by x (next_opening (front_at s now)) to) ∙ map-append arrival_of s.exchanges (opened_by x (next_opening (front_at s now)) to)
 
--- the arrival of a message
+-- the arrival of a message: its endpoint, message ID and type, and the time of its opening.
 abbrev arrival_by : Message → Opening → Endpoint → Arrival
 arrival_by m o to = record { endpoint = to; id = m.id; confirmable = is_confirmable m.kind; at = o.at }
 
--- for any result for its payload, a new request opens an exchange.
+-- whatever the result of adding its payload, a new request opens one exchange.
 added_opens : (a : Add) (m : Message) (r : Asked) (o : Opening) (to : Endpoint) → map arrival_of (opened_by (received_added a m r) o to) ≡ arrival_by m o to ∷ []
 added_opens Continues m r o to = refl
 added_opens (IsWhole body) m r o to = refl
@@ -224,7 +224,7 @@ requests_open r s w =
     let one = opens_one s r.event r.emitted w in
     record { arrival = one.0; is = one.1; last = one.2 }
 
--- a search that finds a new request.
+-- a look-up finds no duplicate, and space for a new request.
 pub record IsNewLook (o : Option Exchange) (room : Room) : Type 0 where
   pub none : o ≡ None
   pub here : room ≡ Free
@@ -290,7 +290,7 @@ pub same_arrivals : (o : Option Emission) (es : List Exchange) (b : Bool) (i : �
 same_arrivals o es true i = kept_arrivals i o es
 same_arrivals o es false i = refl
 
--- nothing was opened, so there is no arrival.
+-- if no exchange was opened, the arrivals are unchanged.
 no_arrival : (old : List Arrival) (es : List Exchange) → length es ≡ 0 → old ++ map arrival_of es ≡ old
 no_arrival old [] none = append-nil old
 no_arrival old (e ∷ es) none = absurd (cc none)

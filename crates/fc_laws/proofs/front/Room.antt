@@ -1,5 +1,5 @@
 -- A new request without space is answered immediately, and so is a confirmable one above its
--- address's share; neither has another effect.
+-- address's share. Neither request has another effect.
 use Rattle.std.proofs.Common.{◌≡◌, ℕ, ◌∙◌, List, ◌++◌, length, map, Bool, true, false, refl, None, Option, ap, inl, inr, max}
 use Rattle.std.specs.Borrow.{Bor}
 use Rattle.std.specs.Prelude.{nat_lt}
@@ -36,7 +36,7 @@ full_by share place below none = λ i. room_by (below i) (none i)
 over_by : (share place : Bool) → share ≡ false → room_by share place ≡ rooms.OverShare
 over_by share place over = ap (λ (b : Bool). room_by b place) over
 
--- it is classified as a request without space.
+-- a new request without space for its exchange is classified as full.
 pub full_is : (s : Seen) (now : ℕ) (to : Endpoint) (bytes : List ℕ) (m : Message) → IsCrowdedOut s now to bytes m → received_at s now to bytes ≡ Full m
 full_is s now to bytes m w =
     request_is s now to bytes m None w.read w.asks w.new
@@ -44,7 +44,7 @@ full_is s now to bytes m w =
     (full_by (has_share (table_at s (max s.time now)) to.ip) (has_place (table_at s (max s.time now)))
     (lt-ltb (shared_at s (max s.time now) to.ip) s.policy.limits.share w.share) (no_place s (max s.time now) w.full))
 
--- it is classified as one from an address above its share.
+-- a new request above its address's share is classified as above the share.
 pub over_is : (s : Seen) (now : ℕ) (to : Endpoint) (bytes : List ℕ) (m : Message) → IsOverShare s now to bytes m → received_at s now to bytes ≡ over_share (is_confirmable m.kind) m
 over_is s now to bytes m w =
     request_is s now to bytes m None w.read w.asks w.new

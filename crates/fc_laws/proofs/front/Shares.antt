@@ -1,4 +1,5 @@
--- At most as many exchanges are stored as the limit, and of each address at most its share.
+-- At most as many exchanges are stored as the policy's limit, and of each address at most its
+-- share.
 use Rattle.std.proofs.Common.{◌≡◌, ℕ, suc, ◌+◌, ◌<◌, ◌≤◌, List, [], ◌∷◌, ◌++◌, Bool, true, false, cond, length, map, refl, sym, ap, ◌∙◌, subst, ⊎_elim, arith, max}
 use Rattle.std.specs.Prelude.{filter, nat_eq, nat_lt}
 use Rattle.std.specs.declared.cmp.Ordering.{Ordering}
@@ -26,10 +27,11 @@ lives at a = nat_lt at (a.at + 247000)
 abbrev is_of : List ℕ → Arrival → Bool
 is_of ip a = pointwise nat_eq a.endpoint.ip ip
 
--- number of arrivals that are less than a lifetime old, and of those from an address.
+-- the number of arrivals that are less than a lifetime old.
 abbrev count : ℕ → List Arrival → ℕ
 count at xs = length (filter (lives at) xs)
 
+-- the number of these arrivals from an address.
 abbrev share : ℕ → List ℕ → List Arrival → ℕ
 share at ip xs = length (filter (is_of ip) (filter (lives at) xs))
 
@@ -83,7 +85,7 @@ count_falls at later (a ∷ xs) le =
     let two = long_if (lives at a) a (filter (lives at) xs) in
     omega (arith, more, first, two)
 
--- for an address, by each arrival.
+-- whether an arrival is less than a lifetime old and from this address.
 abbrev both : ℕ → List ℕ → Arrival → Bool
 both at ip a = cond (lives at a) (is_of ip a) false
 

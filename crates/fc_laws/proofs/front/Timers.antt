@@ -140,7 +140,7 @@ opens_exchange r s from m j b =
 pub exchange_number : (r : Entry) (s : Seen) (from : Endpoint) (m : Message) (j : Job) → BringsJob r s from m j → j.origin.opening.number ≡ length (arrivals s)
 exchange_number r s from m j b = ap (λ (o : Opening). o.number) (exchange_is r s from m j b) ∙ sym (length-map s.exchanges arrival_of)
 
--- a delivery opens an exchange with a number below 2^64 - 1, or none.
+-- fewer than 2^64 - 1 exchanges were opened, or a delivery opens none.
 number_or_none : (s : Seen) (now : ℕ) (to : Endpoint) (bytes : List ℕ) → (length s.exchanges < 18446744073709551615) ⊎ (length (opened_by (received_at s now to bytes) (next_opening (front_at s now)) to) ≡ 0)
 number_or_none s now to bytes = ⊎_elim
     (λ (lt : length s.exchanges < 18446744073709551615). inl lt)
@@ -165,7 +165,8 @@ abbrev FiresMake : (Job → Type 0) → History → Type 0
 FiresMake P (Begins serial id policy) = Unit {0}
 FiresMake P (Then h r) = ((n now : ℕ) → r.event ≡ Fire n now → P (timer_job n)) × FiresMake P h
 
--- a property of leases, of requests, and of the jobs of the timers that fired, holds of each job.
+-- if a property holds of leases, of requests, and of the jobs of the timers that fired, it holds of
+-- each job.
 module _ (P : Job → Type 0) (lease : (j : Job) → IsOfLease j → P j) (request : (j : Job) → IsOfRequest j → P j) where
   brought_have : (e : Event) (s : Seen) → ((n now : ℕ) → e ≡ Fire n now → P (timer_job n)) → Each (λ t. P t.job) (tasks_brought e s)
   brought_have (Deliver now to bytes) s timer =
@@ -213,7 +214,7 @@ apart_without h j k none lt come first second = jobs_apart h j k lt come
     (of_request h j none (omega (arith, lt, come)) (λ lease. cc (first, lease.1)))
     (of_request h k none come (λ lease. cc (second, lease.1)))
 
--- the job of a lease is never to be answered.
+-- the job of a lease is never at the stage of its answer.
 unanswered : (h : History) (k : ℕ) (content : Content) → stage (seen h) k ≡ ToAnswer content → IsOfLease (job (seen h) k) → ⊥
 unanswered h k content at lease = ⊎_elim
     (λ (w : (needs : TurnStage) × (stage (seen h) k ≡ ToTell (record { slot = slot_of (seen h) k; number = lease.0 }) needs)). cc (at, w.1))

@@ -59,7 +59,8 @@ shard_handed : (s : Seen) (e : Event) (o : Option ℕ) (i : ℕ) (ms : List ℕ)
 shard_handed s e None i ms is = is
 shard_handed s e (Some k) i ms is = shard_if s e k i (slot_of s k % 8 == i) ms is
 
--- the time of an event of the shard itself.
+-- if the time of a shard is the greatest that was passed to it, this holds after an event of the
+-- shard too.
 handed_if : (b : Bool) (now m : ℕ) (ms : List ℕ) → m ≡ greatest ms → handed (if b then Some now else None) m ≡ greatest ((if b then now ∷ [] else []) ++ ms)
 handed_if true now m ms is = ap (λ (x : ℕ). max x now) is
 handed_if false now m ms is = is

@@ -32,7 +32,7 @@ use Rattle.fc_laws.proofs.front.Room.{full_is, over_is}
 
 -- ---- messages that are turned down
 
--- a datagram without an effect.
+-- a classified datagram without an effect.
 abbrev IsNothing : Received → Type 0
 IsNothing Ignored = Unit {0}
 IsNothing (Rejected id) = Unit {0}
@@ -142,7 +142,8 @@ refused_left r s w = check_by r.event r.emitted s w
 
 -- ---- a block that is refused
 
--- among the rest without a key's transfer, none has that key.
+-- if the transfers that don't pass a test have no transfer of a key, neither have those without the
+-- first one, which doesn't pass.
 gone_by : (p q : Transfer → Bool) (x : Transfer) (fs : List Transfer) (b c : Bool) → p x ≡ b → q x ≡ c → find p (filter q fs) ≡ None
     → find p (filter q (cond (not b) (x ∷ fs) fs)) ≡ None
 gone_by p q x fs true c is its none = none
@@ -169,7 +170,7 @@ nothing_kept false at to n IsTooLarge not_on = refl
 nothing_kept true at to n IsFull not_on = refl
 nothing_kept false at to n IsFull not_on = refl
 
--- options that are sent immediately.
+-- the options of the response that is sent immediately.
 abbrev settled_options : Received → List (ℕ × List ℕ)
 settled_options (Immediate m q response) = response.options
 settled_options other = []
@@ -177,7 +178,7 @@ settled_options other = []
 abbrev block1_of : Option Place → List (ℕ × List ℕ)
 block1_of p = (settled_by 95 p).options
 
--- a request that is answered by a code alone doesn't continue.
+-- a block that is answered by a code alone wasn't accepted with more blocks to follow.
 not_continued : (x : Add) (m : Message) (q : Asked) (b : Place) (answer : ℕ) → q.block1 ≡ Some b → received_added x m q ≡ Immediate m q (bare answer)
     → x ≡ Continues → ⊥
 not_continued x m q b answer block is on =
@@ -197,7 +198,7 @@ module _ (s : Seen) (now : ℕ) (to : Endpoint) (bytes : Bor (List ℕ)) (o : Op
   abbrev held : List Transfer
   held = transfers s.additions
 
-  -- the transfers after it.
+  -- the transfers after the event are those after the request's block.
   after_is : transfers (and_then (did (Deliver now to bytes) o) s).additions ≡ after_block held at to n b q.payload
   after_is =
       ap transfers (requests_add (did (Deliver now to bytes) o) s m q w)
@@ -216,7 +217,8 @@ module _ (s : Seen) (now : ℕ) (to : Endpoint) (bytes : Bor (List ℕ)) (o : Op
       ap (bytes_held at to n) (after_is ∙ left_is)
       ∙ ap (option_map (λ (t : Transfer). t.body.items)) (none_of_key to n at (live at held))
 
-  -- if any block leaves the transfers of other endpoints and slots unchanged.
+  -- if each block leaves the transfers of other endpoints and slots unchanged, the event leaves all
+  -- but one transfer unchanged.
   pub block_left : ((from : Endpoint) (k : ℕ) → same_key to n from k ≡ false → find (is_transfer_of from k)
       (live at (after_block held at to n b q.payload)) ≡ find (is_transfer_of from k) (live at held))
       → LeavesAllButTransfer (did (Deliver now to bytes) o) s to n
@@ -228,7 +230,7 @@ module _ (s : Seen) (now : ℕ) (to : Endpoint) (bytes : Bor (List ℕ)) (o : Op
     others = λ from k other. ap (bytes_held at from k) after_is ∙ ap (option_map (λ (t : Transfer). t.body.items)) (rest from k other);
   }
 
--- any block leaves the transfers of other endpoints and slots unchanged.
+-- each block leaves the transfers of other endpoints and slots unchanged.
 abbrev pub LeavesOthers : Type 0
 LeavesOthers = (held : List Transfer) (at now : ℕ) (from to : Endpoint) (m n : ℕ) (b : Place) (bytes : List ℕ) → at ≤ now → same_key from m to n ≡ false
     → find (is_transfer_of to n) (live now (after_block held at from m b bytes)) ≡ find (is_transfer_of to n) (live now held)

@@ -1,4 +1,4 @@
--- A function of a history on a job fits the job's stage, if each event keeps it so.
+-- If each event keeps the fit, a function of a history and a job fits the job's stage.
 use Rattle.std.proofs.Common.{◌≡◌, ℕ, ◌≤◌, List, Bool, true, false, Option, Some, None, refl, sym, ap, ◌∙◌, subst, arith, if◌then◌else◌}
 use Rattle.std.specs.Prelude.{length}
 use Rattle.std.proofs.lemmas.Bool.{eq-eqb, ne_eqb}
@@ -26,11 +26,11 @@ pub is_another : (k : ℕ) (o : Option ℕ) → (o ≡ Some k → ⊥) → is_jo
 is_another k None ne = refl
 is_another k (Some j) ne = ne_eqb j k (λ e. ne (ap Some e))
 
--- a job that didn't arrive has ended.
+-- a job that didn't arrive is at the stage `Gone`.
 pub gone_before : (s : Seen) (k : ℕ) → length s.tasks ≤ k → stage s k ≡ Gone
 gone_before s k le = ap (λ (t : Task). t.stage) (get_or_past s.tasks k no_task le)
 
--- told is a function of the history that only an event of its job updates.
+-- `told` is a function of the history and a job, which only the events of that job update.
 module _ {A : Type 0} (told : History → ℕ → A) (update : Event → Seen → ℕ → A → A) (P : A → Stage → Type 0) (none : A) where
   pub record IsTold : Type 0 where
     pub begins : (serial id : ℕ) (policy : Policy) (k : ℕ) → told (Begins serial id policy) k ≡ none

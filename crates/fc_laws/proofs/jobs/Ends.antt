@@ -1,4 +1,4 @@
--- A job is answered at most once, and one that has ended remains so.
+-- A job is answered at most once, and a job that has ended stays ended.
 use Rattle.std.proofs.Common.{◌≡◌, ℕ, ◌+◌, ◌≤◌, List, [], ◌∷◌, ◌++◌, Bool, true, false, Option, Some, None, refl, sym, ap, ◌∙◌, subst, arith, if◌then◌else◌}
 use Rattle.coap_msg.specs.declared.types.Emission.{Emission}
 use Rattle.fc_registry.specs.declared.job.Ask.{Ask}
@@ -27,7 +27,8 @@ at job slot ws stage = record { job = job; slot = slot; around = ws; stage = sta
 
 -- ---- answered at most once
 
--- number of answers to a job at this stage.
+-- the number of answers that a job at this stage has been given: at most one, and none before the
+-- end.
 abbrev FitsAnswers : ℕ → Stage → Type 0
 FitsAnswers n Gone = n ≤ 1
 FitsAnswers n other = n ≡ 0
@@ -43,7 +44,7 @@ never_yet : (s : Stage) (n : ℕ) → n ≡ 0 → FitsAnswers n s
 never_yet Gone n is = omega arith
 never_yet other n is = is
 
--- a job that isn't answered yet may need anything next.
+-- a step of a job that isn't answered yet keeps the number of answers fitting.
 step_answers : (k : ℕ) (c : Step) (job : Job) (slot : Slot) (ws : Around) (n : ℕ) → FitsAnswers n (stage_by c) → FitsAnswers (if is_answered (event_by k c) (stage_by c) then n + 1 else n) (effect_by c job slot ws).stage
 step_answers k (steps.Answers now content) job slot ws n f = omega (arith, f)
 step_answers k (steps.Loses needs) job slot ws n f = at_most_once needs n f
@@ -117,7 +118,7 @@ take_refused s k count readings o p is holds = named_stage (did (Take k false re
     ∙ (ap (λ (x : Stage). (transition (Take k false readings) (at (job s k) (slot_at s (slot_of s k)) (around s (slot_of s k)) x)).stage) is
     ∙ ap (λ (x : Option Present). took count (snapshot None (job s k) (slot_at s (slot_of s k)).serial x)) holds)
 
--- a snapshot with memory keeps the readings that it was passed.
+-- a snapshot with memory keeps the readings that were passed to it.
 pub take_keeps : (s : Seen) (k count : ℕ) (readings : List ℕ) (o : Option Emission) (p : Present) → stage s k ≡ ToTake count → (slot_at s (slot_of s k)).present ≡ Some p → (t : Ticket) × (stage (and_then (did (Take k true readings) o) s) k ≡ ToCommit (count + 1) t) × ((run_of t).input.readings ≡ readings) × ((commit_of t).readings ≡ readings)
 take_keeps s k count readings o p is holds = (
   ticket_of (job s k) readings (slot_at s (slot_of s k)).serial p,
@@ -132,7 +133,7 @@ pub install_refused : (s : Seen) (k : ℕ) (o : Option Emission) → stage s k �
 install_refused s k o is = named_stage (did (Install k false) o) s k (is_here s k ToInstall is (λ e. absurd (cc e))) refl
     ∙ ap (λ (x : Stage). (transition (Install k false) (at (job s k) (slot_at s (slot_of s k)) (around s (slot_of s k)) x)).stage) is
 
--- a job that takes no more snapshots.
+-- a job at this stage takes no more snapshots.
 abbrev IsImmediate : Stage → Type 0
 IsImmediate (ToRaise word content) = Unit {0}
 IsImmediate (ToAnswer content) = Unit {0}

@@ -1,5 +1,4 @@
--- Each ticket that a job took has a meaning, if each snapshot that found a program found one with a
--- meaning.
+-- Each ticket that a job took has a meaning, if each program that a snapshot found has one.
 use Rattle.std.proofs.Common.{◌≡◌, ℕ, List, [], ◌∷◌, ◌++◌, Bool, true, false, Option, Some, None, refl, ap, subst, if◌then◌else◌}
 use Rattle.std.proofs.lemmas.Bool.{eqb-true}
 use Rattle.fc_observe.specs.declared.entry.Turn.{Turn}
@@ -39,7 +38,7 @@ given_meant readings s (ToTell turn turns.ToTake) cs ts m w = out_meant (is_out_
 given_meant readings s (ToTell turn other) cs ts m w = w
 given_meant readings s other cs ts m w = w
 
--- the ticket that an event gives to the job that it names
+-- if the earlier tickets of a job have a meaning, so has the ticket that an event gives to the job.
 event_meant : (e : Event) (s : Seen) (k : ℕ) (cs : List Change) (ts : List Snapshot) → names e ≡ Some k → TakesMeaning s e → AllMeant ts → AllMeant (gives e (inputs s k) cs ++ ts)
 event_meant (Take j true readings) s k cs ts named m w =
     let same : j ≡ k = cc named in

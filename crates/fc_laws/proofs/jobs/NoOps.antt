@@ -27,7 +27,7 @@ at job slot ws stage = record { job = job; slot = slot; around = ws; stage = sta
 false_isnt : false ≡ true → ⊥
 false_isnt e = cc e
 
--- a read of the head word that is needed isn't a no-op.
+-- a `Peek` of the head word that the job needs isn't a no-op.
 asked_isnt : (b : Bool) → b ≡ true → not b ≡ true → ⊥
 asked_isnt true is e = false_isnt e
 asked_isnt false is e = false_isnt is
@@ -82,7 +82,8 @@ module _ (s : Seen) (e : Event) (k : ℕ) (still : transition e (inputs s k) ≡
 all_same : (a b : Seen) → a.policy ≡ b.policy → a.first_serial ≡ b.first_serial → a.time ≡ b.time → a.exchanges ≡ b.exchanges → a.additions ≡ b.additions → a.ids ≡ b.ids → a.tasks ≡ b.tasks → ((n : ℕ) → a.changes n ≡ b.changes n) → ((n : ℕ) → a.shard_time n ≡ b.shard_time n) → ((n : ℕ) → a.calls n ≡ b.calls n) → a.words ≡ b.words → a ≡ b
 all_same a b o f m x p d t c h v w = λ i. record { policy = o i; first_serial = f i; time = m i; exchanges = x i; additions = p i; ids = d i; tasks = t i; changes = λ n. c n i; shard_time = λ n. h n i; calls = λ n. v n i; words = w i }
 
--- an event of a job that changes nothing of the front.
+-- if a no-op event of a job leaves the front and the shards unchanged, it leaves everything
+-- unchanged.
 named_still : (s : Seen) (e : Event) (o : Option Emission) (k : ℕ) → names e ≡ Some k → is_noop_at e (job s k).origin.slot (stage s k) ≡ true → time_by (at_front e) s ≡ s.time → exchanges_by (at_front e) o s ≡ s.exchanges → additions_by (at_front e) s ≡ [] → ids_by (at_front e) s ≡ s.ids → tasks_brought e s ≡ [] → ((i : ℕ) → hands_by (at_shard e) i ≡ None) → ((n : ℕ) → calls_by (at_shard e) s n ≡ []) → and_then (did e o) s ≡ s
 named_still s e o k is noop m x p d b g q =
     let still : transition e (inputs s k) ≡ goes_to (stage s k) = transition_still e (job s k) (inputs s k).slot (inputs s k).around (stage s k) noop in

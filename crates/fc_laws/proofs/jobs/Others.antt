@@ -49,27 +49,27 @@ named_by r s k t (Moves same is) come named = ap (λ (x : Task). x.stage) is
 named_by r s k t (Stays other is) come named = absurd (other named)
 named_by r s k t (Comes new j is) come named = absurd (omega (arith, new, come))
 
--- stage of a job after an event that names it.
+-- the stage of a job after an event that names it is that of the transition.
 pub named_stage : (r : Entry) (s : Seen) (k : ℕ) → HasCome s k → names r.event ≡ Some k → stage (and_then r s) k ≡ (transition r.event (inputs s k)).stage
 named_stage r s k come named = named_by r s k (task_at (and_then r s).tasks k) (becomes r s k) come named
 
--- a job that arrived exists after an event.
+-- a job that arrived is among the jobs after each event.
 pub still_here : (r : Entry) (s : Seen) (k : ℕ) → HasCome s k → HasCome (and_then r s) k
 still_here r s k come = omega (arith, tasks_grow r s, come)
 
--- a property of the stage of an existing job, which each transition keeps, holds after an event.
+-- if each transition keeps a property of a job's stage, the property holds after each event.
 pub kept_by : (Q : Stage → Type 0) → ((e : Event) (j : Job) (slot : Slot) (ws : Around) (at : Stage) → Q at → Q (transition e (record { job = j; slot = slot; around = ws; stage = at })).stage) → (r : Entry) (s : Seen) (k : ℕ) (t : Task) → Becomes (names r.event) r.event s k t → HasCome s k → Q (stage s k) → Q t.stage
 kept_by Q keeps r s k t (Moves named is) come q = subst (λ (x : Task). Q x.stage) (sym is) (keeps r.event (job s k) (inputs s k).slot (inputs s k).around (stage s k) q)
 kept_by Q keeps r s k t (Stays other is) come q = subst (λ (x : Task). Q x.stage) (sym is) q
 kept_by Q keeps r s k t (Comes new j is) come q = absurd (omega (arith, new, come))
 
--- and after the later events.
+-- if each transition keeps a property of a job's stage, the property holds after all later events.
 pub kept_later : (Q : Stage → Type 0) → ((e : Event) (j : Job) (slot : Slot) (ws : Around) (at : Stage) → Q at → Q (transition e (record { job = j; slot = slot; around = ws; stage = at })).stage) → (rs : List Entry) (h : History) (k : ℕ) → HasCome (seen h) k → Q (stage (seen h) k) → Q (stage (seen (followed_by h rs)) k)
 unfolding seen
 kept_later Q keeps [] h k come q = q
 kept_later Q keeps (r ∷ rs) h k come q = kept_later Q keeps rs (Then h r) k (still_here r (seen h) k come) (kept_by Q keeps r (seen h) k (task_at (and_then r (seen h)).tasks k) (becomes r (seen h) k) come q)
 
--- changes of the slot of the job that an event names.
+-- the changes of a slot after an event that names one of its jobs.
 pub own_slot : (r : Entry) (s : Seen) (k : ℕ) → names r.event ≡ Some k → (and_then r s).changes (slot_of s k) ≡ (transition r.event (inputs s k)).changes ++ s.changes (slot_of s k)
 own_slot r s k named =
     (λ i. changes_after (named i) r.event s (slot_of s k))

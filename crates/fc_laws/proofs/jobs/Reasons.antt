@@ -45,14 +45,14 @@ abbrev at : Job → Slot → Around → Stage → Inputs
 at job slot ws stage = record { job = job; slot = slot; around = ws; stage = stage }
 
 module _ (k : ℕ) (job : Job) (slot : Slot) (ws : Around) (taken : ℕ) where
-  -- it answers this for a reason.
+  -- the event gives a job at this stage the answer for a reason.
   abbrev Why : Event → Stage → Content → Type 0
   Why e s c = IsCause e k job slot ws.common.words s taken c
 
   abbrev Answered : Event → Stage → Stage → Content → Type 0
   Answered e s new c = answer_at new ≡ Some c → Why e s c
 
-  -- for the content that it is.
+  -- a reason for a content is a reason for the same content under another name.
   so : (e : Event) (s : Stage) (c d : Content) → Why e s c → Some c ≡ Some d → Why e s d
   so e s c d why is = let same : c ≡ d = cc is in subst (Why e s) same why
 
@@ -92,7 +92,8 @@ module _ (k : ℕ) (job : Job) (slot : Slot) (ws : Around) (taken : ℕ) where
   outcome_writes true true false e = absurd (cc)
   outcome_writes true true true e = (refl, refl)
 
-  -- a run's answer, if a run that wants to write may.
+  -- a run's answer has its reason, if a run that wants to write finds its slot unchanged and below
+  -- the last serial.
   ran_why : (now n : ℕ) (t : Ticket) (observed : Bool) (c : Content) → (wants t ≡ true → (slot.serial ≡ t.serial) × (slot.serial < last_serial)) → Answered (Commit k now) (ToCommit n t) (ToAnswer (run_content t observed)) c
   ran_why now n t observed c writes e = so (Commit k now) (ToCommit n t) (run_content t observed) c (record { now = now; count = n; ticket = t; event = refl; is = refl; code = refl; cut = refl; serial = refl; writes = writes }) e
 
@@ -130,7 +131,7 @@ module _ (k : ℕ) (job : Job) (slot : Slot) (ws : Around) (taken : ℕ) where
   told_why None c is e = so (Receipt k) ToDescribe Missing c (NothingDescribed refl refl is) e
   told_why (Some p) c is e = so (Receipt k) ToDescribe (Described (receipt_of p.program p.version)) c (record { found = p; event = refl; is = refl; present = is; version = refl; cost = refl; budget = refl; vars = refl }) e
 
-  -- one of the serials passes the test of the word
+  -- if a test of the serials against a word passes, the word's serial is one of them.
   among_by : (x serial : ℕ) (xs : List ℕ) (b : Bool) → (x == serial) ≡ b → (list_any (λ y. y == serial) xs ≡ true → HasSerial xs serial) → (b || list_any (λ y. y == serial) xs) ≡ true → HasSerial (x ∷ xs) serial
   among_by x serial xs true is more e = record { before = []; after = xs; is = ap (λ (y : ℕ). y ∷ xs) (eqb-true x serial is) }
   among_by x serial xs false is more e = let w = more e in record { before = x ∷ w.before; after = w.after; is = ap (λ (l : List ℕ). x ∷ l) w.is }
@@ -166,8 +167,8 @@ module _ (k : ℕ) (job : Job) (slot : Slot) (ws : Around) (taken : ℕ) where
       so (Peek k n) (ToList seen) (Listed (seen.items ++ word_at ws.common.words n ∷ [])) c
       (record { seen = seen; event = ap (Peek k) last; is = refl; list_is = ap (λ (i : ℕ). seen.items ++ word_at ws.common.words i ∷ []) last; count = count }) e
 
--- number of tickets of a job that is to commit; a job that lists head words has at least one left
--- to read.
+-- the number of tickets that a job at the stage of its commit took. A job that lists head words has
+-- at least one left to read.
 abbrev IsCount : Stage → ℕ → Type 0
 IsCount (ToCommit n t) taken = (taken ≡ n) × (n ≤ 8)
 IsCount (ToList seen) taken = length seen.items < 64
@@ -219,7 +220,7 @@ pub answers_have_causes : (h : History) (r : Entry) (k : ℕ) (c : Content) → 
 unfolding seen
 answers_have_causes h r k c e = why_by h r k c (task_at (and_then r (seen h)).tasks k) (becomes r (seen h) k) e
 
--- a snapshot that finds no program has this answer.
+-- a snapshot that finds no program makes the answer `Missing`.
 pub empty_misses : (s : Seen) (k count : ℕ) (memory : Bool) (readings : List ℕ) (o : Option Emission) → stage s k ≡ ToTake count → (slot_at s (slot_of s k)).present ≡ None → stage (and_then (did (Take k memory readings) o) s) k ≡ ToAnswer Missing
 empty_misses s k count memory readings o is empty = named_stage (did (Take k memory readings) o) s k (is_here s k (ToTake count) is (λ e. absurd (cc e))) refl
     ∙ (ap (λ (x : Stage). (transition (Take k memory readings) (at (job s k) (slot_at s (slot_of s k)) (around s (slot_of s k)) x)).stage) is

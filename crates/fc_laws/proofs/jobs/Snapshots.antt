@@ -1,4 +1,4 @@
--- A job takes at most eight tickets, and a run's answer comes from the newest.
+-- A job takes at most eight tickets, and the answer of a run comes from the newest ticket.
 use Rattle.std.proofs.Common.{◌≡◌, ℕ, ◌<◌, ◌≤◌, List, [], ◌∷◌, ◌++◌, length, Bool, true, false, Option, Some, None, refl, sym, ap, ◌∙◌, subst, arith, if◌then◌else◌}
 use Rattle.std.specs.Prelude.{nat_lt, ◌==◌}
 use borrow.Author.Tests.{ltb-true, lt-ltb}
@@ -37,12 +37,12 @@ use Rattle.fc_core.proofs.ByStep as steps
 use Rattle.fc_laws.proofs.jobs.Along.{IsTold, along}
 use Rattle.fc_laws.proofs.jobs.Others.{is_here, named_stage}
 
--- a run's answer comes from the newest snapshot.
+-- the answer of a run comes from the newest of these snapshots.
 abbrev pub Says : List Snapshot → Content → Type 0
 Says ts (Ran run) = IsOfNewest ts run
 Says ts other = Unit {0}
 
--- a lease found the slot empty, or took one ticket.
+-- a lease took no ticket, since it found the slot empty, or one ticket.
 abbrev pub TookOne : List Snapshot → Option Ticket → Type 0
 TookOne ts None = length ts ≡ 0
 TookOne ts (Some t) = (length ts ≡ 1) × IsNewest ts t
@@ -52,7 +52,7 @@ TookTurn ts turns.ToTake = length ts ≡ 0
 TookTurn ts (turns.ToDraw found) = TookOne ts found
 TookTurn ts (turns.ToNote found id) = TookOne ts found
 
--- a job at this stage took these tickets
+-- a job at this stage took these tickets.
 abbrev pub Took : List Snapshot → Stage → Type 0
 Took ts (ToTake n) = (length ts ≡ n) × (n < 8)
 Took ts (ToCommit n t) = (length ts ≡ n) × (n ≤ 8) × IsNewest ts t
@@ -89,7 +89,8 @@ snapshot_took false readings k job slot cs ws n ts None e is lt = (omega arith, 
 snapshot_took true readings k job slot cs ws n ts (Some p) e is lt = (omega arith, omega arith, refl)
 snapshot_took false readings k job slot cs ws n ts (Some p) e is lt = (omega arith, tt)
 
--- the snapshot of a lease, with memory and without.
+-- after a snapshot with memory, a lease has one ticket, or none if the slot was empty or the lease
+-- wasn't active.
 turn_snapshot_took : (out : Bool) (readings : List ℕ) (turn : Turn) (job : Job) (serial : ℕ) (cs : List Change) (ts : List Snapshot) (p : Option Present) → length ts ≡ 0 → Took (finds_if out job readings serial p cs ++ ts) (turn_took turn (turn_snapshot out (Some readings) job serial p))
 turn_snapshot_took false readings turn job serial cs ts p none = omega (arith, none)
 turn_snapshot_took true readings turn job serial cs ts None none = none
@@ -167,7 +168,7 @@ transition_took e job slot cs ws s ts =
     by_step (λ d st m. Took ts st → Took (gives d (at job slot ws st) cs ++ ts) m.stage) job slot ws (λ k c asked. step_took k c job slot cs ws ts)
     (λ d st rest f. subst (λ (l : List Snapshot). Took (l ++ ts) st) (sym (rest.given slot ws cs)) f) e s
 
--- a job that has ended gets nothing.
+-- an event gives no ticket to a job that has ended.
 gone_given : (e : Event) (job : Job) (slot : Slot) (ws : Around) (cs : List Change) → gives e (at job slot ws Gone) cs ≡ []
 gone_given (Take k true readings) job slot ws cs = refl
 gone_given (Take k false readings) job slot ws cs = refl
@@ -212,7 +213,7 @@ said ts (ToRaise word content) run f e = says_run ts content run e f.1
 said ts (ToAnswer content) run f e = says_run ts content run e f.1
 said ts other run f e = absurd (none_isnt e)
 
--- the ticket that a lease notifies of.
+-- a lease that is to notify took one ticket, the one whose response it sends.
 pub told_newest : (h : History) (k id : ℕ) (turn : Turn) (t : Ticket) → stage (seen h) k ≡ ToTell turn (turns.ToNote (Some t) id) → (length (snapshots_of h k) ≡ 1) × IsNewest (snapshots_of h k) t
 told_newest h k id turn t is = subst (Took (snapshots_of h k)) is (known h k)
 
@@ -227,7 +228,8 @@ overtaken_outcome t slot wants other = ap (λ (w : Bool). outcome_by w (slot.ser
 abbrev committing : ℕ → ℕ → Option Emission → Entry
 committing k now o = did (Commit k now) o
 
--- a commit with a conflict leaves its job at this stage.
+-- after a commit with a conflict, its job is at the stage of another snapshot, or of a 5.03
+-- (Service Unavailable).
 overtaken_stage : (s : Seen) (k now : ℕ) (o : Option Emission) (w : IsOvertaken s k) → stage (and_then (committing k now o) s) k ≡ retaken w.count
 overtaken_stage s k now o w =
     named_stage (committing k now o) s k (is_here s k (ToCommit w.count w.ticket) w.at (λ gone. absurd (cc gone))) refl

@@ -1,4 +1,4 @@
--- Effect of one event on each job.
+-- The effect of one event on each job.
 use Rattle.std.proofs.Common.{◌≡◌, ℕ, zero, suc, ◌<◌, ◌≤◌, ◌-◌, List, [], ◌∷◌, ◌++◌, length, map, Option, Some, None, refl, sym, ap, ◌∙◌, subst, ⊎_elim, arith, max, length-append, length-set}
 use Rattle.std.proofs.lemmas.Bool.{cases_eq, cases_lt}
 use Rattle.std.specs.Option.{option_to_list}
@@ -22,7 +22,7 @@ pub data Becomes (o : Option ℕ) (e : Event) (s : Seen) (k : ℕ) (t : Task) : 
   Stays : (other : o ≡ Some k → ⊥) (is : t ≡ task_at s.tasks k) → Becomes o e s k t
   Comes : (new : length s.tasks ≤ k) (job : Job) (is : t ≡ new_task job) → Becomes o e s k t
 
--- a job that has ended remains so, whatever event names it.
+-- a job that has ended stays ended, whatever event names it.
 pub gone_stays : (e : Event) (job : Job) (slot : Slot) (ws : Around) → (transition e (record { job = job; slot = slot; around = ws; stage = Gone })).stage ≡ Gone
 gone_stays (Lose k) job slot ws = refl
 gone_stays other job slot ws = refl
@@ -45,7 +45,7 @@ module _ (e : Event) (s : Seen) where
   moved_length None = refl
   moved_length (Some k) = length-set s.tasks k (task_moved (task_at s.tasks k) (transition e (inputs s k)))
 
-  -- past the tasks there is none, or a new one.
+  -- at a number past the end of the tasks, an event leaves `no_task`.
   past : (o : Option ℕ) (k : ℕ) (t : Task) → length s.tasks ≤ k → t ≡ no_task → Becomes o e s k t
   past None k t le is = Stays (λ named. absurd (cc named)) (is ∙ sym (get_or_past s.tasks k no_task le))
   past (Some j) k t le is = ⊎_elim

@@ -30,7 +30,7 @@ use Rattle.fc_laws.proofs.jobs.Others.{no_slot, other_slot, own_slot}
 abbrev at : Job → Slot → Around → Stage → Inputs
 at job slot ws stage = record { job = job; slot = slot; around = ws; stage = stage }
 
--- changes of a transition.
+-- the changes that the transition of an event makes.
 data Makes (e : Event) (job : Job) (slot : Slot) (s : Stage) (cs : List Change) : Type 0 where
   None_made : (is : cs ≡ []) → Makes e job slot s cs
   Puts : (k : ℕ) (p : Program) (event : e ≡ Install k true) (at : s ≡ ToInstall) (accepted : judged (image_of job.ask) ≡ Accepts p) (below : slot.serial < 9223372036854775807) (is : cs ≡ Installed p (initial_vars_of job.ask) ∷ []) → Makes e job slot s cs
@@ -122,7 +122,8 @@ unfolding seen
 images (Begins serial id policy) n = tt
 images (Then h r) n = images_by r (seen h) n (does r (seen h) n) (images h n)
 
--- a program in the slot after these changes is from an image.
+-- if the program of a slot before its variables are written is from an image, so is the one
+-- afterwards.
 present_by : (o : Option Present) (vars : List ℕ) (p : Present) → ((q : Present) → o ≡ Some q → IsOfImage q.program) → with_vars vars o ≡ Some p → IsOfImage p.program
 present_by None vars p before e = absurd (cc)
 present_by (Some q) vars p before e =

@@ -1,4 +1,4 @@
--- A job changes its slot at most once, and then publishes its serial.
+-- A job changes its slot at most once, and then publishes the slot's serial.
 use Rattle.std.proofs.Common.{◌≡◌, ℕ, ◌+◌, ◌-◌, ◌<◌, ◌≤◌, length, Bool, true, false, Option, Some, None, refl, sym, ap, ◌∙◌, subst, ◌⊎◌, inl, inr, ⊎_elim, arith, if◌then◌else◌, length-append}
 use Rattle.std.specs.Prelude.{List, [], ◌∷◌, ◌++◌, nat_lt}
 use Rattle.std.proofs.lemmas.Bool.{cases_Bool, cases_lt, eqb-true}
@@ -34,7 +34,7 @@ use Rattle.fc_laws.proofs.jobs.NoOps.{no_ops_stay}
 abbrev at : Job → Slot → Around → Stage → Inputs
 at job slot ws stage = record { job = job; slot = slot; around = ws; stage = stage }
 
--- number of changes that a job publishes at this stage.
+-- the number of changes that a job at this stage is to publish.
 abbrev raises : Stage → ℕ
 raises (ToRaise word content) = 1
 raises other = 0
@@ -93,7 +93,7 @@ step_raises other job slot ws = refl
 true_isnt : true ≡ false → ⊥
 true_isnt e = cc e
 
--- an event that isn't a no-op makes as many changes as it leaves to publish.
+-- an event that isn't a no-op makes as many changes as it leaves its job to publish.
 transition_raises : (e : Event) (k : ℕ) (job : Job) (slot : Slot) (ws : Around) (s : Stage) → names e ≡ Some k → is_noop_at e job.origin.slot s ≡ false → length (transition e (at job slot ws s)).changes ≡ raises (transition e (at job slot ws s)).stage
 transition_raises e k job slot ws s =
     by_step (λ d st m. names d ≡ Some k → is_noop_at d job.origin.slot st ≡ false → length m.changes ≡ raises m.stage) job slot ws
@@ -101,7 +101,7 @@ transition_raises e k job slot ws s =
 
 -- ---- at most once
 
--- number of changes that a job at this stage made.
+-- the number of changes that a job at this stage has made.
 abbrev FitsChanges : ℕ → Stage → Type 0
 FitsChanges n (ToTake count) = n ≡ 0
 FitsChanges n (ToCommit count t) = n ≡ 0
@@ -212,7 +212,7 @@ is_told = record {
 pub changed_once : (h : History) (k : ℕ) → changes_by h k ≤ 1
 changed_once h k = one_change (stage (seen h) k) (changes_by h k) (along changes_by more_changes FitsChanges 0 is_told h k)
 
--- ---- and it is published
+-- ---- a change is published
 
 named_noop : (e : Event) (own k : ℕ) → names e ≡ Some k → is_noop_at e own Gone ≡ true
 named_noop (Deliver now to bytes) own k e = absurd (cc)
@@ -232,7 +232,7 @@ came r s k named noop = ⊎_elim
 noop_is : (r : Entry) (s : Seen) (k : ℕ) → names r.event ≡ Some k → is_noop s r.event ≡ is_noop_at r.event (slot_of s k) (stage s k)
 noop_is r s k named = ap (λ (o : Option ℕ). is_noop_at r.event (own_of_named s o) (stage_named s o)) named
 
--- additions of an event that isn't a no-op to its job's slot.
+-- an event that isn't a no-op changes its job's slot as often as it leaves a head word to publish.
 adds : (r : Entry) (s : Seen) (k : ℕ) → names r.event ≡ Some k → is_noop_at r.event (slot_of s k) (stage s k) ≡ false → length ((and_then r s).changes (slot_of s k)) ≡ raises (stage (and_then r s) k) + length (s.changes (slot_of s k))
 adds r s k named noop =
     own_length r s k named ∙ ap (λ (n : ℕ). n + length (s.changes (slot_of s k)))

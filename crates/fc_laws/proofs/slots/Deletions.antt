@@ -1,4 +1,4 @@
--- A slot is empty after a removal has this answer.
+-- A slot is empty after a removal makes the answer 2.02 (Deleted).
 use Rattle.std.proofs.Common.{◌≡◌, ℕ, List, [], ◌∷◌, ◌++◌, Bool, true, false, Option, Some, None, length, refl, sym, ap, ◌∙◌, subst, ◌⊎◌, inl, inr, arith, if◌then◌else◌}
 use Rattle.std.specs.Prelude.{nat_lt}
 use Rattle.fc_kinds.specs.Meaning.{Program}
@@ -32,7 +32,7 @@ use Rattle.fc_laws.proofs.jobs.Steps.{Becomes, Moves, Stays, Comes, becomes}
 abbrev at : Job → Slot → Around → Stage → Inputs
 at job slot ws stage = record { job = job; slot = slot; around = ws; stage = stage }
 
--- if the answer is this, the slot is empty.
+-- if the answer at this stage is 2.02 (Deleted), the slot is empty.
 abbrev IsEmptied : Slot → Stage → Type 0
 IsEmptied slot s = answer_at s ≡ Some Deleted → slot.present ≡ None
 

@@ -1,4 +1,4 @@
--- The head word that a job is to raise is that of its slot's new state.
+-- The head word that a job is to raise is that of the slot's new state.
 use Rattle.std.proofs.Common.{◌≡◌, ℕ, ◌+◌, List, [], ◌∷◌, ◌++◌, Bool, true, false, Option, Some, None, length, refl, sym, ap, ◌∙◌, subst, inl, inr, arith, if◌then◌else◌}
 use Rattle.std.specs.Prelude.{nat_lt, is_some}
 use Rattle.fc_verify.specs.Accepted.{Judgement, Accepts, Breaks, Untypable}
@@ -86,7 +86,8 @@ listed_publishes : (slot : Slot) (old : Stage) (b : Bool) (words : List ℕ) →
 listed_publishes slot old true words = tt
 listed_publishes slot old false words = tt
 
--- the head word that a transition leaves to raise is that of the slot after its changes.
+-- the head word that a transition leaves to raise is that of the slot after the transition's
+-- changes.
 step_publishes : (c : Step) (job : Job) (slot : Slot) (ws : Around) → FitsStage job slot (stage_by c) → PublishesAt (after_changes slot (effect_by c job slot ws).changes) (stage_by c) (effect_by c job slot ws).stage
 step_publishes (steps.Commits now n t) job slot ws f = committed_publishes job slot n t now ws (outcome t slot) refl f
 step_publishes (steps.Installs memory) job slot ws f = verified_publishes memory (at job slot ws ToInstall)
@@ -102,7 +103,7 @@ transition_publishes e job slot ws s =
     by_effect (λ st m. FitsStage job slot st → PublishesAt (after_changes slot m.changes) st m.stage) job slot ws
     (λ c asked. step_publishes c job slot ws) (λ st f. same_publishes slot st) e s
 
--- the slot of the job that an event names, after it.
+-- the slot of the job that an event names, after the event's changes.
 pub own_after : (r : Entry) (s : Seen) (k : ℕ) → names r.event ≡ Some k → slot_at (and_then r s) (slot_of s k) ≡ after_changes (slot_at s (slot_of s k)) (transition r.event (inputs s k)).changes
 own_after r s k named = ap (after_changes (new_slot s.first_serial)) (own_slot r s k named) ∙ after_changes-append (new_slot s.first_serial) (transition r.event (inputs s k)).changes (s.changes (slot_of s k))
 

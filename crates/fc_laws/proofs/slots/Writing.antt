@@ -48,9 +48,10 @@ sound (Then h r) = still_sound r (seen h) (sound h)
 pub chains : (h : History) (n : ℕ) → IsChain (new_slot (seen h).first_serial) ((seen h).changes n)
 chains h n = (sound h).chain n
 
--- ---- a snapshot found its slot as it was before it
+-- ---- the state of the slot that a snapshot found
 
--- the slot of the job has these changes since the snapshot, which found the serial before them.
+-- the snapshot was taken before these changes of the job's slot, and has the serial of the slot at
+-- that time.
 record IsSince (s : Seen) (k : ℕ) (t : Snapshot) : Type 0 where
   since : List Change
   is : s.changes (slot_of s k) ≡ since ++ t.changes
@@ -122,7 +123,8 @@ serial_by s k n t (x ∷ xs) took w same = ap (λ (cs : List Change). (after_cha
 took_at : (h : History) (k n : ℕ) (t : Ticket) → stage (seen h) k ≡ ToCommit n t → Took (snapshots_of h k) (ToCommit n t)
 took_at h k n t is = subst (Took (snapshots_of h k)) is (known h k)
 
--- a slot's changes are those before its job's last snapshot exactly if its serial is the ticket's.
+-- if the slot's serial is that of the ticket, the slot's changes are those before the job's last
+-- snapshot.
 pub unchanged : (h : History) (k n : ℕ) (t : Ticket) → stage (seen h) k ≡ ToCommit n t → (slot_at (seen h) (slot_of (seen h) k)).serial ≡ t.serial → IsUnchanged (snapshots_of h k) ((seen h).changes (slot_of (seen h) k))
 unchanged h k n t is same = unchanged_by (seen h) k n t (snapshots_of h k) (took_at h k n t is) (all_since h k) same
 
@@ -152,7 +154,7 @@ pub commit_writes : (h : History) (k now n : ℕ) (o : Option Emission) (t : Tic
 unfolding seen
 commit_writes h k now n o t is w = commit_changes (seen h) k now n o t Writes is (written_outcome h k n t is w)
 
--- a GET and a code of another class than 2 write nothing.
+-- a GET wants to write nothing, and neither does a run whose code isn't of class 2.
 get_wants : (m : Method) (b : Bool) → m ≡ Get → (is_post m && b) ≡ false
 get_wants Get b g = refl
 get_wants Post b g = absurd (cc)
@@ -170,7 +172,7 @@ unwanted t e = ⊎_elim
 pub keeps_unwanted : (t : Ticket) (slot : Slot) (w : Bool) → wants t ≡ w → w ≡ false → outcome t slot ≡ Keeps
 keeps_unwanted t slot w is e = ap (λ (b : Bool). outcome_by b (slot.serial == t.serial) (nat_lt slot.serial last_serial)) (is ∙ e)
 
--- a slot whose job, or another's, makes an unwanted commit.
+-- if a transition makes no change, each slot is unchanged, whether or not it is the job's.
 kept_if : (s : Seen) (e : Event) (k n : ℕ) (b : Bool) (at : Inputs) → (transition e at).changes ≡ [] → (if b then (transition e at).changes ++ s.changes n else s.changes n) ≡ s.changes n
 kept_if s e k n true at is = ap (λ (cs : List Change). cs ++ s.changes n) is
 kept_if s e k n false at is = refl

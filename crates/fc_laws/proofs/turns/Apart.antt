@@ -32,7 +32,8 @@ at job slot ws stage = record { job = job; slot = slot; around = ws; stage = sta
 
 -- ---- a property of each job of a history
 
--- a property of each job at its first stage, which each transition keeps, holds for each job.
+-- if each transition keeps a property, and each job has it at its first stage, each job of a
+-- history has it.
 module _ (Q : Job → Stage → Type 0) (gone : (j : Job) → Q j Gone) (first : (j : Job) → Q j (first_stage j)) (keeps : (e : Event) (j : Job) (slot : Slot) (ws : Around) (st : Stage) → Q j st → Q j (transition e (at j slot ws st)).stage) where
   every_by : (r : Entry) (s : Seen) (k : ℕ) (t : Task) → Becomes (names r.event) r.event s k t → Q (job s k) (stage s k) → Q t.job t.stage
   every_by r s k t (Moves named is) q = subst (λ (x : Task). Q x.job x.stage) (sym is) (keeps r.event (job s k) (slot_at s (slot_of s k)) (around s (slot_of s k)) (stage s k) q)
@@ -94,7 +95,7 @@ request_apart h k turn needs none is =
     let fits = subst (FitsStage (job (seen h) k) (slot_at (seen h) (slot_of (seen h) k))) is ((sound h).stages k) in
     cc (none, fits.1)
 
--- ---- its end
+-- ---- the end of a lease's job
 
 -- a job that has ended after an event has ended for ever.
 gone_ever : (h : History) (r : Entry) (rs : List Entry) (k : ℕ) → HasCome (seen h) k → stage (and_then r (seen h)) k ≡ Gone → stage (seen (followed_by (Then h r) rs)) k ≡ Gone

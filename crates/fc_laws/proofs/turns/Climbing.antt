@@ -47,7 +47,8 @@ mark_missing_above true turn None m w = (λ k d lt. tt, (λ k d lt. tt, tt))
 mark_missing_above true turn (Some p) m w = (λ k d lt. tt, tt)
 mark_missing_above false turn present m w = (λ k d lt. tt, tt)
 
--- a notification has a serial at least that for which its lease was granted.
+-- the call of a notification sends its observer a serial that is at least the serial for which the
+-- lease was granted.
 told_above : (b : Bool) (turn : Turn) (id random m serial n confirm_after : ℕ) (e : Emission) (calls : List ObserverCall) → noticed_for turn.number n confirm_after calls ≤ serial → All (Above (told_call b turn id random m serial e.bytes) (list_at_time m (observers n confirm_after calls))) (observers n confirm_after calls).held
 told_above true turn id random m serial n confirm_after e calls le = sent_above n confirm_after m turn serial (Advance m ∷ calls) le
 told_above false turn id random m serial n confirm_after e calls le = λ k d lt. tt
@@ -94,7 +95,8 @@ module _ (h : History) (r : Entry) (n : ℕ) where
   slot_above k true named is = transition_above k (transition r.event (inputs s k)).calls named (eqb-true (slot_of s k) n is) (transition_calls r.event (job s k) (slot_at s (slot_of s k)) (around s (slot_of s k)) (stage s k))
   slot_above k false named is = tt
 
-  -- the calls of the job that it names come after those of its shard, of which there are none.
+  -- an event that names a job makes no call of its shard, so the job's calls are above the serials
+  -- that were sent.
   named_above : (o : Option ℕ) → names r.event ≡ o → AreAbove (calls_named o r.event s n) (watch s n)
   named_above None named = tt
   named_above (Some k) named = slot_above k (slot_of s k == n) named refl
@@ -147,7 +149,7 @@ module _ (h : History) (k now random id : ℕ) (turn : Turn) (t : Ticket) (o : O
   abbrev sent : Option Emission
   sent = note_at turn id time (Some t) (watch (seen h) n)
 
-  -- the clock is advanced once.
+  -- the lease is still active after the time is passed to the observers, once or twice.
   out_again : entry_out turn (list_at_time time (observers n confirm_after (Advance time ∷ calls))) ≡ Some o
   out_again =
       let w = watch (seen h) n in
@@ -174,7 +176,7 @@ module _ (h : History) (k now random id : ℕ) (turn : Turn) (t : Ticket) (o : O
   unfolding seen
   noted_seen emitted = noted_from emitted
 
-  -- a later notification of that observer
+  -- a later notification to the same observer has a greater serial.
   pub serials_climb : (rs : List Entry) (g : History) (j next other : ℕ) (next_turn : Turn) (u : Ticket) (x : ObserverEntry) (emitted : Option Emission) → NoneRegisters (Then h (did (Note k now random) emitted)) rs n to token → g ≡ followed_by (Then h (did (Note k now random) emitted)) rs → stage (seen g) j ≡ ToTell next_turn (turns.ToNote (Some u) other) → slot_of (seen g) j ≡ n → entry_out next_turn (list_at_time next (watch (seen g) n)) ≡ Some x → is_entry_of to token x ≡ true → t.serial < u.serial
   serials_climb rs g j next other next_turn u x emitted none same is_next slot out_next own_next =
       let from = subst (λ (y : History). All (SentFrom t.serial to token) (watch (seen y) n).held) (sym same) (from_later n t.serial to token rs (Then h (did (Note k now random) emitted)) none (noted_seen emitted)) in

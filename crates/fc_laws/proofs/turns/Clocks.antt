@@ -33,7 +33,7 @@ use Rattle.fc_core.proofs.Watches.{after_append}
 
 -- ---- a call
 
--- the time that it passes is at most this.
+-- the time that the call passes is at most this time.
 abbrev ReachesTo : ℕ → ObserverCall → Type 0
 ReachesTo m (Advance now) = now ≤ m
 ReachesTo m (Register now to token request szx serial) = now ≤ m
@@ -133,14 +133,14 @@ overdue_low : (s : Seen) (i at k : ℕ) → overdue_in s i at ≡ Some k → i <
 unfolding overdue_in
 overdue_low s i at k is = low_by (is_overdue_at s i at) i k (nat_lt i 8) refl is
 
--- the shard of the slot at a place
+-- the shard of a slot is the remainder of the slot's number by eight.
 shard_is : (k i n : ℕ) → i < 8 → 8 * k + i ≡ n → i ≡ n % 8
 shard_is k i n low is =
     let turned : n ≡ k * 8 + i = omega (arith, is) in
     sym (ap (λ (x : ℕ). x % 8) turned ∙ mod-mul-add k 8 i low)
 
 module _ (s : Seen) where
-  -- time of a shard after an event.
+  -- the time of a shard after an event.
   abbrev later : Event → ℕ → ℕ
   later e i = handed (hands_by (at_shard e) i) (shard_time_after (names e) e s i)
 
@@ -158,7 +158,7 @@ module _ (s : Seen) where
       let own = handed_rises (hands_by (at_shard e) i) (shard_time_after (names e) e s i) in
       omega (arith, before, own)
 
-  -- the calls of the job that it names
+  -- the time that the calls of a job pass is at most that of the slot's shard after the event.
   own_time : (e : Event) (k : ℕ) → names e ≡ Some k → handed (transition e (inputs s k)).hands (s.shard_time (slot_of s k % 8)) ≤ later e (slot_of s k % 8)
   own_time e k named =
       let i = slot_of s k % 8 in
@@ -178,7 +178,7 @@ module _ (s : Seen) where
   named_reach e n None named = tt
   named_reach e n (Some k) named = slot_reaches e k n (slot_of s k == n) named refl
 
-  -- those of its own shard
+  -- the time that an event of a shard passes is at most that of the shard after the event.
   at_shard_time : (shard now n : ℕ) → shard ≡ n % 8 → max (s.shard_time shard) now ≤ handed (if (shard == (n % 8)) && nat_lt (n % 8) 8 then Some now else None) (s.shard_time (n % 8))
   at_shard_time shard now n is =
       let same = ap s.shard_time is in
@@ -224,6 +224,6 @@ unfolding seen
 follows_shard (Begins serial id policy) n = omega arith
 follows_shard (Then h r) n = follows_after (seen h) r n (follows_shard h n)
 
--- the time of a lease's observers, if their shard is passed one.
+-- if the time of a slot's shard is passed to the slot's observers, their time is that of the shard.
 pub turn_time : (h : History) (k now : ℕ) → max (watch (seen h) (slot_of (seen h) k)).time (time_at (seen h) k now) ≡ time_at (seen h) k now
 turn_time h k now = let le = follows_shard h (slot_of (seen h) k) in omega (arith, le)

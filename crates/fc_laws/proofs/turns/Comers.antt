@@ -1,4 +1,4 @@
--- The clients that become observers of a slot, and the events.
+-- The clients that become observers of a slot, and the events that register them.
 use Rattle.std.proofs.Common.{◌≡◌, ℕ, List, [], ◌∷◌, ◌++◌, Bool, true, false, Option, Some, None, max, refl, sym, ap, ◌∙◌, subst, ◌⊎◌, inl, inr, ⊎_elim, if◌then◌else◌}
 use Rattle.std.specs.Prelude.{◌==◌, ◌&&◌, ◌%◌, nat_eq}
 use Rattle.std.specs.Cmp.Lexicographic.{pointwise}
@@ -60,7 +60,7 @@ none_in other s n to token = tt
 
 -- ---- registrations
 
--- a commit's calls register this client, or they don't
+-- the calls of a commit register this client, or they don't.
 module _ (to : Endpoint) (token : List ℕ) (time : ℕ) (t : Ticket) where
   abbrev is_client : Bool
   is_client = same_endpoint t.origin.endpoint to && pointwise nat_eq t.token.items token
@@ -75,7 +75,8 @@ module _ (to : Endpoint) (token : List ℕ) (time : ℕ) (t : Ticket) where
   registers_or_not = subst (λ (b : Bool). RegistersNone to token (observe_calls_by b (is_cancellation t) time t) ⊎ ((is_registration t ≡ true) × (is_client ≡ true))) refl (by_tests (is_registration t) (is_cancellation t) is_client refl refl)
 
 module _ (r : Entry) (s : Seen) (n : ℕ) (to : Endpoint) (token : List ℕ) where
-  -- the calls of the event that names this job
+  -- if the calls of the event that names a job register this client, the event is the commit of the
+  -- client's GET.
   by_transition : (k : ℕ) (cs : List ObserverCall) → names r.event ≡ Some k → slot_of s k ≡ n → CallsBy r.event (around s (slot_of s k)) (stage s k) cs → RegistersNone to token cs ⊎ Registers r s n to token
   by_transition k cs named slot (NoCall is) = inl (subst (RegistersNone to token) (sym is) tt)
   by_transition k cs named slot (OfSnapshot turn time present t is) = inl (subst (RegistersNone to token) (sym is) (mark_missing_registers (is_out_at turn time t) turn present time to token))
@@ -98,14 +99,14 @@ module _ (r : Entry) (s : Seen) (n : ℕ) (to : Endpoint) (token : List ℕ) whe
   by_name None named = inl tt
   by_name (Some k) named = by_slot k (slot_of s k == n) named refl
 
-  -- an event that doesn't register this client
+  -- an event that doesn't register this client makes no call that registers it.
   pub registers_none : (Registers r s n to token → ⊥) → RegistersNone to token (calls_named (names r.event) r.event s n)
   registers_none not = ⊎_elim
       (λ (none : RegistersNone to token (calls_named (names r.event) r.event s n)). none)
       (λ (own : Registers r s n to token). absurd (not own))
       (by_name (names r.event) refl)
 
-  -- if the event doesn't register it, it remains absent.
+  -- if the event's calls don't register an absent client, the client remains absent.
   stays_away : RegistersNone to token (calls_named (names r.event) r.event s n) → is_held to token (watch s n) ≡ false → is_held to token (watch (and_then r s) n) ≡ false
   stays_away none away =
       let named = calls_named (names r.event) r.event s n in
@@ -123,14 +124,16 @@ module _ (r : Entry) (s : Seen) (n : ℕ) (to : Endpoint) (token : List ℕ) whe
       (by_name (names r.event) refl))
       (cases_Bool (is_held to token (watch s n)))
 
--- a client that isn't among them remains absent until it registers.
+-- a flag that isn't true is false.
 stays_by : (b : Bool) → (b ≡ true → ⊥) → b ≡ false
 stays_by true not = absurd (not refl)
 stays_by false not = refl
 
+-- an absent client remains absent after an event that doesn't register it.
 away_next : (r : Entry) (s : Seen) (n : ℕ) (to : Endpoint) (token : List ℕ) → (Registers r s n to token → ⊥) → is_held to token (watch s n) ≡ false → is_held to token (watch (and_then r s) n) ≡ false
 away_next r s n to token not away = stays_by (is_held to token (watch (and_then r s) n)) (λ there. ⊎_elim (λ (was : is_held to token (watch s n) ≡ true). absurd (cc (was, away))) not (come_by_commits r s n to token there))
 
+-- a client that isn't among the observers remains absent until it registers.
 pub away_later : (rs : List Entry) (h : History) (n : ℕ) (to : Endpoint) (token : List ℕ) → NoneRegisters h rs n to token → is_held to token (watch (seen h) n) ≡ false → is_held to token (watch (seen (followed_by h rs)) n) ≡ false
 unfolding seen
 away_later [] h n to token none away = away

@@ -28,7 +28,7 @@ neither : (a b : Bool) → (a ≡ true → b ≡ false) → (a && b) ≡ false
 neither true b one = one refl
 neither false b one = refl
 
--- its time is passed to no shard.
+-- an event of a shard above 7 passes its time to no shard.
 not_handed : (shard i now before : ℕ) → 8 ≤ shard → handed (if (shard == i) && nat_lt i 8 then Some now else None) before ≡ before
 not_handed shard i now before high = ap (λ (b : Bool). handed (if b then Some now else None) before) (neither (shard == i) (nat_lt i 8) (λ same. let at = eqb-true shard i same in le-ltb i 8 (omega (arith, at, high))))
 

@@ -24,7 +24,7 @@ use Rattle.fc_laws.specs.TurnLaws.{IsNoContent, time_at}
 use Rattle.fc_laws.proofs.turns.Notices.{note_sends}
 use Rattle.fc_laws.proofs.turns.Turning.{at_stage}
 
--- end of its lease.
+-- a notification that isn't a 2.05 (Content) ends the lease of its observer.
 turn_ends : (turn : Turn) (id random at : ℕ) (found : Option Ticket) (e : Emission) → IsNoContent found → note_calls turn id random at found (Some e) ≡ End turn ∷ Advance at ∷ []
 turn_ends turn id random at None e not = refl
 turn_ends turn id random at (Some t) e not = error_ends turn id random at t e not
@@ -36,7 +36,7 @@ module _ (s : Seen) (k now random id : ℕ) (turn : Turn) (found : Option Ticket
   abbrev at : ℕ
   at = time_at s k now
 
-  -- the list after the notification
+  -- the observers after the notification are those without the lease's observer.
   ended : stage s k ≡ ToTell turn (turns.ToNote found id) → IsNoContent found → Emits s (Note k now random) (Some e) → watch (and_then (did (Note k now random) (Some e)) s) n ≡ observers n s.policy.confirm_after (End turn ∷ Advance at ∷ s.calls n)
   ended is not sent =
       ap (λ (b : Bool). observers n s.policy.confirm_after ((if b then (transition (Note k now random) (inputs s k)).calls else []) ++ s.calls n)) (eq-eqb n n refl)

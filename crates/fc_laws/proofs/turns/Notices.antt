@@ -1,4 +1,4 @@
--- A lease's notification, and its receiver.
+-- The notification of a lease, and its receiver.
 use Rattle.std.proofs.Common.{◌≡◌, ℕ, ◌+◌, ◌*◌, ◌<◌, ◌≤◌, List, [], ◌∷◌, cond, subst, arith, Bool, true, false, Option, Some, None, refl, sym, ap, ◌∙◌, max, if◌then◌else◌}
 use Rattle.std.specs.Prelude.{◌==◌, find, is_some, nat_le, nat_lt}
 use Rattle.std.specs.List.{All, Contains}
@@ -49,7 +49,7 @@ kind_is true = refl
 kind_is false = refl
 
 module _ (turn : Turn) (id at : ℕ) (w : ObserverList) (found : Option Ticket) (e : Emission) (later : max w.time at ≡ at) (confirm_after : ℕ) (after_is : w.confirm_after ≡ confirm_after) where
-  -- by the entry that has the lease out.
+  -- an emission by an entry that has the active lease is a notification to that entry.
   notifies_by : (x : Option Entry) → entry_out turn (list_at_time at w) ≡ x → Some e ≡ option_map (note_to id (must_confirm_by x w.confirm_after (max w.time at)) found) (option_map interest_of x) → Notifies turn id at confirm_after w (note_response found) e
   notifies_by None out sent = absurd (cc sent)
   notifies_by (Some o) out sent =
@@ -66,7 +66,8 @@ module _ (turn : Turn) (id at : ℕ) (w : ObserverList) (found : Option Ticket) 
   notifies_out : Some e ≡ option_map (note_to id (must_confirm_by (entry_out turn (list_at_time at w)) w.confirm_after (max w.time at)) found) (option_map interest_of (entry_out turn (list_at_time at w))) → Notifies turn id at confirm_after w (note_response found) e
   notifies_out sent = notifies_by (entry_out turn (list_at_time at w)) refl sent
 
-  -- for an empty slot, if the lease missed its program.
+  -- an emission for an empty slot is a notification too. For an empty slot only a lease notifies
+  -- that is marked as missing.
   notifies_if : (b : Bool) → Some e ≡ option_map (note_to id (must_confirm_by (entry_out turn (list_at_time at w)) w.confirm_after (max w.time at)) found) (if b then option_map interest_of (entry_out turn (list_at_time at w)) else None) → Notifies turn id at confirm_after w (note_response found) e
   notifies_if true sent = notifies_out sent
   notifies_if false sent = absurd (cc sent)
@@ -75,7 +76,7 @@ sent_notifies : (turn : Turn) (id at : ℕ) (w : ObserverList) (found : Option T
 sent_notifies turn id at w None e later confirm_after after_is sent = notifies_if turn id at w None e later confirm_after after_is (is_missing turn (list_at_time at w)) sent
 sent_notifies turn id at w (Some t) e later confirm_after after_is sent = notifies_out turn id at w (Some t) e later confirm_after after_is sent
 
--- the emission of a lease that is to notify.
+-- the emission of the event of a lease that is to notify is that of the lease's notification.
 pub note_sends : (s : Seen) (k now random id : ℕ) (turn : Turn) (found : Option Ticket) (o : Option Emission) → stage s k ≡ ToTell turn (turns.ToNote found id) → Emits s (Note k now random) o → o ≡ note_at turn id (time_at s k now) found (watch s (slot_of s k))
 note_sends s k now random id turn found o is sent = sent ∙ ap (λ (st : Stage). notification now (inputs s k) st) is
 
@@ -116,7 +117,7 @@ none_by : (o : Option Emission) → is_some o ≡ false → o ≡ None
 none_by None e = refl
 none_by (Some x) e = absurd (cc e)
 
--- a lease that has lapsed isn't out any more.
+-- a lease that was granted at least 247,000 ms before isn't active any more.
 lapsed_in : (slot m : ℕ) (turn : Turn) (o : Entry) → ((since : ℕ) (missing : Bool) → o.phase ≡ TurnOut turn.number since missing → since + 247000 ≤ m) → has_turn slot m turn o ≡ false
 lapsed_in slot m turn o lapsed = false_from_ne_true (has_turn slot m turn o) (λ out.
     let parts = and_parts (turn.slot == slot) (is_out_in m turn.number o.phase) out in
@@ -135,7 +136,7 @@ lapsed_silent h k now random id turn found o is sent lapsed =
     (All-weaker (HasLapsed turn at) (λ (e : Entry). is_out turn (list_at_time at w) e ≡ false) (λ e over. lapsed_in w.slot (max w.time at) turn e (subst (λ (m : ℕ). HasLapsed turn m e) (sym later) over)) w.held lapsed) in
     none_by o (sends_where_out h k now random id turn found o is sent ∙ ap (λ (x : Option Entry). is_some x) none)
 
--- a lease that was released has ended.
+-- an event of a lease that has ended is a no-op.
 gone_noop : (s : Seen) (k now random : ℕ) → stage s k ≡ Gone → is_noop s (Note k now random) ≡ true
 gone_noop s k now random gone = ap (is_noop_at (Note k now random) (slot_of s k)) gone
 
@@ -148,13 +149,13 @@ given_up_silent h rs k now next random turn needs e o is sent = gone_silent (see
 pub noted_silent : (h : History) (rs : List HistoryEntry) (k now random next again id : ℕ) (turn : Turn) (found : Option Ticket) (e o : Option Emission) → stage (seen h) k ≡ ToTell turn (turns.ToNote found id) → Emits (seen (followed_by (Then h (did (Note k now random) e)) rs)) (Note k next again) o → o ≡ None
 noted_silent h rs k now random next again id turn found e o is sent = gone_silent (seen (followed_by (Then h (did (Note k now random) e)) rs)) k next again o (noted_ever h rs k now random id turn found e is) sent
 
--- ---- the serials that it sends
+-- ---- the serials that a lease sends
 
 found_if : (P : Entry → Type 0) (p : Entry → Bool) (o x : Entry) (os : List Entry) (b : Bool) → p o ≡ b → P o → (find p os ≡ Some x → P x × (p x ≡ true)) → cond b (Some o) (find p os) ≡ Some x → P x × (p x ≡ true)
 found_if P p o x os true passes here rest found = let same : o ≡ x = cc found in (subst P same here, ap p (sym same) ∙ passes)
 found_if P p o x os false passes here rest found = rest found
 
--- a property of each element holds for the one that is found, which passes.
+-- if each element has a property, so has the element that a search finds, which passes the test.
 pub found_holds : (P : Entry → Type 0) (p : Entry → Bool) (os : List Entry) (x : Entry) → All P os → find p os ≡ Some x → P x × (p x ≡ true)
 found_holds P p [] x all found = absurd (cc found)
 found_holds P p (o ∷ os) x all found = found_if P p o x os (p o) refl (All-head P o os all) (found_holds P p os x (All-tail P o os all)) found
@@ -185,7 +186,7 @@ goes_to_held turn id at confirm_after w response e n = record {
 pub notified_held : (h : History) (k now random id : ℕ) (turn : Turn) (found : Option Ticket) (e : Emission) → stage (seen h) k ≡ ToTell turn (turns.ToNote found id) → Emits (seen h) (Note k now random) (Some e) → IsToHeld (watch (seen h) (slot_of (seen h) k)) e
 notified_held h k now random id turn found e is sent = goes_to_held turn id (time_at (seen h) k now) (seen h).policy.confirm_after (watch (seen h) (slot_of (seen h) k)) (note_response found) e (notifies h k now random id turn found e is sent)
 
--- the notification of an entry in this phase, retransmitted.
+-- the emission is the outstanding notification of an entry in this phase, retransmitted.
 record ResendsIn (to : Endpoint) (p : Phase) (e : Emission) : Type 0 where
   sent_at : ℕ
   timeout : ℕ

@@ -1,4 +1,4 @@
--- Calls of commits on the observers of a slot.
+-- The calls of commits on the observers of a slot.
 use Rattle.std.proofs.Common.{◌≡◌, ℕ, ◌%◌, List, [], ◌∷◌, ◌++◌, length, Bool, true, false, Option, Some, None, max, refl, sym, ap, ◌∙◌, inl, if◌then◌else◌}
 use Rattle.std.specs.Prelude.{◌==◌, ◌&&◌, ◌||◌, nat_lt}
 use Rattle.std.specs.List.{list_any}
@@ -65,7 +65,7 @@ not_true false not = refl
 abbrev at : Seen → ℕ → Stage → Inputs
 at s k st = record { job = job s k; slot = slot_at s (slot_of s k); around = around s (slot_of s k); stage = st }
 
--- the observers of the job's slot, by the commit's outcome.
+-- the observers of the job's slot after a commit are those after the calls of the commit's outcome.
 watched : (s : Seen) (k now n : ℕ) (t : Ticket) (o : Option Emission) (x : CommitOutcome) → stage s k ≡ ToCommit n t → outcome t (slot_at s (slot_of s k)) ≡ x → watch (and_then (did (Commit k now) o) s) (slot_of s k) ≡ observers (slot_of s k) s.policy.confirm_after ((committed x n t now (slot_at s (slot_of s k)).serial (around s (slot_of s k))).calls ++ s.calls (slot_of s k))
 watched s k now n t o x is comes =
     let m = slot_of s k in
@@ -73,7 +73,7 @@ watched s k now n t o x is comes =
     ∙ (ap (λ (st : Stage). observers m s.policy.confirm_after ((transition (Commit k now) (at s k st)).calls ++ s.calls m)) is
     ∙ ap (λ (y : CommitOutcome). observers m s.policy.confirm_after ((committed y n t now (slot_at s m).serial (around s m)).calls ++ s.calls m)) comes)
 
--- and the job's stage after it.
+-- the stage of the job after a commit is that of the commit's outcome.
 leaves : (s : Seen) (k now n : ℕ) (t : Ticket) (o : Option Emission) (x : CommitOutcome) → stage s k ≡ ToCommit n t → outcome t (slot_at s (slot_of s k)) ≡ x → stage (and_then (did (Commit k now) o) s) k ≡ (committed x n t now (slot_at s (slot_of s k)).serial (around s (slot_of s k))).stage
 leaves s k now n t o x is comes =
     named_stage (did (Commit k now) o) s k (is_here s k (ToCommit n t) is (λ e. absurd (cc e))) refl
@@ -100,7 +100,7 @@ or_true : (b : Bool) → (b || true) ≡ true
 or_true true = refl
 or_true false = refl
 
--- a client that is entered is among the entries.
+-- a client that was registered is among the entries.
 entered_among : (o : Entry) (held : List Entry) (b : Bool) → list_any (is_entry_of o.endpoint o.token.items) held ≡ b → list_any (is_entry_of o.endpoint o.token.items) (without_those (is_entry_of o.endpoint o.token.items) held ++ o ∷ []) ≡ true
 entered_among o held b is =
     let p = is_entry_of o.endpoint o.token.items in
@@ -151,6 +151,6 @@ others_call_nothing s k now n t o is asks one =
     watched s k now n t o x is refl
     ∙ ap (λ (cs : List ObserverCall). observers m s.policy.confirm_after (cs ++ s.calls m)) (none_called x n now (slot_at s m).serial t (around s m) (not_true (is_registration t) (λ e. asks (asked t e))) (not_true (is_cancellation t) (λ e. one (value_is 1 t.observe e))))
 
--- another slot's
+-- a commit leaves the observers of another slot unchanged.
 pub other_slots_stay : (s : Seen) (k now m : ℕ) (o : Option Emission) → (m ≡ slot_of s k → ⊥) → watch (and_then (did (Commit k now) o) s) m ≡ watch s m
 other_slots_stay s k now m o ne = ap (λ (b : Bool). observers m s.policy.confirm_after ((if b then (transition (Commit k now) (inputs s k)).calls else []) ++ s.calls m)) (ne_eqb (slot_of s k) m (λ q. ne (sym q)))

@@ -1,4 +1,4 @@
--- Retransmissions of a shard's tick.
+-- The retransmissions of a shard's tick.
 use Rattle.std.proofs.Common.{◌≡◌, ℕ, ◌+◌, ◌*◌, ◌<◌, ◌≤◌, Bool, true, false, Option, Some, None, ap, ◌∙◌, max}
 use Rattle.std.specs.Prelude.{nat_lt, if◌then◌else◌}
 use Rattle.std.proofs.lemmas.Bool.{le-ltb, lt-ltb}
@@ -13,12 +13,13 @@ use Rattle.fc_core.specs.declared.event.Event.TheVariants.{ShardTick}
 use Rattle.fc_core.specs.History.{Seen, overdue_in, watch}
 use Rattle.fc_core.specs.Legal.{Emits, resent, resent_at}
 
--- if the tick finds no notification that has timed out.
+-- if no notification has timed out, the tick sends nothing.
 pub none_resent : (s : Seen) (i now : ℕ) (o : Option Emission) → overdue_in s i (max (s.shard_time i) now) ≡ None → Emits s (ShardTick i now) o → o ≡ None
 none_resent s i now o none sent = sent ∙ ap (λ (p : Option ℕ). resent_at p s i (max (s.shard_time i) now)) none
 
 module _ (s : Seen) (i k now sent_at timeout count : ℕ) (bytes : ArrayVec ℕ) (x : ObserverEntry) (o : Option Emission) (first : overdue_in s i (max (s.shard_time i) now) ≡ Some k) (overdue : overdue_entry (list_at_time (max (s.shard_time i) now) (watch s (8 * k + i))) ≡ Some x) (phase : x.phase ≡ Outstanding sent_at timeout count bytes) where
-  -- by whether it was retransmitted less than four times.
+  -- the tick sends the notification again if it was retransmitted less than four times, and
+  -- otherwise nothing.
   resent_by : (b : Bool) → nat_lt count 4 ≡ b → Emits s (ShardTick i now) o → o ≡ resent (ticked_by (if b then Some (record { to = x.endpoint; bytes = bytes }) else None))
   resent_by b few sent =
       sent

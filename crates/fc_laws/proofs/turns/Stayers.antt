@@ -1,4 +1,4 @@
--- The observers that remain, and the events that remove one.
+-- The observers that stay in the list, and the events that remove one.
 use Rattle.std.proofs.Common.{◌≡◌, ℕ, ◌<◌, ◌≤◌, List, [], ◌∷◌, ◌++◌, Bool, true, false, Option, Some, None, max, refl, sym, ap, ◌∙◌, subst, ◌⊎◌, inl, inr, ⊎_elim, if◌then◌else◌}
 use Rattle.std.specs.Prelude.{◌==◌, ◌&&◌, ◌%◌, nat_eq, nat_lt}
 use Rattle.std.specs.Cmp.Lexicographic.{pointwise}
@@ -48,7 +48,7 @@ module _ (to : Endpoint) (token : List ℕ) where
   one_if true c w not some = one_stays c w not some
   one_if false c w not some = some
 
-  -- those of a commit, if the client isn't the one that cancels.
+  -- an observer stays after the calls of a commit, or the commit cancels this observer.
   observed_stays : (time : ℕ) (t : Ticket) (w : ObserverList) (b c : Bool) → is_cancellation t ≡ c → is_held to token w ≡ true → (is_held to token (after_calls (observe_calls_by b c time t) w) ≡ true) ⊎ ((is_cancellation t ≡ true) × ((same_endpoint t.origin.endpoint to && pointwise nat_eq t.token.items token) ≡ true))
   observed_stays time t w true c is some = inl (one_stays (Register time t.origin.endpoint t.token t.request (szx_of t.block) t.serial) w (λ x. x) some)
   observed_stays time t w false true is some = ⊎_elim
@@ -57,7 +57,8 @@ module _ (to : Endpoint) (token : List ℕ) where
       (stays_or_goes to token (Cancel t.origin.endpoint t.token.items) w some)
   observed_stays time t w false false is some = inl some
 
-  -- those of a notification, if the client isn't the one whose lease ends in this way.
+  -- an observer stays after the call of a notification, or its own lease ends without a 2.05
+  -- (Content).
   told_stays : (b : Bool) (turn : Turn) (id random time serial : ℕ) (bytes : ArrayVec ℕ) (w : ObserverList) → is_held to token w ≡ true → (is_held to token (observers_after (told_call b turn id random time serial bytes) (list_at_time time w)) ≡ true) ⊎ ((b ≡ false) × ((o : ObserverEntry) × (entry_out turn (list_at_time time w) ≡ Some o) × (is_entry_of to token o ≡ true)))
   told_stays true turn id random time serial bytes w some = inl (one_stays (Notify time turn id serial random bytes) (list_at_time time w) (λ x. x) some)
   told_stays false turn id random time serial bytes w some = ⊎_elim
@@ -100,7 +101,8 @@ module _ (r : Entry) (s : Seen) (n : ℕ) (to : Endpoint) (token : List ℕ) whe
   abbrev Stays : List ObserverCall → Type 0
   Stays cs = (is_held to token (after_calls cs w) ≡ true) ⊎ Removes r s n to token
 
-  -- that names a job
+  -- an observer stays after the calls of the event that names a job, or the event removes the
+  -- observer.
   by_transition : (k : ℕ) (cs : List ObserverCall) → names r.event ≡ Some k → slot_of s k ≡ n → CallsBy r.event (around s (slot_of s k)) (stage s k) cs → is_held to token w ≡ true → Stays cs
   by_transition k cs named slot (NoCall is) some = inl (subst (λ (l : List ObserverCall). is_held to token (after_calls l w) ≡ true) (sym is) some)
   by_transition k cs named slot (OfSnapshot turn time present t is) some = inl (subst (λ (l : List ObserverCall). is_held to token (after_calls l w) ≡ true) (sym is) (mark_missing_stays to token (is_out_at turn time t) turn present time w some))
@@ -137,7 +139,7 @@ module _ (r : Entry) (s : Seen) (n : ℕ) (to : Endpoint) (token : List ℕ) whe
   by_slot k true named is some = by_transition k (transition r.event (inputs s k)).calls named (eqb-true (slot_of s k) n is) (transition_calls r.event (job s k) (slot_at s (slot_of s k)) (around s (slot_of s k)) (stage s k)) some
   by_slot k false named is some = inl some
 
-  -- that has a shard of its own.
+  -- an observer stays after a signal of this shard, or a Reset message removes the observer.
   reset_by : (shard id : ℕ) (from : Endpoint) (b : Bool) → r.event ≡ Signal shard from id true → ((n % 8) == shard) ≡ b → is_held to token w ≡ true → Stays (if b then Reset from id ∷ [] else [])
   reset_by shard id from false event here some = inl some
   reset_by shard id from true event here some = ⊎_elim
@@ -185,7 +187,8 @@ module _ (r : Entry) (s : Seen) (n : ℕ) (to : Endpoint) (token : List ℕ) whe
   by_shard (ShardTick shard now) event some = tick_by shard now (is_place_of (overdue_in s shard (max (s.shard_time shard) now)) shard n) event refl some
   by_shard other event some = inl some
 
-  -- after its calls the list is this one
+  -- if two lists are equal, an observer that stays in the second or is removed stays in the first
+  -- or is removed.
   stays_as : (u v : ObserverList) → u ≡ v → (is_held to token v ≡ true) ⊎ Removes r s n to token → (is_held to token u ≡ true) ⊎ Removes r s n to token
   stays_as u v is some = subst (λ (x : ObserverList). (is_held to token x ≡ true) ⊎ Removes r s n to token) (sym is) some
 

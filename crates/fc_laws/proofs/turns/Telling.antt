@@ -10,7 +10,7 @@ use Rattle.fc_registry.specs.Calls.{is_out_at, turn_snapshot}
 use Rattle.fc_core.specs.Stages.{turn_took}
 use Rattle.fc_core.specs.Transitions.{Inputs}
 
--- a property of each of these stages.
+-- a property of the stages of a notification and of the end holds for the stage after the snapshot.
 pub told_or_gone : (P : Stage → Type 0) → ((turn : Turn) (needs : TurnStage) → P (ToTell turn needs)) → P Gone → (turn : Turn) (x : Taken) → P (turn_took turn x)
 told_or_gone P told gone turn (Given t) = told turn _
 told_or_gone P told gone turn Missing = told turn _

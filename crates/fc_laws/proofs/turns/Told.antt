@@ -1,5 +1,5 @@
--- Facts about the lease of a job, in every history: it was granted for a serial that is at most its
--- snapshot's, and if the snapshot found the slot empty it is marked as missing.
+-- Facts about the lease of a job, in every history. The lease was granted for a serial that is at
+-- most that of its snapshot. A lease whose snapshot found the slot empty is marked as missing.
 use Rattle.std.proofs.Common.{◌≡◌, ℕ, ◌+◌, ◌*◌, ◌<◌, ◌≤◌, List, [], ◌∷◌, ◌++◌, Bool, true, false, cond, Option, Some, None, refl, sym, ap, ◌∙◌, subst, arith, map, max, if◌then◌else◌}
 use Rattle.std.specs.Prelude.{◌%◌, ◌==◌, ◌&&◌, is_some}
 use Rattle.std.specs.List.{All}
@@ -46,7 +46,7 @@ use Rattle.fc_laws.proofs.slots.Writing.{sound}
 
 -- ---- the facts
 
--- facts about its snapshot.
+-- the facts about the snapshot of a lease.
 abbrev pub KnowsFound : ℕ → ℕ → List ObserverCall → Turn → Option Ticket → Type 0
 KnowsFound n confirm_after calls turn None = All (HasMissed turn.number) (observers n confirm_after calls).held
 KnowsFound n confirm_after calls turn (Some t) = noticed_for turn.number n confirm_after calls ≤ t.serial
@@ -56,8 +56,8 @@ KnowsTurn n confirm_after calls serial turn turns.ToTake = noticed_for turn.numb
 KnowsTurn n confirm_after calls serial turn (turns.ToDraw found) = KnowsFound n confirm_after calls turn found
 KnowsTurn n confirm_after calls serial turn (turns.ToNote found id) = KnowsFound n confirm_after calls turn found
 
--- for a job of slot n at this stage, after these calls on the slot's observers, with the slot at
--- this serial.
+-- the facts about the job of a lease of slot n at this stage. They are for these calls on the
+-- slot's observers, and for this serial of the slot.
 abbrev pub Knows : ℕ → ℕ → List ObserverCall → ℕ → Stage → Type 0
 Knows n confirm_after calls serial (ToTell turn needs) = (turn.number < (observers n confirm_after calls).turns) × KnowsTurn n confirm_after calls serial turn needs
 Knows n confirm_after calls serial other = Unit {0}
@@ -70,7 +70,7 @@ turns_last n confirm_after number cs calls lt =
     let same = ap (λ (t : ObserverList). t.turns) (after_append n confirm_after cs calls) in
     omega (arith, lt, more, same)
 
--- a later lease has another number.
+-- a lease that is granted later has another number.
 another_turn : (turns number notify_serial old : ℕ) (b : Bool) → number < turns → cond (b && (turns == number)) notify_serial old ≡ old
 another_turn turns number notify_serial old b lt =
     let other : (turns == number) ≡ false = false_from_ne_true (turns == number) (λ e. let same = eqb-true turns number e in absurd (omega (arith, same, lt))) in
@@ -162,14 +162,14 @@ module _ (r : Entry) (s : Seen) where
       let same = ap (λ (x : Slot). x.serial) (slot_grows s e (names e) n g) in
       omega (arith, same, after_rises (slot_at s n) g.made)
 
-  -- earlier facts still hold.
+  -- the facts about a job still hold after the event.
   still_known : (t : Task) → KnowsTask s t → KnowsTask after t
   still_known t w =
       let n = t.job.origin.slot in
       lasts n s.policy.confirm_after (calls_named (names e) e s n) (calls_by (at_shard e) s n ++ s.calls n) (slot_at after n).serial (slot_at after n).serial t.stage (omega arith)
       (lasts n s.policy.confirm_after (calls_by (at_shard e) s n) (s.calls n) (slot_at s n).serial (slot_at after n).serial t.stage (serial_rises n) w)
 
-  -- the calls of the event that names a job
+  -- the calls on the observers of a job's slot after an event that names the job.
   own_calls : (k : ℕ) → names e ≡ Some k → after.calls (slot_of s k) ≡ (transition e (inputs s k)).calls ++ s.calls (slot_of s k)
   own_calls k named =
       let n = slot_of s k in

@@ -1,5 +1,5 @@
--- The ticket of a lease requests the first block, or none: so the response to its run is sent
--- complete, or its first block is.
+-- The ticket of a lease requests the first block, or none. So the response to the ticket's run is
+-- sent complete, or as its first block.
 use Rattle.std.proofs.Common.{◌≡◌, ℕ, ◌+◌, ◌*◌, List, [], ◌++◌, length, map, Bool, true, false, Option, Some, None, max, refl, sym, ap, ◌∙◌, subst, if◌then◌else◌}
 use Rattle.std.specs.Prelude.{◌==◌, ◌&&◌, nat_lt, not}
 use Rattle.std.specs.Option.{option_map, option_to_list}
@@ -84,7 +84,7 @@ unfolding seen
 asks_first (Begins serial id policy) k = λ number is. absurd (cc is)
 asks_first (Then h r) k = appended_all (λ (t : Task). AsksFirst t.job) (tasks_moved (names r.event) r.event (seen h)) (tasks_brought r.event (seen h)) no_task (all_moved r.event (seen h) (names r.event) (asks_first h)) (all_brought r.event (seen h)) k
 
--- ---- that of its ticket
+-- ---- the block of a lease's ticket
 
 abbrev IsBlockOf : Job → Option Ticket → Type 0
 IsBlockOf j None = Unit {0}
@@ -138,7 +138,7 @@ ticket_asks_first h k id turn t is =
 
 -- ---- the response
 
--- the first block is never past the end
+-- the first block is never past the end of the reply.
 first_cut : (number szx : ℕ) (bytes : List ℕ) → number ≡ 0 → cut_at bytes number szx ≡ Some (block_at bytes number szx)
 first_cut number szx bytes is = ap (λ (i : ℕ). (if nat_lt 0 i && not (nat_lt (i * block_size szx) (length bytes)) then None else Some (block_at bytes number szx))) is
 

@@ -59,7 +59,7 @@ pub overdue_none : (s : Seen) (i at : ℕ) → i < 8 → overdue_in s i at ≡ N
 unfolding overdue_in
 overdue_none s i at low e = none_by (is_overdue_at s i at) i (nat_lt i 8) refl low e
 
--- ---- the lease that is granted is out
+-- ---- the lease that is granted is active
 
 any_by : (p : Entry → Bool) (o : Entry) (os : List Entry) (b : Bool) → (list_any p os ≡ true → (x : Entry) × (find p os ≡ Some x)) → (b || list_any p os) ≡ true → (x : Entry) × (cond b (Some o) (find p os) ≡ Some x)
 any_by p o os true rest e = (o, refl)
@@ -75,7 +75,8 @@ found_if p q g o x os true not new rest e =
     ap (λ (b : Bool). cond b (Some (g o)) (find q os)) (new o) ∙ ap (λ (y : Entry). Some (g y)) same
 found_if p q g o x os false not new rest e = ap (λ (b : Bool). cond b (Some o) (find q (at_first p (λ y. g y ∷ []) os))) not ∙ rest e
 
--- the result for the first element that passes p is the one that passes q.
+-- if no element passes q, and the result for each does, q finds the result for the first element
+-- that passes p.
 first_found : (p q : Entry → Bool) (g : Entry → Entry) (x : Entry) (os : List Entry) → All (λ o. q o ≡ false) os → ((y : Entry) → q (g y) ≡ true) → find p os ≡ Some x → find q (at_first p (λ y. g y ∷ []) os) ≡ Some (g x)
 first_found p q g x [] none new e = absurd (cc)
 first_found p q g x (o ∷ os) none new e = found_if p q g o x os (p o) (All-head (λ y. q y ≡ false) o os none) new (first_found p q g x os (All-tail (λ y. q y ≡ false) o os none) new) e
@@ -110,7 +111,7 @@ module _ (n confirm_after at notify_serial : ℕ) (h : List ObserverCall) where
   gives_by true e = refl
   gives_by false e = absurd (cc e)
 
-  -- the job of the first observer with a pending notification.
+  -- if a lease is granted, its job is that of the first observer with a pending notification.
   given_job : is_some (next_turn notify_serial (list_at_time at w)) ≡ true → (x : Entry) × (find (is_due m notify_serial) w.held ≡ Some x) × (turn_given_to n at notify_serial w ≡ Some (turn_job n w.turns (interest_of x)))
   given_job e =
       let gives = gives_by (gives_turn notify_serial (list_at_time at w)) e in
@@ -135,7 +136,8 @@ module _ (s : Seen) (i k now : ℕ) (o : Option Emission) where
         comes = ap (λ (j : Option Job). s.tasks ++ (map new_task (option_to_list j) ++ [])) brought;
       }
 
-  -- the calls of a shard that is asked, by the place with a pending notification.
+  -- the observers after a request for a lease are determined by the place of the slot with a
+  -- pending notification.
   asked_by : (n : ℕ) (p q : Option ℕ) → p ≡ q → observers n s.policy.confirm_after ((if is_place_of p i n then NextDue at (slot_at s n).notify_serial ∷ [] else []) ++ s.calls n) ≡ observers n s.policy.confirm_after ((if is_place_of q i n then NextDue at (slot_at s n).notify_serial ∷ [] else []) ++ s.calls n)
   asked_by n p q is = ap (λ (x : Option ℕ). observers n s.policy.confirm_after ((if is_place_of x i n then NextDue at (slot_at s n).notify_serial ∷ [] else []) ++ s.calls n)) is
 

@@ -1,4 +1,5 @@
--- The head words are the greatest that were raised, and one that an ETag names results in a Valid.
+-- The head words are the greatest that were raised. A head word that an ETag names results in a
+-- `Valid`.
 use Rattle.std.proofs.Common.{◌≡◌, ℕ, ◌+◌, ◌*◌, ◌<◌, ◌≤◌, List, [], ◌∷◌, ◌++◌, length, Bool, true, false, Option, Some, None, refl, sym, ap, ◌∙◌, subst, ⊎_elim, arith, max, length-set, if◌then◌else◌}
 use Rattle.std.specs.Prelude.{◌/◌, ◌%◌, ◌==◌, ◌&&◌, ◌||◌}
 use Rattle.std.specs.List.{list_any}
@@ -75,7 +76,7 @@ unfolding seen
 sixty_four (Begins serial id policy) = length-replicate {A = ℕ} 64 0
 sixty_four (Then h r) = words_length (names r.event) r.event (seen h) ∙ sixty_four h
 
--- head words that are raised, by the option of one.
+-- the head words that are raised, from an option of one.
 abbrev words_in : Bool → Option ℕ → List ℕ
 words_in true (Some w) = w ∷ []
 words_in b o = []

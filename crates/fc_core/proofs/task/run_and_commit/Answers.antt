@@ -14,7 +14,7 @@ committed-requires c =
     let w = c.commit-committed.ensures in
     commit_done c.run-outcome.result c.args.ticket.now (slot_in c.args.shard.now n) (watch_at c.args.shard.now (n / 8)) c.commit-committed.result w.after w.commit
 
--- transition of the commit.
+-- the result of the commit, and the slot after it, are those of the transition.
 transition : (c : goal.After-frame-1) → IsTransition c.args.ticket.now (slot_in c.args.shard.now c.args.ticket.now.origin.slot) (watch_at c.args.shard.now (c.args.ticket.now.origin.slot / 8)) c.commit-committed.result c.commit-committed.ensures.after
 transition c =
     let n = c.args.ticket.now.origin.slot in

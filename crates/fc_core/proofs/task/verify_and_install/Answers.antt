@@ -15,7 +15,7 @@ use Rattle.fc_core.specs.Steps.{Call, Rejects, next_stage}
 use Rattle.fc_core.proofs.Rejections.{rejected_call, same_slot}
 use Rattle.fc_core.proofs.task.verify_and_install.Goals as goal
 
--- the call of the refusal
+-- if the image is refused, the call of the install is that of the refusal.
 rejects : (c : goal.After-rejected) → Rejects (refused (Broken c.in-Err-Broken.fault)) ≡ install_call c.args.initial (judged c.args.image.now) (slot_in c.args.shard.now c.args.slot)
 rejects c =
     let is : IsFaultOf c.args.image.now (judged c.args.image.now) c.in-Err-Broken.fault = subst (λ (r : Refusal). IsRefusal c.args.image.now r) c.in-Err-Broken.field-0-is c.in-Err-Broken.ensures.refused in

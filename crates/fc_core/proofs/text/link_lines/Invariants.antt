@@ -2,7 +2,8 @@ use Rattle.std.proofs.Common.{◌≡◌, ◌≤◌, ◌*◌, ◌++◌, length, d
 use Rattle.fc_core.specs.Links.{links_from}
 use Rattle.fc_core.proofs.text.link_lines.Given as goal
 
--- the written and the remaining links are all of them, and a link has at most 12 bytes.
+-- the links that are written and those that remain are all links, and each link has at most 12
+-- bytes.
 abbrev pub invariant-loop-slot : goal.invariant-loop-slot
 invariant-loop-slot l =
     (l.links.items ++ links_from l.slot (drop l.slot l.fn.words) ≡ links_from 0 l.fn.words)

@@ -16,7 +16,7 @@ write_start-requires-clause-room c =
     let size = ap length c.as_mut_slice-bytes.ensures.value ∙ c.requires.size in
     length-take-le 80 c.as_mut_slice-bytes.result.now (omega (arith, size))
 
--- the first 80 bytes
+-- a head and a padded query have 80 bytes
 start_size : (head query first : List ℕ) → length head ≡ 16 → length query ≤ 64 → first ≡ head ++ padded 64 query → length first ≡ 80
 start_size head query first size few is =
     let long = length-append head (padded 64 query) in

@@ -6,7 +6,7 @@ use Rattle.fc_image.specs.Head.{Head}
 use Rattle.fc_image.specs.ShapeRules.{breaks_shape, least, first_broken, or_next}
 use Rattle.fc_image.proofs.control_flow.first_broken.Goals as goal
 
--- a rule that holds isn't the first broken one
+-- if no slot breaks a rule, the first broken rule is the first one among the rules after it
 passed_over : (head : Head) (code : List Insn) (rules : List Rule) (i : ℕ) (d : Rule) → i < length rules → least (λ slot insn. breaks_shape head code slot insn (get_or rules i d)) 0 code ≡ None
     → first_broken head code (drop i rules) ≡ first_broken head code (drop (i + 1) rules)
 passed_over head code rules i d lt e =

@@ -31,7 +31,7 @@ steps-requires-clause-low c =
 value_is : (value steps cost : ℕ) → value ≡ min steps 65537 → steps ≡ cost → value ≡ min 65537 cost
 value_is value steps cost e f = omega (arith, e, f)
 
--- the computed value is the cost of the slot
+-- the value that is computed for a slot is the slot's cost
 cost_now : (allowed : Bool) (code : List Insn) (slot : ℕ) (insn : Insn) (table : List ℕ) (beginning ending : Option Loop) (own value : ℕ) → slice_get code slot ≡ Some insn → beginning ≡ begins (loops_of allowed code) slot → ending ≡ loop_if allowed code slot insn
     → own ≡ own_cost (cost_at (drop (slot + 1) table) slot) ending (flow slot insn) → value ≡ looped (cost_at (drop (slot + 1) table) slot) beginning own → value ≡ cost_of (loops_of allowed code) slot insn (drop (suc slot) table)
 cost_now allowed code slot insn table beginning ending own value stands b e o v =

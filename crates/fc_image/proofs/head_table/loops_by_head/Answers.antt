@@ -11,7 +11,8 @@ use Rattle.fc_image.proofs.head_table.loops_by_head.Goals as goal
 pub loop-slot-init : goal.loop-slot-init
 loop-slot-init c = record { slot = omega arith; heads = heads_first c.loops_allowed-allowed.result c.args.code.now _ _ (omega arith) (search rules) (none_in 1024) }
 
--- the loops by their heads, with the one that ends at the slot
+-- the table of loops that end after a slot, with the loop that ends at the slot, is the table from
+-- that slot on
 heads_now : (allowed : Bool) (code : List Insn) (at slot : ℕ) (insn : Insn) (heads new : List (Option Loop)) (ending : Option Loop) → at ≡ suc slot → slot < 1024 → slice_get code slot ≡ Some insn → AreHeadsFrom allowed code at heads → new ≡ headed heads ending → ending ≡ loop_if allowed code slot insn → AreHeadsFrom allowed code slot new
 heads_now allowed code at slot insn heads new ending e few stands t is f =
     let more = heads_more allowed code slot insn heads few stands (subst (λ n. AreHeadsFrom allowed code n heads) e t) in

@@ -10,7 +10,7 @@ use Rattle.fc_image.specs.Spans.{is_jumped_into}
 use Rattle.fc_image.proofs.Spanned.{default_in, found, none_found}
 use Rattle.fc_image.proofs.loops.is_undisturbed.Goals as goal
 
--- the result at a slot, from the table's span of the slot
+-- the result at a slot is that with the slot's span in the table
 told : (l : Loop) (slot : ℕ) (insn : Insn) (spans : List (Option Span)) (o : Option Span) (b result : Bool) → result ≡ (disturbs l slot insn || is_jumped_into l slot o) → result ≡ b → o ≡ get_or spans slot None
     → (disturbs l slot insn || is_jumped_into l slot (get_or spans slot None)) ≡ b
 told l slot insn spans o b result e f same = ap (λ s. disturbs l slot insn || is_jumped_into l slot s) (sym same) ∙ sym e ∙ f

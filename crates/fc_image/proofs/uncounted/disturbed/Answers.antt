@@ -7,7 +7,7 @@ use Rattle.fc_image.specs.Loops.{disturbs, some_slot}
 use Rattle.fc_image.proofs.CostTable.{drop_at}
 use Rattle.fc_image.proofs.uncounted.disturbed.Goals as goal
 
--- a slot that disturbs the loop is among those from it on
+-- if a slot's instruction disturbs the loop, one of the instructions from the slot on does
 one_disturbs : (l : Loop) (code : List Insn) (slot : ℕ) (insn : Insn) → slice_get code slot ≡ Some insn → disturbs l slot insn ≡ true → some_slot (disturbs l) slot (drop slot code) ≡ true
 one_disturbs l code slot insn stands e =
     ap (some_slot (disturbs l) slot) (drop_at code slot insn stands) ∙ ap (λ b. b || some_slot (disturbs l) (suc slot) (drop (suc slot) code)) e

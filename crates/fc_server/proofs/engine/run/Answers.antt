@@ -35,7 +35,7 @@ returns-clause-works c = λ count h rest v.
     let raised = raised_on rest committed (c.raise.ensures (length rest)) in
     record { memory = c.take.result; tasks = rest ++ c.respond.new.task ∷ []; serves = answered_on rest raised c.args.now _ c.respond.ensures }
 
--- nothing that is sent was written.
+-- if nothing is sent, no datagram was written.
 none_sent : (b : Bool) (e : Emission) → emission_if b e ≡ None → b ≡ false
 none_sent true e is = absurd (cc is)
 none_sent false e is = refl

@@ -32,7 +32,7 @@ give_up-requires c =
     let drew = drew_on rest took c.args.now c.fresh.ensures in
     at_work rest (noted_on rest drew c.args.now c.args.random (emission_if c.note-sent.result c.note-sent.new.emission) (c.note-sent.ensures (length rest)))
 
--- if a message ID is available, a lease needs none after its draw.
+-- if a lease still needs a message ID after its draw, none was available.
 draw_failed : (free : Option ℕ) (st : Stage) → needs_id (drew free st) ≡ true → free ≡ None
 draw_failed None st is = refl
 draw_failed (Some id) (ToTell turn (turns.ToDraw found)) is = absurd (cc)
@@ -54,7 +54,8 @@ returns-clause-turns c = λ h rest v.
     let up = given_up_on rest noted c.args.now (c.give_up.ensures (length rest)) in
     subst (λ (out : Option Emission). Turned c.args.readings.now h (length rest) c.args.now c.args.random c.give_up.new.self out) (sym (c.notify_outcome.ensures.sent c.note-sent.new.emission)) (record { memory = c.take.result; tasks = rest ++ c.give_up.new.task ∷ []; serves = up })
 
--- the slot isn't empty: otherwise the lease would have notified, or would still need a message ID.
+-- if nothing is sent although a message ID was available, the slot isn't empty. Otherwise the lease
+-- would have notified.
 pub returns-clause-unsent : goal.returns-clause-unsent
 returns-clause-unsent c = λ is.
     let rest = c.requires.begun.rest in

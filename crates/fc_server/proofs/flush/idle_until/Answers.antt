@@ -3,7 +3,7 @@ use Rattle.std.specs.Prelude.{min}
 use Rattle.fc_server.specs.Flushing.{AreTold, earliest}
 use Rattle.fc_server.proofs.flush.idle_until.Goals as goal
 
--- the times of the shards so far, and one more.
+-- the earliest of the times of the shards so far and of one more shard.
 one_more : (StaysIdle : ℕ → ℕ → Type 0) (next before until time : ℕ) → StaysIdle next until → time ≡ min before until
     → (told : List ℕ) × AreTold StaysIdle told × (length told ≡ next) × (before ≡ earliest told)
     → (told : List ℕ) × AreTold StaysIdle told × (length told ≡ next + 1) × (time ≡ earliest told)

@@ -21,23 +21,24 @@ use Rattle.fc_verify.proofs.Table.{Reaches, loop_is, reached_is, reaches_none, r
 use Rattle.fc_verify.proofs.pass.pass_slots.Goals as goal
 use Rattle.fc_verify.proofs.pass.pass_slots.Goals.{in-Some+else-not-pass, in_default}
 
--- the table's entry for a slot
+-- the table's entry for a slot is the loop that begins there
 begins_there : (loops : List Loop) (heads : List (Option Loop)) (slot : ℕ) (o : Option Loop) → AreHeads loops heads → slot < 1024
     → get_or heads slot o ≡ begins loops slot
 begins_there loops heads slot o h lt = let size = h.count in default_in heads slot o None (omega (arith, size, lt)) ∙ h.each slot lt
 
--- from the loop in the table, and from whether the slot was found in a body
+-- passing a slot with the loop from the table, and with the computed flag of a body, is passing it
+-- with the program's loops
 with_loops : (vars : ℕ) (code : List Insn) (loops : List Loop) (slot : ℕ) (insn : Insn) (found : List Kind) (states : States)
     (o : Option Loop) (inside : Bool) (r : Option States) → o ≡ begins loops slot → inside ≡ is_inside loops slot
     → passed_by vars code o inside slot insn found states ≡ r → passed_with vars code loops slot insn (Some found) states ≡ r
 with_loops vars code loops slot insn found states o inside r e f g =
     ap (λ x. passed_by vars code x (is_inside loops slot) slot insn found states) (sym e) ∙ ap (λ b. passed_by vars code o b slot insn found states) (sym f) ∙ g
 
--- how far bodies reach, including that of the loop that begins at the slot
+-- the computed reach is that of the bodies so far, with the loop that begins at the slot
 far_is : (loops : List Loop) (slot reach now : ℕ) (o : Option Loop) → now ≡ reached reach o → o ≡ begins loops slot → now ≡ reached reach (begins loops slot)
 far_is loops slot reach now o e b = e ∙ ap (reached reach) b
 
--- the loop in the table at a slot of the program
+-- the loop in the table at a slot is a loop of the program
 loop_there : (code : List Insn) (loops : List Loop) (heads : List (Option Loop)) (slot : ℕ) (o : Option Loop) → AreLoops code loops → AreHeads loops heads
     → slot < 1024 → IsLoopOf code (get_or heads slot o)
 loop_there code loops heads slot o a h lt = subst (IsLoopOf code) (sym (begins_there loops heads slot o h lt)) (loop_is code loops slot a)

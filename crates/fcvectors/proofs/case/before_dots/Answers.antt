@@ -4,7 +4,7 @@ use Rattle.std.proofs.lemmas.Slice.Eq.{strip_suffix_is}
 use Rattle.fcvectors.specs.Cases.{dots}
 use Rattle.fcvectors.proofs.case.before_dots.Goals as goal
 
--- the text before the dots.
+-- if a text was split before an end, and that end is the dots, the split is before the dots.
 front_of : (said end : List ℕ) (r : Option (Bor (List ℕ))) → end ≡ dots
     → MatchOption r ((front : List ℕ) → said ≡ front ++ end → ⊥) (λ start. said ≡ start.now ++ end) → IfSome r (λ start. said ≡ start.now ++ dots)
 front_of said end None ends is = tt

@@ -6,7 +6,7 @@ use Rattle.fcvectors.specs.Cases.{AreWritten}
 use Rattle.fcvectors.specs.declared.line.CaseLine.{CaseLine}
 use Rattle.fcvectors.proofs.case.lines_of.Goals as goal
 
--- one line more
+-- lines that have the forms of their texts may be followed by a line with the form of its text.
 written_snoc : (texts : List (Bor (List ℕ))) (lines : List CaseLine) (text : Bor (List ℕ)) (line : CaseLine)
     → AreWritten (map (λ (b : Bor (List ℕ)). b.now) texts) lines → IsCaseLine text.now line
     → AreWritten (map (λ (b : Bor (List ℕ)). b.now) (texts ++ (text ∷ []))) (lines ++ (line ∷ []))

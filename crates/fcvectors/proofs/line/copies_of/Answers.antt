@@ -5,13 +5,15 @@ use Rattle.fcvectors.specs.Lines.{IsCounted, IsPiece, backslash}
 use Rattle.fcvectors.specs.declared.line.Copies.{Copies}
 use Rattle.fcvectors.proofs.line.copies_of.Goals as goal
 
--- a piece that ends with a backslash.
+-- if a piece ends with a backslash, copies of the text before it, without line feeds, are the
+-- copies of the piece.
 cut_piece : (piece text end : List ℕ) (r : Option Copies) → piece ≡ text ++ end → end ≡ backslash ∷ []
     → IfSome r (λ copies. IsCounted text copies.count copies.text.now) → IfSome r (λ copies. copies.ends_line ≡ false) → IfSome r (IsPiece piece)
 cut_piece piece text end None is ends counted bare = tt
 cut_piece piece text end (Some copies) is ends counted bare = inl (text, is ∙ ap (λ xs. text ++ xs) ends, counted, bare)
 
--- one that doesn't.
+-- if a piece doesn't end with a backslash, copies of the whole piece, with line feeds, are the
+-- copies of the piece.
 whole_piece : (piece end : List ℕ) (r : Option Copies) → ((front : List ℕ) → piece ≡ front ++ end → ⊥) → end ≡ backslash ∷ []
     → IfSome r (λ copies. IsCounted piece copies.count copies.text.now) → IfSome r (λ copies. copies.ends_line ≡ true) → IfSome r (IsPiece piece)
 whole_piece piece end None unended ends counted feeds = tt

@@ -4,7 +4,7 @@ use Rattle.fc_server.specs.Flushing.{AreIdleUntil}
 use Rattle.numzela.specs.declared.server.Serving.{Serving}
 use Rattle.numzela.proofs.server.numzela_server_deadline.Goals as goal
 
--- the handle holds the server that was called
+-- the handle holds the same server as before the call
 pub returns-clause-ok : goal.returns-clause-ok
 returns-clause-ok c = λ _. (
   refl,

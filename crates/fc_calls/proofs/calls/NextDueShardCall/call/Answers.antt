@@ -6,7 +6,7 @@ use Rattle.fc_calls.specs.Kept.{serial_of}
 use Rattle.fc_calls.proofs.Confirming.{due_confirms}
 use Rattle.fc_calls.proofs.calls.NextDueShardCall.call.Goals as goal
 
--- a turn changes no slot
+-- the grant of a lease changes no slot.
 same_slots : (place : Option ℕ) (shard : Shard) → (after_due place shard).slots ≡ shard.slots
 same_slots None shard = refl
 same_slots (Some k) shard = refl

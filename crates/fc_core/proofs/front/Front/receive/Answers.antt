@@ -9,7 +9,7 @@ use Rattle.coap_opts.specs.declared.request.Request.{Request}
 use Rattle.fc_core.specs.Askings.{IsAsking}
 use Rattle.fc_core.proofs.front.Front.receive.Goals as goal
 
--- a request is within its limits if the requests that this verdict accepts and refuses are.
+-- a request is as its verdict says: served within the limits, or refused by the code of a response.
 within : (m : Message) (verdict : Verdict) → ((r : Asked) → verdict ≡ IsAsked r → IsAskedWithin m r)
     → ((answer : ℕ) → verdict ≡ IsRefused answer → IsErrorCode answer)
     → (a : Asking (Unit {0})) (request : Request) → asking_verdict (written_over request) a ≡ verdict → IsAsking a request

@@ -9,7 +9,7 @@ use Rattle.fc_registry.proofs.Rings.{written_rings, ring_put}
 use Rattle.fc_registry.proofs.Writes.{slot_read, slot_write, now_is, slot_in_place, written}
 use Rattle.fc_registry.proofs.shard.Shard.install.Goals as goal
 
--- the slot that was found is the one of the view.
+-- the view of the state that was found is the slot with this number.
 found : (c : goal.After-self-1) → as_seen c.index_mut-state.result.now ≡ slot_in c.args.self.now c.args.slot
 found c =
     slot_read c.self.inside.index c.self.inside.now c.self.inside.slots.items c.self.inside.watches.items c.args.self.now c.self.view_is c.self.invariant.0 c.place.result c.index_mut-state.result.now c.place.ensures.limit c.index_mut-state.ensures.value

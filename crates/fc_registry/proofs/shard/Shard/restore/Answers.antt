@@ -17,7 +17,7 @@ then_err : {X E A B : Type 0} (r : Result X E) → OnErr r A → (A → B) → O
 then_err (Ok x) a f = a
 then_err (Err e) a f = f a
 
--- the slot that was found is the one of the view.
+-- the view of the state that was found is the slot at this place.
 found : (c : goal.After-self-1) → as_seen c.index_mut-state.result.now ≡ slot_in_place c.args.self.now c.place.result
 found c =
     slot_read c.self.inside.index c.self.inside.now c.self.inside.slots.items c.self.inside.watches.items c.args.self.now c.self.view_is c.self.invariant.0 c.place.result c.index_mut-state.result.now c.place.ensures.limit c.index_mut-state.ensures.value

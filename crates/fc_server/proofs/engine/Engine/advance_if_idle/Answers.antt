@@ -5,7 +5,7 @@ use Rattle.fc_server.specs.States.{ServerState}
 use Rattle.fc_server.proofs.Quiet.{passed_quietly, idle_served}
 use Rattle.fc_server.proofs.engine.Engine.advance_if_idle.Goals as goal
 
--- its effect on its server is a tick of the shard, or nothing.
+-- the effect of the call on the engine's server is a tick of the shard, or nothing.
 passes : (c : goal.After-advance_if_idle) → MatchBool c.advance_if_idle.result (TicksShard c.args.shard c.args.now c.self.inside.server c.advance_if_idle.new.self None) (c.advance_if_idle.new.self ≡ c.self.inside.server)
 passes c =
     let e = c.advance_if_idle.ensures in

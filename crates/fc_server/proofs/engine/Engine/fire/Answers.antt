@@ -21,7 +21,7 @@ run-requires c =
 begun : (c : goal.After-run) → c.begin.new.self ≡ new_task (timer_job c.args.slot)
 begun c = c.begin.ensures ∙ ap new_task c.fire.ensures.job
 
--- nothing is sent.
+-- the run of the timer's job sends nothing.
 nothing : (c : goal.After-run) → emission_if c.run.result c.run.new.reply ≡ None
 nothing c = ap (λ (b : Bool). emission_if b c.run.new.reply) (c.run.ensures.unsent (ap (λ (t : Task). has_exchange t.job.origin.opening) (begun c)))
 

@@ -17,7 +17,7 @@ use Rattle.fc_server.proofs.GivenTurns.{found_before, given_out}
 use Rattle.fc_server.proofs.Served.{asked_on, notified_served}
 use Rattle.fc_server.proofs.engine.Engine.notify.Goals as goal
 
--- the written job, if there is one, is the shard's lease.
+-- the job that was written, if there is one, is that of the shard's lease.
 turn_is : (b : Bool) (result : Bool) (job : Job) (turn : Option Job) → result ≡ b → written_if result job ≡ turn → written_if b job ≡ turn
 turn_is b result job turn is written = ap (λ (x : Bool). written_if x job) (sym is) ∙ written
 
@@ -35,7 +35,7 @@ tell-requires-clause-begun c =
           (turn_is true c.due.result job _ c.if-not-due.false e.job));
     }
 
--- no observer has a pending notification.
+-- if no observer has a pending notification, the shard grants no lease.
 asked_none : (c : goal.Then-not-due) → AsksForTurn c.args.readings.now c.args.shard c.args.now c.args.random c.self.inside.server c.due.new.self false None
 asked_none c =
     let e = c.due.ensures in
@@ -57,7 +57,7 @@ invariant_of-self c = notified_served c.args.readings.now c.args.shard c.args.no
 pub returns-then-not-due-clause-asked : goal.returns-then-not-due-clause-asked
 returns-then-not-due-clause-asked c = subst (λ (s : ServerState). AsksForTurn c.args.readings.now c.args.shard c.args.now c.args.random s c.due.new.self false None) c.self.view_is (asked_none c)
 
--- a lease runs.
+-- if an observer has a pending notification, the shard grants a lease, which runs.
 asked_some : (c : goal.After-tell) → let told = notified_as c.tell.result c.tell.new.emission in
     AsksForTurn c.args.readings.now c.args.shard c.args.now c.args.random c.self.inside.server c.tell.new.server (is_given told) (notification_in told)
 asked_some c =
@@ -88,7 +88,7 @@ returns-clause-starved c = λ is.
     subst (λ (s : ServerState). free_id s.front.ids (max s.front.now c.args.now) ≡ None) c.self.view_is
     (subst (λ (f : FrontState). free_id f.ids (max f.now c.args.now) ≡ None) c.due.ensures.front (c.tell.ensures.starved is))
 
--- the lease that the shard granted is the job's.
+-- the job is that of the lease that the shard granted.
 comes : (c : goal.After-tell) → Some c.due.new.job ≡ shard_turn c.args.now (shard_at c.self.inside.server.shards c.args.shard)
 comes c = turn_is true c.due.result c.due.new.job _ c.if-not-due.false c.due.ensures.job
 

@@ -7,7 +7,7 @@ use Rattle.fc_server.specs.Steps.{shard_told}
 use Rattle.fc_server.proofs.Served.{resent_on, resent_served}
 use Rattle.fc_server.proofs.engine.Engine.resend.Goals as goal
 
--- its effect on its server is a tick of the shard.
+-- the effect of the call on the engine's server is a tick of the shard.
 ticks : (c : goal.After-tick_shard) → TicksShard c.args.shard c.args.now c.self.inside.server c.tick_shard.new.self (resent c.tick_shard.result)
 ticks c = λ h tasks v.
     let e = c.tick_shard.ensures in

@@ -4,7 +4,7 @@ use Rattle.fc_server.specs.States.{ServerState}
 use Rattle.fc_server.proofs.Served.{passed_served, ticked_on}
 use Rattle.fc_server.proofs.engine.Engine.tick.Goals as goal
 
--- its effect on its server is a tick.
+-- the effect of the call on the engine's server is a tick.
 passes : (c : goal.After-tick) → Passes c.args.now c.self.inside.server c.tick.new.self
 passes c = ticked_on c.args.now c.self.inside.server c.tick.new.self c.tick.ensures.front c.tick.ensures.shards c.tick.ensures.words
 

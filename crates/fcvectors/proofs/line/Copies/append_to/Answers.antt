@@ -4,7 +4,7 @@ use Rattle.std.proofs.lemmas.List.{append-nil, append_assoc}
 use Rattle.fcvectors.specs.Lines.{copy_bytes}
 use Rattle.fcvectors.proofs.line.Copies.append_to.Goals as goal
 
--- a copy after the others is one before them.
+-- `n` copies and one more copy after them are `n + 1` copies.
 repeat_snoc : (n : ℕ) (xs : List ℕ) → repeat n xs ++ xs ≡ repeat (suc n) xs
 repeat_snoc zero xs = sym (append-nil xs)
 repeat_snoc (suc n) xs = append_assoc xs (repeat n xs) xs ∙ ap (λ ys. xs ++ ys) (repeat_snoc n xs)

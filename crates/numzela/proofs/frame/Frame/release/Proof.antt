@@ -1,4 +1,4 @@
--- `release` takes a handle apart: it held nothing, or a box, whose pointer is returned.
+-- `release` takes a handle apart. The handle held nothing, or a box, whose pointer is returned.
 use Rattle.std.proofs.Common.{◌≡◌, List, [], ◌∷◌, ◌++◌, refl, sym, subst, lit<}
 use mathlib.Core.Bool.{true, false}
 use mir.Val.{Val, vptr, vcons, vnil}

@@ -14,7 +14,7 @@ use Rattle.fc_server.specs.declared.alone.Handed.{Handed}
 use Rattle.numzela.specs.Servers.{Writes}
 use Rattle.numzela.proofs.server.Serving.receive.Goals as goal
 
--- a server that got readings handles a datagram as its engine does with them
+-- a server that got readings handles a datagram as its engine does with these readings
 handles_with : (now random : ℕ) (readings : List ℕ) (to : Endpoint) (bytes : Bor (List ℕ)) (old mid new : SingleThread) (handled : Handled) (reply : Emission)
     → mid.engine ≡ old.engine → mid.handed ≡ record { readings = readings; random = random } → HandlesAlone now to bytes mid new handled reply
     → Handles readings now to bytes (delivered (advanced old.engine.front now) to bytes.now) old.engine new.engine (emission_if (is_reply handled) reply)
