@@ -1,4 +1,4 @@
--- The form of an address, and its host.
+-- The form of a target's text, and the host of a URI.
 use Rattle.std.proofs.Common.{◌≡◌, ◌⊎◌, inl, inr, ℕ, Bool, true, false, not, List, [], ◌∷◌, codes, Option, Some, None, Result, Ok, Err, MatchBool, MatchOption, option_map, refl, sym, ap, subst, get_or, lit<, IsTrue}
 use Rattle.std.specs.Result.{result_ok}
 use Rattle.std.specs.Bool.{Decides, one_answer}
@@ -23,7 +23,7 @@ begins (first ∷ text) = by (cases_eq first slash)
     by (inl same) = (λ x. same, λ h. ap (λ b. begins_with_slash (b ∷ text)) same)
     by (inr other) = (λ x. absurd (cc (x, ne_eqb first slash other)), λ h. absurd (other h))
 
--- the two tests of a text's form
+-- a text that contains `://` is read as a URI exactly if it doesn't start with a slash.
 pub read_as_uri : (text : List ℕ) (contains starts : Bool) → MatchBool contains (HasMatch (FindsText (codes "://")) text) (FindsText (codes "://") text None) → contains ≡ true
     → MatchBool starts (HasPrefixMatch (FindsCharPrefix 47) text) (FindsCharPrefix 47 text None) → (IsTrue (not starts) → IsReadAsUri text) × (IsReadAsUri text → IsTrue (not starts))
 read_as_uri text contains true scheme is slashed =
@@ -37,14 +37,15 @@ pub read_as_path : (text : List ℕ) (contains : Bool) → MatchBool contains (H
     → (IsTrue contains → IsReadAsUri text) × (IsReadAsUri text → IsTrue contains)
 read_as_path text contains scheme is = (λ h. absurd (cc (h, is)), λ u. (contains_text contains (codes "://") text scheme).1 u.scheme)
 
--- a name that isn't `localhost` denotes the address that it writes
+-- a name other than `localhost` denotes the IPv4 address that it parses to, or none if it doesn't
+-- parse.
 pub parsed_host : {E : Type 0} (name : List ℕ) (r : Result Ipv4Addr E) (o : Option Ipv4Addr) → o ≡ result_ok r → Parses IsIpv4Text name r → (name ≡ codes "localhost" → ⊥)
     → MatchOption o ((ip : Ipv4Addr) → IsHostOf name ip → ⊥) (IsHostOf name)
 parsed_host name (Ok ip) o is h other = subst (λ (x : Option Ipv4Addr). MatchOption x ((a : Ipv4Addr) → IsHostOf name a → ⊥) (IsHostOf name)) (sym is) (inr h)
 parsed_host name (Err e) o is h other = subst (λ (x : Option Ipv4Addr). MatchOption x ((a : Ipv4Addr) → IsHostOf name a → ⊥) (IsHostOf name)) (sym is)
     (λ a k. elim k as (λ _. ⊥) [ inl local ↦ other local.0 | inr ip ↦ h a ip ])
 
--- a URI whose host denotes no address
+-- if the name of a URI's host denotes no IPv4 address, the URI's host denotes none.
 pub hostless : (uri : Parts) (name : List ℕ) (o : Option Ipv4Addr) → option_map host_text (nonempty_host uri) ≡ Some name → ((x : Ipv4Addr) → o ≡ Some x → ⊥)
     → MatchOption o ((ip : Ipv4Addr) → IsHostOf name ip → ⊥) (IsHostOf name) → (ip : Ipv4Addr) → HasHost uri ip → ⊥
 hostless uri name None is none h ip host =
@@ -54,7 +55,7 @@ hostless uri name (Some x) is none h ip host = none x refl
 
 -- ---- the form decides
 
--- a path without a port
+-- the only error of a path without a port is `NoPort`.
 pub only_no_port : (text : List ℕ) (e : AddressError) → (IsReadAsUri text → ⊥) → IsNoAddress text None e → e ≡ address_error.NoPort
 only_no_port text address_error.NoPort path h = refl
 only_no_port text address_error.TwoPorts path h = absurd (path h.0)
@@ -64,7 +65,7 @@ only_no_port text address_error.Host path h = absurd (path h.0)
 only_no_port text address_error.Escape path h = absurd (path h.0)
 only_no_port text address_error.NoMemory path h = absurd (path h)
 
--- a path with one
+-- the only error of a path with a port is `NoMemory`.
 pub only_no_memory : (text : List ℕ) (port : ℕ) (e : AddressError) → (IsReadAsUri text → ⊥) → IsNoAddress text (Some port) e → e ≡ address_error.NoMemory
 only_no_memory text port address_error.NoPort path h = absurd (cc h.1)
 only_no_memory text port address_error.TwoPorts path h = absurd (path h.0)
@@ -74,7 +75,7 @@ only_no_memory text port address_error.Host path h = absurd (path h.0)
 only_no_memory text port address_error.Escape path h = absurd (path h.0)
 only_no_memory text port address_error.NoMemory path h = refl
 
--- a URI with a port
+-- the only error of a URI with a port is `TwoPorts`.
 pub only_two_ports : (text : List ℕ) (port : ℕ) (e : AddressError) → IsReadAsUri text → IsNoAddress text (Some port) e → e ≡ address_error.TwoPorts
 only_two_ports text port address_error.NoPort uri h = absurd (h.0 uri)
 only_two_ports text port address_error.TwoPorts uri h = refl
@@ -84,7 +85,7 @@ only_two_ports text port address_error.Host uri h = absurd (cc h.1)
 only_two_ports text port address_error.Escape uri h = absurd (cc h.1)
 only_two_ports text port address_error.NoMemory uri h = absurd (h uri)
 
--- or without
+-- an error of a URI without a port is one of `IsNoUri`.
 pub only_of_uri : (text : List ℕ) (e : AddressError) → IsReadAsUri text → IsNoAddress text None e → IsNoUri text e
 only_of_uri text address_error.NoPort uri h = absurd (h.0 uri)
 only_of_uri text address_error.TwoPorts uri h = absurd (cc h.1)

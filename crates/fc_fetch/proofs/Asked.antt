@@ -1,4 +1,4 @@
--- The client request of a request, and the reasons to stop.
+-- The client request that the options describe, and the reasons why a client stops.
 use Rattle.std.proofs.Common.{◌≡◌, ℕ, List, Option, Some, None, IfNone, Result, Ok, Err, IfErr, IfOk, IfSome, inl, ap, subst, ◌∙◌}
 use Rattle.std.specs.Borrow.{Bor}
 use Rattle.coap_client.specs.declared.client_request.ClientRequest.{ClientRequest}
@@ -29,19 +29,19 @@ asks asking target payload plain e h format same = record {
   format_is = format;
 }
 
--- a property of an option holds for its value
+-- if an option has a value, and a property holds for the option's value, it holds for this value.
 pub of_some : {A : Type 0} (o : Option A) (x : A) (P : A → Type 0) → o ≡ Some x → IfSome o P → P x
 of_some {A} o x P some h = subst (λ (y : Option A). IfSome y P) some h
 
 pub of_none : {A : Type 0} (o : Option A) (P : Type 0) → o ≡ None → IfNone o P → P
 of_none {A} o P none h = subst (λ (y : Option A). IfNone y P) none h
 
--- a property of a result implies another one
+-- if P implies Q, and P holds for a result's value, Q holds for it too.
 pub ok_of : {A E : Type 0} (r : Result A E) (P Q : A → Type 0) → ((x : A) → P x → Q x) → IfOk r P → IfOk r Q
 ok_of (Ok x) P Q turns h = turns x h
 ok_of (Err e) P Q turns h = tt
 
--- a ping stops before it is sent
+-- if a ping's endpoint is known, and random bytes can't be drawn, the ping stops for that reason.
 pub random_ping : {S : Type 0} (connected : S → SocketAddrV4 → Type 0) (drawn : List ℕ → Type 0) (is_error : PeerError → Type 0) (called : S → List PeerCall → Type 0) (p : Pinging)
     (server : SocketAddrV4) (s : FetchStop) → IsPingEndpoint p server → IsOfRandom s → IsPingStop connected drawn is_error called p s
 random_ping connected drawn is_error called p server (stop.Random error) endpoint h = (server, endpoint)
@@ -122,7 +122,7 @@ module _ {S : Type 0} (connected : S → SocketAddrV4 → Type 0) (drawn went ca
   no_server (stop.Notes error) body id r b i h = absurd h
   no_server (stop.Memory error) body id r b i h = absurd h
 
--- the target has an address that names no resource
+-- if a target's address names no resource, the client stops for that reason.
 pub nothing_named : (text : List ℕ) (port : Option ℕ) (a : Address) (s : FetchStop) → IsAddress text port a → NamesNoResource a s → IsTargetStop text port s
 nothing_named text port a (stop.Address error) is h = absurd h
 nothing_named text port a (stop.Path error) is h = record { address = a; address_is = is; none = h }
@@ -191,7 +191,7 @@ module _ {S : Type 0} (connected : S → SocketAddrV4 → Type 0) (drawn went ca
   observed_nobody e server (stop.Notes error) h = absurd h
   observed_nobody e server (stop.Memory error) h = absurd h
 
--- a property of an error implies another one
+-- if P implies Q, and P holds for a result's error, Q holds for it too.
 pub err_of : {A E : Type 0} (r : Result A E) (P Q : E → Type 0) → ((e : E) → P e → Q e) → IfErr r P → IfErr r Q
 err_of (Ok x) P Q turns h = tt
 err_of (Err e) P Q turns h = turns e h

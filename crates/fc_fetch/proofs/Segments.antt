@@ -10,13 +10,13 @@ use Rattle.coap_client.specs.Paths.{path_text, slash}
 use Rattle.percent_encoding.specs.Percent.{percent_decode}
 use Rattle.fc_fetch.specs.Addresses.{decoded_pieces, has_slash, plain_pieces, segments_in, texts_in}
 
--- a slash and the segment follow the others
+-- the text of a path with one more segment is the path's text, a slash, and the segment.
 pub path_text_push : (segments : List (List ℕ)) (s : List ℕ) → path_text (segments ++ (s ∷ [])) ≡ path_text segments ++ (slash ∷ s)
 path_text_push [] s = ap (λ text. slash ∷ text) (append-nil s)
 path_text_push (first ∷ segments) s =
     ap (λ text. slash ∷ (first ++ text)) (path_text_push segments s) ∙ ap (λ text. slash ∷ text) (sym (append_assoc first (path_text segments) (slash ∷ s)))
 
--- a path after the addition of one segment
+-- the text of the first i segments, a slash and segment i are the text of the first i + 1 segments.
 pub path_grown : (segments : List (Vec ℕ)) (i : ℕ) (d : Vec ℕ) (old slashed new : List ℕ) → i < length segments
     → old ≡ path_text (texts_in (take i segments)) → slashed ≡ old ++ (slash ∷ []) → new ≡ slashed ++ (get_or segments i d).items
     → new ≡ path_text (texts_in (take (i + 1) segments))
@@ -39,7 +39,7 @@ no_segments (first ∷ path) none = by (cases_eq first slash)
     by (inl same) = absurd (none path (ap (λ b. b ∷ path) same))
     by (inr other) = ap (λ is. if is then decoded_pieces slash path else []) (ne_eqb first slash other)
 
--- a text that isn't empty is split
+-- a text that isn't empty is split into pieces, and the escapes of each piece are decoded.
 pub pieces_of : (byte : ℕ) (text : List ℕ) → false ≡ (length text == 0) → map percent_decode (slice_split (λ b. b == byte) text) ≡ decoded_pieces byte text
 pieces_of byte [] filled = cc filled
 pieces_of byte (first ∷ text) filled = refl
@@ -48,7 +48,7 @@ pub plain_pieces_of : (byte : ℕ) (text : List ℕ) → false ≡ (length text 
 plain_pieces_of byte [] filled = cc filled
 plain_pieces_of byte (first ∷ text) filled = refl
 
--- the segments contain a slash exactly if their texts do
+-- whether a segment contains a slash is the same for vectors of bytes and for lists of bytes.
 pub none_has_slash : (segments : List (Vec ℕ)) → list_any has_slash (texts_in segments) ≡ list_any (λ (segment : Vec ℕ). has_slash segment.items) segments
 none_has_slash [] = refl
 none_has_slash (first ∷ segments) = ap (λ (rest : Bool). has_slash first.items || rest) (none_has_slash segments)

@@ -30,21 +30,24 @@ abbrev pub decoded_pieces : ℕ → List ℕ → List (List ℕ)
 decoded_pieces byte [] = []
 decoded_pieces byte (first ∷ text) = map percent_decode (slice_split (λ b. b == byte) (first ∷ text))
 
--- the pieces unchanged: in a path at a port escapes aren't decoded.
+-- the pieces of a text between separators, unchanged: in a target at a port, escapes aren't
+-- decoded.
 abbrev pub plain_pieces : ℕ → List ℕ → List (List ℕ)
 plain_pieces byte [] = []
 plain_pieces byte (first ∷ text) = slice_split (λ b. b == byte) (first ∷ text)
 
--- such a path ends before the first `?`, and the arguments of its query follow the `?`.
+-- whether a byte is `?`. In a target at a port, the path ends before the first `?`, and the query's
+-- arguments follow that `?`.
 abbrev pub is_question : ℕ → Bool
 is_question b = b == 63
 
--- the segments of a URI's path, which begins with a slash.
+-- the segments of a URI's path. A path that doesn't begin with a slash has none.
 abbrev pub segments_in : List ℕ → List (List ℕ)
 segments_in [] = []
 segments_in (first ∷ path) = if first == slash then decoded_pieces slash path else []
 
--- a host's name denotes this IPv4 address: it is the address's text, or `localhost`.
+-- a host's name denotes this IPv4 address: the name is the address's text; or it is `localhost`,
+-- and the address is 127.0.0.1.
 abbrev pub IsHostOf : List ℕ → Ipv4Addr → Type 0
 IsHostOf name ip = ((name ≡ codes "localhost") × (ipv4_octets ip ≡ 127 ∷ 0 ∷ 0 ∷ 1 ∷ [])) ⊎ IsIpv4Text name ip
 
@@ -75,7 +78,7 @@ pub record IsOfUri (text : List ℕ) (a : Address) : Type 0 where
   pub scheme_is : uri.scheme ≡ codes "coap"
   pub has : HasParts uri a
 
--- the text is a path with a query, and this is its address at a port of this host.
+-- the text is a path with a query, and this is the text's address at a port of this host.
 pub record IsAtPort (text : List ℕ) (port : ℕ) (a : Address) : Type 0 where
   pub host_is : ipv4_octets (v4_ip a.server) ≡ 127 ∷ 0 ∷ 0 ∷ 1 ∷ []
   pub port_is : v4_port a.server ≡ port
@@ -94,16 +97,17 @@ pub record IsReadAsUri (text : List ℕ) : Type 0 where
   pub scheme : HasSubslice text (codes "://")
   pub no_slash : begins_with_slash text ≡ false
 
--- a path is given with a port, and a URI without one.
+-- the text fits the port: with a port it is a path, and without one it is a URI.
 abbrev pub FitsPort : List ℕ → Option ℕ → Type 0
 FitsPort text (Some port) = IsReadAsUri text → ⊥
 FitsPort text None = IsReadAsUri text
 
--- the address of a text of this form.
+-- the address of a path at this port, or of a URI without a port.
 abbrev pub IsAddressBy : List ℕ → Option ℕ → Address → Type 0
 IsAddressBy text (Some port) a = IsAtPort text port a
 IsAddressBy text None a = IsOfUri text a
 
+-- the text is a path if there is a port, and else a URI. This is its address.
 pub record IsAddress (text : List ℕ) (port : Option ℕ) (a : Address) : Type 0 where
   pub form : FitsPort text port
   pub is : IsAddressBy text port a
@@ -138,7 +142,8 @@ IsUnfitBy uri address_error.Escape = IsAtHost uri × (list_any has_slash (segmen
 IsUnfitBy uri address_error.NoMemory = IsAtHost uri
 IsUnfitBy uri other = ⊥
 
--- the same for the URI's path alone.
+-- the reason why the segments of a URI's path are no path: one contains a slash, or memory can't be
+-- allocated.
 abbrev pub IsUnfitSegment : List ℕ → AddressError → Type 0
 IsUnfitSegment path address_error.Escape = list_any has_slash (segments_in path) ≡ true
 IsUnfitSegment path address_error.NoMemory = Unit {0}
@@ -155,9 +160,9 @@ IsNoUri text address_error.NoUri = IsNoCoapUri text
 IsNoUri text address_error.NoMemory = Unit {0}
 IsNoUri text other = IsUnfitUri text other
 
--- the reason why there is no address: a path without a port; a URI with a port; or a URI that can't
--- be the target of a request. A lack of memory is reported only for a path with a port or a URI
--- without one.
+-- the reason why a text has no address. It is a path without a port, a URI with a port, or a URI
+-- that can't be a request's target. A lack of memory is reported only for a path with a port, and
+-- for a URI without a port.
 abbrev pub IsNoAddress : List ℕ → Option ℕ → AddressError → Type 0
 IsNoAddress text port address_error.NoPort = (IsReadAsUri text → ⊥) × (port ≡ None)
 IsNoAddress text port address_error.TwoPorts = IsReadAsUri text × (is_some port ≡ true)

@@ -12,13 +12,13 @@ use Rattle.fc_fetch.specs.declared.operation.Asking.{Asking}
 use Rattle.fc_fetch.specs.declared.operation.BodySource.{BodySource}
 use Rattle.fc_fetch.specs.declared.operation.BodySource.TheVariants as source
 
--- the input doesn't change, unless it is the body.
+-- the input is unchanged, unless the body is read from it.
 abbrev pub IsUnread : {I : Type 0} → BodySource → I → I → Type 0
 IsUnread source.Input before after = Unit {0}
 IsUnread other before after = after ≡ before
 
--- the response is printed, or its bytes go to a file, whose contents aren't known; or there is no
--- response, for one of these reasons.
+-- the response is printed, or its bytes go to the named file, whose contents aren't known. If there
+-- is no response, it is for one of these reasons.
 abbrev pub IsShownOrKept : (ℕ → List ℕ → Type 0) → (FetchStop → Type 0) → Shown → Option (Bor (List ℕ)) → Option (List ℕ) → Option (List ℕ) → Status → Type 0
 IsShownOrKept Has Stops shown None before after status = IsAnswered Has Stops shown before after status
 IsShownOrKept Has Stops shown (Some name) before after status = IsAnsweredTo Has Stops shown before after None None status

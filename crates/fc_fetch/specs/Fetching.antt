@@ -51,14 +51,15 @@ pub record IsPrinted (shown : Shown) (code : ℕ) (answer : List ℕ) (before af
   pub text : Appends before after (answer_text shown code answer)
   pub status_is : status ≡ ending_of code
 
--- the bytes of a success are in a file, and its code is printed.
+-- the response is a success: its bytes are appended to a file, its code is printed, and the status
+-- is `Done`.
 pub record IsKept (code : ℕ) (answer : List ℕ) (before after kept_before kept : Option (List ℕ)) (status : Status) : Type 0 where
   pub success : code / 32 ≡ 2
   pub text : Appends before after (ended_line (code_text code))
   pub bytes : Appends kept_before kept answer
   pub status_is : status ≡ Done
 
--- any other response is printed whole, and nothing is written to the file.
+-- the response is no success: it is printed whole, and nothing is written to the file.
 pub record IsNotKept (shown : Shown) (code : ℕ) (answer : List ℕ) (before after kept_before kept : Option (List ℕ)) (status : Status) : Type 0 where
   pub other : (code / 32 ≡ 2) → ⊥
   pub printed : IsPrinted shown code answer before after status
@@ -100,8 +101,8 @@ abbrev pub IsOfConnecting : FetchStop → Type 0
 IsOfConnecting (stop.Fault f) = IsUnconnected f
 IsOfConnecting other = ⊥
 
--- a client stops for this reason. Its status is the reason's, or `Failed` if the reason can't be
--- written.
+-- a client stops for one of these reasons. Its status is the reason's, or `Failed` if the reason
+-- can't be written.
 pub record HasStopped (Stops : FetchStop → Type 0) (status : Status) : Type 0 where
   pub reason : FetchStop
   pub stops : Stops reason
@@ -118,7 +119,8 @@ pub record IsAsking (asking : FetchOptions) (target : RequestTarget) (body : Lis
   pub body_is : e.payload.now ≡ body
   pub format_is : e.content_format ≡ asking.content_format
 
--- a fetch of such a client request ended with this response; the message IDs begin with `first`.
+-- a fetch with these options, resource and body ended with this response. The message IDs begin
+-- with `first`.
 pub record IsFetchedBy (went came : List ℕ → Type 0) (before after : List PeerCall → Type 0) (asking : FetchOptions) (target : RequestTarget) (body : List ℕ) (first code : ℕ)
     (answer : List ℕ) : Type 0 where
   pub client_request : ClientRequest
@@ -126,7 +128,7 @@ pub record IsFetchedBy (went came : List ℕ → Type 0) (before after : List Pe
   pub fetched : IsFetched went came before after client_request first code answer
   pub whole : SendsWhole went client_request code
 
--- a fetch of such a client request failed with this fault.
+-- a fetch with these options, resource and body failed with this fault.
 pub record IsFaultOf (went came : List ℕ → Type 0) (is_error : PeerError → Type 0) (Makes : (List PeerCall → Type 0) → Type 0) (asking : FetchOptions) (target : RequestTarget)
     (body : List ℕ) (first : ℕ) (fault : FetchFault) : Type 0 where
   pub client_request : ClientRequest
@@ -138,9 +140,9 @@ pub record HasNoRoom (Makes : (List PeerCall → Type 0) → Type 0) (method : M
   pub unfit : FitsDatagrams method (slices_in target.path.segments.items) (slices_in target.query.items) body → ⊥
   pub called : Makes (λ calls. calls ≡ [])
 
--- a client with these options has this response. It connected to the server at its target's address
--- and requested that resource. The body is the input's bytes if they are known. The first message
--- ID was drawn.
+-- a client with these options got this response. The client connected to the server at its target's
+-- address, and requested the target's resource. The body is the input's bytes if they are known.
+-- The first message ID was drawn.
 pub record IsAnswerTo {S : Type 0} (connected : S → SocketAddrV4 → Type 0) (drawn went came : List ℕ → Type 0) (called : S → List PeerCall → Type 0) (asking : FetchOptions)
     (input : Option (List ℕ)) (code : ℕ) (answer : List ℕ) : Type 0 where
   pub address : Address
@@ -170,7 +172,7 @@ pub record NamesNothing (text : List ℕ) (port : Option ℕ) (reason : FetchSto
   pub address_is : IsAddress text port address
   pub none : NamesNoResource address reason
 
--- a target is no address, or its address names no resource.
+-- the reason why a target has no resource: it is no address, or its address names no resource.
 abbrev pub IsTargetStop : List ℕ → Option ℕ → FetchStop → Type 0
 IsTargetStop text port (stop.Address error) = IsNoAddress text port error
 IsTargetStop text port other = NamesNothing text port other
@@ -195,7 +197,7 @@ pub record HasFailedAt {S : Type 0} (connected : S → SocketAddrV4 → Type 0) 
   pub ended : S
   pub fails : IsFaultOf went came is_error (MakesCalls (called opened) (called ended)) asking target body id f
 
--- the fetch of the target's resource failed in this way, or the client couldn't connect.
+-- the fetch of the target's resource failed with this fault, or the client couldn't connect.
 pub record IsAskedInVain {S : Type 0} (connected : S → SocketAddrV4 → Type 0) (drawn went came : List ℕ → Type 0) (is_error : PeerError → Type 0) (called : S → List PeerCall → Type 0)
     (asking : FetchOptions) (input : Option (List ℕ)) (f : FetchFault) : Type 0 where
   pub resource : HasResource asking.target.now asking.port
@@ -205,8 +207,8 @@ pub record IsAskedInVain {S : Type 0} (connected : S → SocketAddrV4 → Type 0
   pub id_is : IsDrawnId drawn id
   pub fails : IsUnconnected f ⊎ HasFailedAt connected went came is_error called asking resource.target body id resource.address.server f
 
--- the client connected to the server at the target's address, but the request doesn't fit in a
--- datagram, and nothing was called on the server.
+-- the client connected to the server at the target's address. The request doesn't fit in a
+-- datagram, and no call was made to the server.
 pub record IsWithoutRoom {S : Type 0} (connected : S → SocketAddrV4 → Type 0) (called : S → List PeerCall → Type 0) (asking : FetchOptions) (input : Option (List ℕ)) : Type 0 where
   pub resource : HasResource asking.target.now asking.port
   pub body : List ℕ
@@ -229,28 +231,28 @@ IsFetchStop connected drawn went came is_error called asking input other = IsTar
 
 -- ---- statuses
 
--- a response of this kind came and was printed.
+-- a response for which `Has` holds came, and was printed.
 pub record IsAnswerShown (Has : ℕ → List ℕ → Type 0) (shown : Shown) (before after : Option (List ℕ)) (status : Status) : Type 0 where
   pub code : ℕ
   pub answer : List ℕ
   pub has : Has code answer
   pub printed : IsPrinted shown code answer before after status
 
--- a response of this kind came; its bytes are stored in a file, or it was printed.
+-- a response for which `Has` holds came. Its bytes were written to a file, or it was printed.
 pub record IsAnswerKept (Has : ℕ → List ℕ → Type 0) (shown : Shown) (before after kept_before kept : Option (List ℕ)) (status : Status) : Type 0 where
   pub code : ℕ
   pub answer : List ℕ
   pub has : Has code answer
   pub is : IsKeptOrPrinted shown code answer before after kept_before kept status
 
--- a response of this kind came, and couldn't be written.
+-- a response for which `Has` holds came, but couldn't be written.
 pub record IsUnprinted (Has : ℕ → List ℕ → Type 0) (status : Status) : Type 0 where
   pub code : ℕ
   pub answer : List ℕ
   pub has : Has code answer
   pub status_is : status ≡ Failed
 
--- no response came, for one of these reasons; or one came, and couldn't be written.
+-- no response came, for one of these reasons; or a response came, but couldn't be written.
 abbrev pub IsUnanswered : (ℕ → List ℕ → Type 0) → (FetchStop → Type 0) → Status → Type 0
 IsUnanswered Has Stops status = HasStopped Stops status ⊎ IsUnprinted Has status
 

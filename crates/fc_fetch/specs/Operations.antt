@@ -20,7 +20,7 @@ use Rattle.fc_fetch.specs.declared.printer.Shown.TheVariants.{Hex, Text}
 
 -- ---- options
 
--- a flag is set, or isn't.
+-- the value of a flag: an absent flag and `false` aren't set, and `true` is.
 pub record IsFlagOf (text : Option (List ℕ)) (set : Bool) : Type 0 where
   pub none : text ≡ None → set ≡ false
   pub on : text ≡ Some (codes "true") → set ≡ true
@@ -33,18 +33,19 @@ IsDecimal text = IsNumeral 10 (without_leading_plus text)
 abbrev pub decimal_value : List ℕ → ℕ
 decimal_value text = digits_value 10 (without_leading_plus text)
 
--- the number that an option gives, if it is given: a decimal number of `bits` bits.
+-- the number that an option's text gives: a decimal number of `bits` bits. Without such a text
+-- there is none.
 abbrev pub IsNumberOf : ℕ → Option (List ℕ) → Option ℕ → Type 0
 IsNumberOf bits None number = number ≡ None
 IsNumberOf bits (Some text) (Some n) = IsDecimal text × (n ≡ decimal_value text)
 IsNumberOf bits (Some text) None = IsDecimal text → decimal_value text < 2 ^ bits → ⊥
 
--- with `--text` bytes are shown as text, and else in hex.
+-- the printed form of bytes: text with `--text`, and else hex.
 abbrev pub IsShownIn : Found → Shown → Type 0
 IsShownIn f Text = IsFlagOf (one_text f (codes "text")) true
 IsShownIn f Hex = IsFlagOf (one_text f (codes "text")) false
 
--- the word of a method, in small letters.
+-- the word names this method, in lower case; or it names none of the four.
 abbrev pub IsMethodOf : List ℕ → Option Method → Type 0
 IsMethodOf word (Some Get) = word ≡ codes "get"
 IsMethodOf word (Some Post) = word ≡ codes "post"
@@ -54,8 +55,8 @@ IsMethodOf word None = (word ≢ codes "get") × (word ≢ codes "post") × (wor
 
 -- ---- the body of a request
 
--- with `-n` there is no body; with `-e` it is this text, and with `-f` this file; without any of
--- the three it is standard input.
+-- the body's source: none with `-n`, a text with `-e`, and a file with `-f`. Without any of the
+-- three options it is standard input.
 abbrev pub IsBodyIn : Found → BodySource → Type 0
 IsBodyIn f source.None = IsFlagOf (one_text f (codes "no-body")) true × (first_value f (codes "body") ≡ None) × (first_value f (codes "file") ≡ None)
 IsBodyIn f (source.Text text) = IsFlagOf (one_text f (codes "no-body")) false × (first_value f (codes "body") ≡ Some text.now) × (first_value f (codes "file") ≡ None)
@@ -65,12 +66,12 @@ IsBodyIn f source.Input = IsFlagOf (one_text f (codes "no-body")) false × (firs
 abbrev pub HasValue : Found → List ℕ → Type 0
 HasValue f id = is_some (first_value f id) ≡ true
 
--- two of the three options give a body.
+-- more than one of the options `-n`, `-e` and `-f` is given.
 abbrev pub HasTwoBodies : Found → Type 0
 HasTwoBodies f =
     (IsFlagOf (one_text f (codes "no-body")) true × (HasValue f (codes "body") ⊎ HasValue f (codes "file"))) ⊎ (HasValue f (codes "body") × HasValue f (codes "file"))
 
--- a GET and a DELETE don't read a terminal.
+-- the source of a body that would be read from a terminal: a GET and a DELETE have no body.
 abbrev pub body_of_terminal : Method → BodySource
 body_of_terminal Get = source.None
 body_of_terminal Delete = source.None
@@ -100,7 +101,7 @@ IsNoName text =
     × (text ≢ codes "application/exi")
     × (text ≢ codes "application/json")
 
--- the format of this name, or of this number.
+-- the number of a Content-Format, by its name or in digits; or none if the text is neither.
 abbrev pub IsFormatOf : List ℕ → Option ℕ → Type 0
 IsFormatOf text (Some n) = IsFormatNamed text n ⊎ (IsNoName text × IsNumberOf 16 (Some text) (Some n))
 IsFormatOf text None = IsNoName text × IsNumberOf 16 (Some text) None
@@ -141,8 +142,8 @@ pub record IsUnlimited (f : Found) : Type 0 where
 
 -- ---- operations
 
--- a request of this method and target, with this body. It is confirmable without `-N`, and its
--- response's bytes go to the file that `-o` names.
+-- a request with the command line's method, target and body. It is confirmable without `-N`. The
+-- response's bytes go to the file that `-o` names, if there is `-o`.
 pub record IsFetchIn (f : Found) (asking : FetchOptions) (body : BodySource) (output : Option (Bor (List ℕ))) : Type 0 where
   pub word : List ℕ
   pub word_is : first_value f (codes "method") ≡ Some word
@@ -157,7 +158,8 @@ pub record IsFetchIn (f : Found) (asking : FetchOptions) (body : BodySource) (ou
   pub output_is : option_map (λ name. name.now) output ≡ first_value f (codes "output")
   pub unlimited : IsUnlimited f
 
--- an observation of this target, with a limit of lines and of seconds.
+-- an observation of the command line's target, with the limits of lines and of seconds that are
+-- given.
 pub record IsObservationIn (f : Found) (observing : Observing) : Type 0 where
   pub word_is : first_value f (codes "method") ≡ Some (codes "observe")
   pub target_is : first_value f (codes "target") ≡ Some observing.target.now
@@ -167,7 +169,7 @@ pub record IsObservationIn (f : Found) (observing : Observing) : Type 0 where
   pub seconds_is : IsNumberOf 32 (one_text f (codes "seconds")) observing.extent.seconds
   pub no_request : IsForNoRequest f
 
--- a ping of this target, or of this port.
+-- a ping of the command line's target, or of its port.
 pub record IsPingIn (f : Found) (pinging : Pinging) : Type 0 where
   pub word_is : first_value f (codes "method") ≡ Some (codes "ping")
   pub target_is : option_map (λ text. text.now) pinging.target ≡ first_value f (codes "target")
@@ -195,8 +197,13 @@ IsMissing f =
     ⊎ (((first_value f (codes "target") ≡ None) × (first_value f (codes "method") ≢ Some (codes "ping")))
     ⊎ ((word : List ℕ) × (first_value f (codes "method") ≡ Some word) × IsUnknown word))
 
--- an observation has an option of requests; a request has a number of lines or seconds; a ping has
--- either; a word is missing or unknown; the body is given twice; or the format is unknown.
+-- the reason why the words of a command line are no operation:
+-- - `Request`: an observation has an option of requests.
+-- - `Extent`: a request has a number of lines or of seconds.
+-- - `Missing`: a word is missing or unknown.
+-- - `Bodies`: more than one body is given.
+-- - `Format`: the format is unknown.
+-- - `Ping`: a ping has an option of requests, or a number of lines or of seconds.
 abbrev pub IsOperationError : Found → OperationError → Type 0
 IsOperationError f operation_error.Request = (first_value f (codes "method") ≡ Some (codes "observe")) × IsForRequest f
 IsOperationError f operation_error.Extent =

@@ -7,14 +7,15 @@ use Rattle.hex.specs.Hex.{encode_lower}
 use Rattle.fc_fetch.specs.declared.printer.Shown.{Shown}
 use Rattle.fc_fetch.specs.declared.printer.Shown.TheVariants.{Hex, Text}
 
--- a tab, a line feed, or not a control character (Unicode, general category Cc).
+-- whether a character is a tab, a line feed, or no control character (Unicode, general category
+-- Cc).
 abbrev pub is_shown_char : ℕ → Bool
 is_shown_char c = (c == 9) || ((c == 10) || (nat_le 32 c && not (nat_le 127 c && nat_le c 159)))
 
 abbrev pub is_text : List ℕ → Bool
 is_text bytes = is_utf8 bytes && list_all is_shown_char (chars bytes)
 
--- text unchanged, if text is wanted; all other bytes in hex.
+-- the printed form of bytes: text is unchanged if text is wanted, and all other bytes are in hex.
 abbrev pub shown_bytes : Shown → List ℕ → List ℕ
 shown_bytes Hex bytes = encode_lower bytes
 shown_bytes Text bytes = if is_text bytes then bytes else encode_lower bytes
@@ -24,10 +25,12 @@ abbrev pub IsShownText : Shown → List ℕ → Option (Bor (List ℕ)) → Type
 IsShownText shown bytes None = shown_bytes shown bytes ≡ encode_lower bytes
 IsShownText shown bytes (Some text) = shown_bytes shown bytes ≡ text.now
 
--- on one line: text is printed unchanged only if it has no line feed.
+-- the printed form of bytes on one line: bytes with a line feed are in hex, and all others are
+-- printed as above.
 abbrev pub line_bytes : Shown → List ℕ → List ℕ
 line_bytes shown bytes = if list_any (λ b. b == 10) bytes then encode_lower bytes else shown_bytes shown bytes
 
+-- the text that is printed for the bytes on one line, or none if they are printed in hex.
 abbrev pub IsShownLine : Shown → List ℕ → Option (Bor (List ℕ)) → Type 0
 IsShownLine shown bytes None = line_bytes shown bytes ≡ encode_lower bytes
 IsShownLine shown bytes (Some text) = line_bytes shown bytes ≡ text.now

@@ -21,8 +21,8 @@ const COAP_PORT: u16 = 5683;
 
 /// A server's address and port, and a resource on that server.
 ///
-/// The path has a slash before each segment. The query is a list of arguments. No escapes are left
-/// in them.
+/// The path is a text: a path of segments has a slash before each segment. The query is a list of
+/// arguments. In the address of a URI, escapes are decoded.
 #[derive(Drop)]
 pub struct Address {
     pub server: SocketAddrV4,
@@ -36,7 +36,7 @@ pub enum AddressError {
     /// A path without a port.
     #[error("`--port P` is missing, which a path needs; or give a URI: coap://127.0.0.1:5683/r/1")]
     NoPort,
-    /// A URI, which contains its port, and a port as well.
+    /// A URI together with a separate port.
     #[error("`--port` goes with a path: leave it out, and write the port into the URI, as coap://127.0.0.1:5683/r/1; without one it is 5683")]
     TwoPorts,
     /// Not a URI, or a URI of another scheme.
@@ -71,10 +71,10 @@ impl Address {
     /// Parses the address in `text`.
     ///
     /// If `port` is given, `text` is a path at that port of 127.0.0.1, with a query after a `?`.
-    /// Otherwise it is a URI of the scheme coap. A URI without a port has port 5683.
+    /// Otherwise `text` is a URI of the scheme coap. A URI that names no port has port 5683.
     ///
     /// # Errors
-    /// Returns the reason as an [`AddressError`].
+    /// Returns the reason why there is no address.
     pub fn parse(alloc: Global, text: &str, port: Option<u16>) -> Result<Address, AddressError>
         ensures address { IfOk result (IsAddress text.now port) }
         ensures none { IfErr result (IsNoAddress text.now port) }
@@ -95,7 +95,8 @@ fn is_uri(text: &str) -> bool
     text.contains("://") && !text.starts_with('/')
 }
 
-// Parses a path, with its query, at a port of this host. Escapes aren't decoded.
+// Parses a path, with its query, at a port of this host. Escapes aren't decoded. Returns
+// `AddressError::NoMemory` if memory can't be allocated.
 fn at_port(alloc: Global, text: &str, port: u16) -> Result<Address, AddressError>
     ensures address { IfOk result (IsAtPort text.now port) }
     ensures memory { IfErr result (λ error. error ≡ NoMemory) }
@@ -133,7 +134,8 @@ fn arguments(alloc: Global, query: &str) -> Result<Vec<Vec<u8>>, AllocError>
     Ok(arguments)
 }
 
-// Parses a URI. Returns `AddressError::NoUri` if it isn't one of the scheme coap.
+// Parses a URI of the scheme coap. Returns `AddressError::NoUri` if the text is no such URI, and
+// otherwise the reason why its parts are no address.
 fn read_uri(alloc: Global, text: &str) -> Result<Address, AddressError>
     ensures address { IfOk result (IsOfUri text.now) }
     ensures none { IfErr result (IsNoUri text.now) }
@@ -178,8 +180,8 @@ fn has_other_parts(uri: &Url) -> bool
     !uri.username().is_empty() || uri.password().is_some() || uri.fragment().is_some()
 }
 
-// Returns the IPv4 address that a host's name denotes: it is `localhost` or the address's text.
-// Returns `None` for any other name.
+// Returns the IPv4 address that a host's name denotes: 127.0.0.1 for `localhost`, or the address
+// that is written. Returns `None` for any other name.
 fn host_of(name: &str) -> Option<Ipv4Addr>
     ensures { MatchOption result ((ip : Ipv4) → IsHostOf name.now ip → ⊥) (IsHostOf name.now) }
 {
@@ -204,7 +206,7 @@ fn whole_segments_of(alloc: Global, path: &str) -> Result<Vec<Vec<u8>>, AddressE
 }
 
 // Returns the segments of a URI's path, with their escapes decoded. The path `/` has none (RFC
-// 7252, section 6.4).
+// 7252, section 6.4), nor has a path that doesn't begin with a slash.
 fn segments_of(alloc: Global, path: &str) -> Result<Vec<Vec<u8>>, AllocError>
     ensures { IfOk result (λ v. texts_in v.items ≡ segments_in path.now) }
 {

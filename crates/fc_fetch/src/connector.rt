@@ -1,4 +1,4 @@
-//! A client's access to servers, through its own sockets, and to random bytes.
+//! A client's connections to servers, through sockets of its own, and its random bytes.
 ghost use Rattle.std.specs.Prelude.{⊤, ℕ, List, IfOk, OnOk};
 ghost use Rattle.std.specs.declared.net.socket_addr.SocketAddrV4.{SocketAddrV4 as Place};
 
@@ -13,10 +13,10 @@ pub trait Connector {
     /// A server that a client is connected to.
     type Server: Peer + Drop;
 
-    // The servers that were connected to, each at its address.
+    // A client connected to this server at this address.
     ghost connected: { Self.Server → Place → Type 0 } = { λ server address. ⊤ };
 
-    // The random bytes that were drawn.
+    // These random bytes were drawn.
     ghost drawn: { List ℕ → Type 0 } = { λ bytes. ⊤ };
 
     /// Connects to the server at this address and port.

@@ -1,6 +1,6 @@
-//! A file for a response's bytes, which doesn't change before it is written to.
+//! A file for a response's bytes, unchanged until the first write to it.
 //!
-//! It is for the option `-o` of `fcreq`: without a success the file stays as it is.
+//! The option `-o` of `fcreq` uses it: the file stays as it is unless the response is a success.
 use std::fs::File;
 use std::io;
 use std::io::Write;
@@ -8,7 +8,7 @@ use std::rt::Files;
 
 /// A file that is created or emptied when it is first written to or flushed.
 ///
-/// It isn't opened before.
+/// The file isn't opened before.
 #[derive(Drop)]
 pub struct LateFile<'a, R: Files> {
     files: &'a R,
@@ -26,7 +26,8 @@ impl<'a, R: Files> LateFile<'a, R> {
         }
     }
 
-    // Takes the open file out, or creates it. The caller puts it back.
+    // Takes the open file out, or creates or empties the file of this name. The caller puts the
+    // file back. Returns an error if the file can't be created.
     fn take_open(&mut self) -> io::Result<R::File> {
         match self.file.take() {
             Some(file) => Ok(file),

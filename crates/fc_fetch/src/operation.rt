@@ -39,7 +39,7 @@ pub enum BodySource<'a> {
 
 /// A request, with the source of its body and the file for its response.
 ///
-/// `output` names the file that the bytes of a success are written to, if they aren't printed.
+/// `output` names the file for the bytes of a success; without a name the bytes are printed.
 #[derive(Clone, Copy)]
 pub struct Asking<'a> {
     pub options: FetchOptions<'a>,
@@ -50,7 +50,8 @@ pub struct Asking<'a> {
 impl<'a> BodySource<'a> {
     /// Returns the body's source for a method, given whether the input is a terminal.
     ///
-    /// A GET or a DELETE reads no terminal.
+    /// A GET or a DELETE whose source is a terminal has no body. Any other source is returned
+    /// unchanged.
     pub fn at_terminal(self, method: Method, terminal: bool) -> BodySource<'a>
         ensures { result ≡ body_at terminal method self.entry }
     {
@@ -67,7 +68,8 @@ impl<'a> BodySource<'a> {
 impl<'a> Asking<'a> {
     /// Returns this request, given whether standard input is a terminal.
     ///
-    /// A GET or a DELETE whose body would be read from a terminal has no body.
+    /// A GET or a DELETE whose body would be read from a terminal has no body. All else is
+    /// unchanged.
     pub fn at_terminal(&self, terminal: bool) -> Asking<'a>
         ensures body { result.body ≡ body_at terminal self.now.options.method self.now.body }
         ensures others { (result.options ≡ self.now.options) × (result.output ≡ self.now.output) }
@@ -117,7 +119,7 @@ pub enum OperationError {
 /// Returns the operation that the words of a command line ask for.
 ///
 /// # Errors
-/// Returns the reason as an [`OperationError`].
+/// Returns the reason why the words are no operation.
 pub fn operation_of<'a>(matches: &ArgMatches<'a>) -> Result<Operation<'a>, OperationError>
     ensures operation { IfOk result (IsOperationIn (found_of matches.now)) }
     ensures none { IfErr result (IsOperationError (found_of matches.now)) }
@@ -234,8 +236,8 @@ fn is_limited(matches: &ArgMatches<'_>) -> bool
     limit_in(matches, "count").is_some() || limit_in(matches, "seconds").is_some()
 }
 
-// Returns the source of the body: by `-n`, `-e` or `-f`, and else standard input. Returns
-// `OperationError::Bodies` if more than one of them is given.
+// Returns the source of the body: none for `-n`, a text for `-e`, a file for `-f`, and otherwise
+// standard input. Returns `OperationError::Bodies` if more than one of the three options is given.
 fn body_in<'a>(matches: &ArgMatches<'a>) -> Result<BodySource<'a>, OperationError>
     ensures body { IfOk result (IsBodyIn (found_of matches.now)) }
     ensures none { IfErr result (λ error. (error ≡ operation_error.Bodies) × HasTwoBodies (found_of matches.now)) }
@@ -250,8 +252,8 @@ fn body_in<'a>(matches: &ArgMatches<'a>) -> Result<BodySource<'a>, OperationErro
     }
 }
 
-// Returns the number of the Content-Format of `-t`, or `None` if it isn't given. Returns
-// `OperationError::Format` if it is neither a number of 16 bits nor a known name.
+// Returns the number of the Content-Format of `-t`, or `None` if `-t` isn't given. Returns
+// `OperationError::Format` if its text is neither a number of 16 bits nor a known name.
 fn format_in(matches: &ArgMatches<'_>) -> Result<Option<u16>, OperationError>
     ensures format { IfOk result (IsFormatIn (found_of matches.now)) }
     ensures none { IfErr result (λ error. (error ≡ operation_error.Format) × HasNoFormat (found_of matches.now)) }
@@ -265,8 +267,8 @@ fn format_in(matches: &ArgMatches<'_>) -> Result<Option<u16>, OperationError>
     }
 }
 
-// Returns a Content-Format's number for its name (RFC 7252, section 12.3) or its digits. `None` if
-// `text` is neither.
+// Returns a Content-Format's number for its name (RFC 7252, section 12.3) or its digits. Returns
+// `None` if `text` is neither a known name nor a number of 16 bits.
 fn format_of(text: &str) -> Option<u16>
     ensures { IsFormatOf text.now result }
 {
@@ -281,7 +283,7 @@ fn format_of(text: &str) -> Option<u16>
     }
 }
 
-// Returns the method with this name in small letters, or `None` if there is none.
+// Returns the method with this name in lower case, or `None` if there is none.
 fn method_of(word: &str) -> Option<Method>
     ensures { IsMethodOf word.now result }
 {
@@ -294,14 +296,15 @@ fn method_of(word: &str) -> Option<Method>
     }
 }
 
-// Returns the number of `--port`, or `None` if it isn't given.
+// Returns the number of `--port`, or `None` if no such number is given.
 fn port_in(matches: &ArgMatches<'_>) -> Option<u16>
     ensures { IsNumberOf 16 (one_text (found_of matches.now) (codes "port")) result }
 {
     matches.get_one::<u16>("port")
 }
 
-// Returns the number of the option `name`, `count` or `seconds`, or `None` if it isn't given.
+// Returns the number of the option `name`, `count` or `seconds`, or `None` if no such number is
+// given.
 fn limit_in(matches: &ArgMatches<'_>, name: &str) -> Option<u32>
     ensures { IsNumberOf 32 (one_text (found_of matches.now) name.now) result }
 {

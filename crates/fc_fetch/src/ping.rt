@@ -19,7 +19,7 @@ const COAP_PORT: u16 = 5683;
 /// The target of a ping.
 #[derive(Clone, Copy)]
 pub struct Pinging<'a> {
-    /// A URI of the scheme coap without a path and a query.
+    /// A URI of the scheme coap without a path and without a query.
     ///
     /// Without a target, a port of 127.0.0.1 is pinged.
     pub target: Option<&'a str>,
@@ -29,12 +29,13 @@ pub struct Pinging<'a> {
 
 /// Pings a server, and prints nothing.
 ///
-/// It sends an empty confirmable message until a Reset message with its message ID comes. It sends
-/// the message as often as a confirmable request.
+/// Sends an empty confirmable message, and retransmits it like a confirmable request, until a Reset
+/// message with the same message ID arrives.
 ///
-/// Returns `Done` if that message came. Returns `Bad` if the target is bad or names a resource.
-/// Returns `Failed` if no such message came, at a fault of the socket, or if the system's random
-/// bytes failed. The reason is written to `err`.
+/// Returns `Done` if this Reset message arrived. Returns `Bad` if the target is no address or names
+/// a resource. Returns `Failed` if no such message arrived, if the socket or the random bytes
+/// failed, or if memory can't be allocated. The reason is written to `err`; if it can't be written,
+/// the result is `Failed`.
 pub fn ping<R: Net + Clock + RandomSource, E: Write>(
     rt: &R,
     alloc: Global,
@@ -59,7 +60,8 @@ pub fn ping_by<C: Connector, E: Write>(
     }
 }
 
-// Pings the server of a target, with a message ID of random bytes. Returns the reason if it fails.
+// Pings the server of a target, with a message ID of random bytes. Returns the reason if the ping
+// fails.
 fn ping_once<'a, C: Connector>(
     connector: &C,
     alloc: Global,
@@ -77,8 +79,8 @@ fn ping_once<'a, C: Connector>(
     }
 }
 
-// Returns the endpoint to ping, or the reason why the target has none: it is no address, or it
-// names a resource.
+// Returns the endpoint to ping, or the reason why there is none: the target is no address, or names
+// a resource.
 fn endpoint_of<'a>(alloc: Global, pinging: &Pinging<'a>) -> Result<SocketAddrV4, FetchStop<'a>>
     ensures endpoint { IfOk result (IsPingEndpoint pinging.now) }
     ensures none { IfErr result (IsNoEndpoint pinging.now) }

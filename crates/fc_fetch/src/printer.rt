@@ -90,8 +90,9 @@ pub fn write_bytes<W: Write>(out: &mut W, bytes: &[u8]) -> io::Result<()>
 
 /// Writes a state on one line.
 ///
-/// The line has the code and, if there are bytes, a space and the bytes. They are text only if they
-/// have no line feed.
+/// The line has the code and, if there is a payload, a space and the payload. The payload is
+/// printed as text if `shown` is `Text` and the payload is text without a line feed. Otherwise it
+/// is in hex.
 ///
 /// # Errors
 /// Returns an error if the output can't be written, or if memory for the digits can't be allocated.
@@ -119,8 +120,8 @@ pub fn write_note<W: Write>(
     Ok(())
 }
 
-// Returns the bytes as text on one line, if `shown` asks for text and they allow it. Otherwise
-// returns `None`, for hex.
+// Returns the bytes as text on one line, or `None` if they are to be printed in hex. They are text
+// if `shown` is `Text`, and if they are UTF-8 without control characters other than tabs.
 fn line_of(shown: Shown, bytes: &[u8]) -> Option<&str>
     ensures { spec.IsShownLine shown bytes.now result }
 {
@@ -131,8 +132,8 @@ fn line_of(shown: Shown, bytes: &[u8]) -> Option<&str>
     }
 }
 
-// Returns the bytes as text, if `shown` asks for text and they allow it. Otherwise returns `None`,
-// for hex.
+// Returns the bytes as text, or `None` if they are to be printed in hex. They are text if `shown`
+// is `Text`, and if they are UTF-8 without control characters other than tabs and line feeds.
 fn text_of(shown: Shown, bytes: &[u8]) -> Option<&str>
     ensures { spec.IsShownText shown bytes.now result }
 {
@@ -153,7 +154,7 @@ fn plain_text(bytes: &[u8]) -> Option<&str>
     if are_plain(text) { Some(text) } else { None }
 }
 
-// Returns whether each character of a text may be printed.
+// Returns whether each character of a text is a tab, a line feed, or not a control character.
 fn are_plain(text: &str) -> bool
     ensures { result ≡ list_all spec.is_shown_char (chars text.now) }
 {

@@ -15,11 +15,11 @@ const ARGUMENT: usize = 255;
 /// The reason why an address names no resource.
 #[derive(Clone, Copy, Debug, PartialEq, Eq)]
 pub enum ResourceError {
-    /// Its path is not a path of segments.
+    /// The address's path is not a path of segments.
     Path(PathError),
-    /// An argument of its query has more than 255 bytes (RFC 7252, section 5.10).
+    /// An argument of the query has more than 255 bytes (RFC 7252, section 5.10).
     Argument,
-    /// Memory for the arguments of its query can't be allocated.
+    /// Memory for the arguments of the query can't be allocated.
     NoMemory,
 }
 
@@ -36,11 +36,11 @@ impl From<PathError> for ResourceError {
 
 /// Returns the resource of an address.
 ///
-/// It has the segments of the address's path, which has a slash before each segment, and each
-/// argument of its query.
+/// The resource has the segments of the address's path, and the arguments of the address's query.
+/// The text of the path has a slash before each segment.
 ///
 /// # Errors
-/// Returns the reason as a [`ResourceError`].
+/// Returns the reason why the address names no resource.
 pub fn resource_of(alloc: Global, address: &Address) -> Result<RequestTarget<'_>, ResourceError>
     ensures resource { IfOk result (IsResourceOf address.entry.now) }
     ensures none { IfErr result (IsNoResource address.entry.now) }
@@ -51,7 +51,8 @@ pub fn resource_of(alloc: Global, address: &Address) -> Result<RequestTarget<'_>
     })
 }
 
-// Returns the arguments of a query, or `ResourceError::Argument` if one has more than 255 bytes.
+// Returns the arguments of a query. Returns `ResourceError::Argument` if one has more than 255
+// bytes, and `ResourceError::NoMemory` if memory can't be allocated.
 fn arguments_of(alloc: Global, query: &[Vec<u8>]) -> Result<Vec<&[u8]>, ResourceError>
     ensures arguments { IfOk result (λ v. slices_in v.items ≡ texts_in query.entry.now) }
     ensures short { IfOk result (λ v. All (λ argument. length argument ≤ 255) (texts_in query.entry.now)) }

@@ -1,4 +1,4 @@
--- Entries have keys of their kind.
+-- Each entry has a thread's key, and a job's key if its operation concerns a job (`IsKeyed`).
 use Rattle.std.proofs.Common.{◌≡◌, ℕ, ◌<◌, ◌≤◌, Bool, true, false, List, [], ◌∷◌, ◌++◌, refl, inl, arith}
 use Rattle.std.specs.Prelude.{if◌then◌else◌}
 use Rattle.fc_book.specs.declared.view.Track.{Track}
@@ -11,7 +11,7 @@ use Rattle.fc_filed.specs.declared.entry.FiledEntry.{FiledEntry}
 use Rattle.fc_filed.specs.Entries.{AreKeyed, IsKeyed, is_of_job, part_key}
 use Rattle.fc_filed.specs.Threads.{MayFile, entry_by, key_of_first}
 
--- an operation of a shard belongs to one of the eight.
+-- if the part is a shard, its index is below 8.
 abbrev pub IsLow : ServerPart → Type 0
 IsLow (ShardPart index) = index < 8
 IsLow other = Unit {0}
@@ -39,7 +39,7 @@ low_of (Logged (RaisesWord slot word)) p = tt
 low_of (RejectsImage job content) p = tt
 low_of (LacksMemory job) p = tt
 
--- no part's track is a job's.
+-- the key of a part's or a thread's track is less than the key of the first job's track.
 pub part_below : (p : ServerPart) (who first_job : ℕ) → IsLow p → 9 ≤ who → who < first_job → part_key who p < first_job
 part_below FrontPart who first_job low le lt = omega (arith, le, lt)
 part_below (ShardPart i) who first_job low le lt = omega (arith, low, le, lt)

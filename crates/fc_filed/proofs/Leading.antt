@@ -1,5 +1,5 @@
--- Operations that lead a part from one state to another, one more of them, and their log, to which
--- the law of fc_linear applies.
+-- Operations that lead a part from one state to another: with one more operation, and as the log
+-- that the law of fc_linear is about.
 use Rattle.std.proofs.Common.{◌≡◌, ℕ, Bool, true, false, List, [], ◌∷◌, ◌++◌, refl, sym, subst}
 use Rattle.std.specs.Prelude.{if◌then◌else◌}
 use Rattle.std.specs.List.{filter}
@@ -15,7 +15,8 @@ module _ {S : Type 0} (Does : Operation → S → S → Type 0) where
   leads_more [] e x y z r d = (z, subst (λ (s : S). Does e.operation s z) r d, refl)
   leads_more (f ∷ fs) e x y z r d = (r.0, r.1, leads_more fs e r.0 y z r.2 d)
 
-  -- a part's calls with one more.
+  -- if operations lead a part from x to y, and one more leads it to z, together they lead it from x
+  -- to z.
   pub leads_filed : (es calls : List FiledEntry) (e : FiledEntry) (x y z : S) → calls ≡ es ++ e ∷ [] → OperationsLead Does es x y → Does e.operation y z → OperationsLead Does calls x z
   leads_filed es calls e x y z is r d = subst (λ (l : List FiledEntry). OperationsLead Does l x z) (sym is) (leads_more es e x y z r d)
 
@@ -23,7 +24,7 @@ module _ {S : Type 0} (Does : Operation → S → S → Type 0) where
   lead_log first_job [] x y r = r
   lead_log first_job (e ∷ es) x y r = (r.0, r.1, lead_log first_job es r.0 y r.2)
 
--- the log's operations of the head words lead these as all do.
+-- the log's operations of the head words.
 abbrev of_heads : List FiledEntry → List FiledEntry
 of_heads log = filter (λ e. is_words (part_of e.operation)) log
 
@@ -32,6 +33,8 @@ head_more : (first_job : ℕ) (b : Bool) (e : FiledEntry) (es : List FiledEntry)
 head_more first_job true e es ws m vs d r = (m, d, r)
 head_more first_job false e es ws m vs d r = subst (λ (x : List ℕ). LeadInOrder WordsDo (log_of first_job (of_heads es)) x vs) d r
 
+-- if a log leads the head words from ws to vs, the log's operations of the head words alone do so
+-- too.
 pub heads_log : (first_job : ℕ) (log : List FiledEntry) (ws vs : List ℕ) → OperationsLead ChangesWords log ws vs → LeadInOrder WordsDo (log_of first_job (filter (λ e. is_words (part_of e.operation)) log)) ws vs
 heads_log first_job [] ws vs r = r
 heads_log first_job (e ∷ es) ws vs r = head_more first_job (is_words (part_of e.operation)) e es ws r.0 vs r.1 (heads_log first_job es r.0 vs r.2)

@@ -26,7 +26,7 @@ no_head e ws not = subst (λ (b : Bool). WordsDoIf b e.operation ws ws) (sym not
 pub after_padding : (slot : ℕ) → slot ≡ (8 + slot) - 8
 after_padding slot = omega arith
 
--- the word of a slot comes after the padding.
+-- the table's word 8 + slot is the slot's head word, since eight words of padding come first.
 head_at : (words : List ℕ) (slot : ℕ) → slice_index words (8 + slot) ≡ word_at (heads_in words) slot
 head_at words slot = sym (get_or-drop 8 words slot 0)
 
@@ -120,7 +120,7 @@ module _ (first_job : ℕ) (words : List ℕ) (views : List (BookView FiledEntry
     sent = sent_gives first_job h.log views id v at (h.views_of.each id v at).own first h.sent;
   }
 
-  -- more tracks of its own.
+  -- a view's own track is still one of them if other tracks are put before them.
   has_more : (first : List _) (k : ℕ) → HasKey k v.own → HasKey k (first ++ v.own)
   has_more [] k x = x
   has_more (t ∷ ts) k x = inr (has_more ts k x)

@@ -13,7 +13,7 @@ use Rattle.fc_filed.specs.Books.{AreSent, HasThread, IsFirstSent, IsRightForJob,
 use Rattle.fc_filed.specs.Entries.{IsKeyed, entry_keys}
 use Rattle.fc_filed.proofs.Keyed.{part_of_keyed}
 
--- the view has a thread's track and this one.
+-- the view has the track with key k, and a thread's track.
 abbrev pub Holds : ℕ → ℕ → BookView FiledEntry → Type 0
 Holds first_job k v = HasThread first_job v × HasKey k v.own
 
@@ -22,7 +22,7 @@ at_place [] i v w e = absurd (some-ne-none v (sym e))
 at_place (x ∷ xs) zero v w e = refl
 at_place (x ∷ xs) (suc i) v w e = at_place xs i v w e
 
--- a place is the one that is set, or has what it had.
+-- a place of the list is the one that is set, or has the same item as before.
 elsewhere : (l : List (BookView FiledEntry)) (id i : ℕ) (v u w : BookView FiledEntry) → get_elem? l id ≡ some v → get_elem? l i ≡ some u → ((i ≡ id) × (u ≡ v)) ⊎ ((i ≢ id) × (get_elem? (set l id w) i ≡ some u))
 elsewhere [] id i v u w a e = absurd (some-ne-none u (sym e))
 elsewhere (x ∷ xs) zero zero v u w a e = inl (refl, sym (some-injective x u e) ∙ some-injective x v a)
@@ -76,7 +76,8 @@ module _ (first_job : ℕ) where
   pub holds_with : (k : ℕ) (e : FiledEntry) (v w : BookView FiledEntry) → w.own ≡ with_entry entry_keys e v.own → Holds first_job k v → Holds first_job k w
   holds_with k e v w is h = (thread_with e v w is h.0, subst (λ (ts : List (Track FiledEntry)). HasKey k ts) (sym is) (keeps-key entry_keys k e v.own h.1))
 
-  -- its job's track is with the thread that made it, so no other job's track grows.
+  -- if an entry is filed, the tracks without a thread are still right. The track of the entry's job
+  -- has a thread, and no other job's track grows.
   pub sent_filed : (log : List FiledEntry) (views others : List (BookView FiledEntry)) (e : FiledEntry) → IsKeyed first_job e → ((k : ℕ) → IsWithThread first_job views k → IsWithThread first_job others k) → IsWithThread first_job others e.job
       → AreSent first_job log views → AreSent first_job (log ++ e ∷ []) others
   sent_filed log views others e keyed still job a k le none =
@@ -97,7 +98,8 @@ module _ (first_job : ℕ) where
   rest_thread (x ∷ xs) t low s (inl p) = let le = s.0 in absurd (omega (arith, p, low, le))
   rest_thread (x ∷ xs) t low s (inr h) = h
 
-  -- the first track is this one, and right for its job, or this one is among the others.
+  -- either the track with key k is the first one, and right for its job; or the other tracks have
+  -- it if the list does.
   first_or_other : (log : List FiledEntry) (ts : List (Track FiledEntry)) (k : ℕ) → AreOn entry_keys log ts → IsFirstSent first_job ts → IsRightForJob first_job (on entry_keys k log) ⊎ (HasKey k ts → HasKey k (other_tracks ts))
   first_or_other log [] k a s = inr (λ h. h)
   first_or_other log (t ∷ ts) k a s = ⊎_elim
@@ -117,7 +119,8 @@ module _ (first_job : ℕ) where
 
   -- ---- what is attested
 
-  -- the threads' tracks are all one view's, so what is with a thread is this view's too.
+  -- one view owns the tracks of all threads. So a job's track outside this view shares no view with
+  -- a thread's track, and is right for its job.
   pub sent_seen : (log : List FiledEntry) (views : List (BookView FiledEntry)) (id : ℕ) (v : BookView FiledEntry) → get_elem? views id ≡ some v → AreViewsOf entry_keys log views → AreSent first_job log views
       → ((t : ℕ) → 9 ≤ t → t < first_job → HasKey t v.own) → (k : ℕ) → first_job ≤ k → (HasKey k v.own → ⊥) → IsRightForJob first_job (on entry_keys k log)
   sent_seen log views id v at of a threads k le not = a k le elsewhere_none

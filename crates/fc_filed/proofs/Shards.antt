@@ -1,4 +1,4 @@
--- A shard with one call more.
+-- The calls of a shard, with one more call.
 use Rattle.std.proofs.Common.{◌≡◌, ℕ, ◌+◌, ◌<◌, List, [], ◌∷◌, ◌++◌, sym, subst, ap, ◌∙◌}
 use Rattle.fc_registry.specs.Shards.{shard_at}
 use Rattle.fc_registry.specs.Slots.{Shard}
@@ -11,6 +11,7 @@ use Rattle.fc_filed.specs.Entries.{OperationsLead}
 use Rattle.fc_filed.specs.Parts.{AreCallsOf}
 use Rattle.fc_filed.proofs.Leading.{leads_filed}
 
+-- if calls led the shard with this index to x, and one more leads it to y, all of them led it to y.
 pub calls_more : (begin : Begin) (key : ℕ) (es calls : List FiledEntry) (e : FiledEntry) (x y : Shard) → calls ≡ es ++ e ∷ [] → AreCallsOf begin key es x → ShardDoes e.operation x y → y.index ≡ x.index → HasEightSlots y → AreCallsOf begin key calls y
 calls_more begin key es calls e x y is was does index eight = (
   eight,

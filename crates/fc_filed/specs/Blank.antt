@@ -1,4 +1,4 @@
--- The meaning of a name that no call chooses.
+-- Placeholders, for a name that no call chooses.
 use Rattle.std.specs.Prelude.{[]}
 use Rattle.fc_core.specs.Policies.{default_policy}
 use Rattle.fc_server.specs.declared.server.Begin.{Begin}

@@ -1,5 +1,5 @@
--- The rule of a server's book, and the book's attested history. The book's words are the head
--- words.
+-- The rule of a server's book, and the book's attested history. The words of the book's table are
+-- eight words of padding, and the head words.
 use Rattle.std.specs.Prelude.{◌≡◌, ℕ, ◌<◌, ◌≤◌, List, [], ◌∷◌, drop, length}
 use lib.ListN.{get_elem?}
 use mathlib.Core.Option.{some}
@@ -12,7 +12,7 @@ use Rattle.fc_linear.specs.Parts.{BringsItsJob}
 use Rattle.fc_filed.specs.declared.entry.FiledEntry.{FiledEntry}
 use Rattle.fc_filed.specs.Entries.{AreKeyed, ChangesWords, OperationsLead, entry_keys, log_of}
 
--- a book, as a clause sees it: its table, and the key of the first job's track.
+-- a book, as contracts see it: its table, and the key of the first job's track.
 pub record SeenBook : Type 0 where
   pub table : TableId
   pub first_job : ℕ
@@ -27,15 +27,16 @@ IsRightForJob first_job entries = BringsItsJob (log_of first_job entries)
 
 -- ---- jobs that no thread has
 
--- one of the view's own tracks is a thread's.
+-- the view has a thread's track among its own.
 abbrev pub HasThread : ℕ → BookView FiledEntry → Type 0
 HasThread first_job v = (t : ℕ) × ((9 ≤ t) × ((t < first_job) × HasKey t v.own))
 
--- a view has this track and a thread's.
+-- some view has both the track with key k and a thread's track.
 abbrev pub IsWithThread : ℕ → List (BookView FiledEntry) → ℕ → Type 0
 IsWithThread first_job views k = (i : ℕ) × ((v : BookView FiledEntry) × ((get_elem? views i ≡ some v) × (HasThread first_job v × HasKey k v.own)))
 
--- a job's track that no thread has, such as that of a lost message, is right for its job.
+-- a job's track is right for its job if no view has it together with a thread's track. The track of
+-- a lost message is an example.
 abbrev pub AreSent : ℕ → List FiledEntry → List (BookView FiledEntry) → Type 0
 AreSent first_job log views = (k : ℕ) → first_job ≤ k → (IsWithThread first_job views k → ⊥) → IsRightForJob first_job (on entry_keys k log)
 
@@ -46,9 +47,9 @@ IsFirstSent first_job (t ∷ ts) = (first_job ≤ t.key) × IsRightForJob first_
 
 -- ---- the rule
 
--- there is one history, each view is one of it, and no two have the same track. The history's looks
--- and raises lead the head words from 0 to those of the table. Each entry has keys of its kind. A
--- job's track that no thread has is right for its job.
+-- there is one history, each view is a view of it, and no two views have the same track. The
+-- history's operations of the head words lead these from 0 to the table's words. The keys of each
+-- entry are right (`IsKeyed`). A job's track that no thread has is right for its job.
 pub record HaveServerHistory (first_job : ℕ) (words : List ℕ) (views : List (BookView FiledEntry)) : Type 0 where
   pub log : List FiledEntry
   pub views_of : AreViewsOf entry_keys log views
@@ -57,8 +58,8 @@ pub record HaveServerHistory (first_job : ℕ) (words : List ℕ) (views : List 
   pub keyed : AreKeyed first_job log
   pub sent : AreSent first_job log views
 
--- the view is one of such a history. If the view owns all threads' tracks, then it owns each job's
--- track, or that track is right for its job.
+-- the view is a view of such a history. If the view has the tracks of all threads, each job's track
+-- that the view doesn't have is right for that job.
 pub record HasServerHistory (first_job : ℕ) (v : BookView FiledEntry) : Type 0 where
   pub log : List FiledEntry
   pub is : IsViewOf entry_keys log v

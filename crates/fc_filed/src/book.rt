@@ -19,9 +19,10 @@ use std::alloc::{AllocError, Global};
 use std::marker::{Brand, Model, PhantomData};
 use std::mem::replace;
 
-/// The name of a server's book. Types with the same name are of the same book.
+/// The name of a server's book.
 ///
-/// It names the book's table, the key of the first job's track, and what the server begins with.
+/// A book and tracks whose types have the same name belong together. The name states the book's
+/// table, the key of the first job's track, and the state that the server begins with.
 pub trait ServerName {
     ghost use Rattle.std.specs.Prelude.{ℕ};
 
@@ -45,7 +46,7 @@ impl ServerName for Brand {
 
 /// A book with an empty history and without a name yet.
 ///
-/// A clause sees its table, and the key of the first job's track.
+/// Contracts see the book's table, and the key of the first job's track.
 #[derive(Drop)]
 pub struct NewServerBook {
     words: FiledWords,
@@ -67,10 +68,10 @@ impl Model for NewServerBook {
         × (b.seat.me ≡ (first_view, [])) × (b.words.shared.key ≡ 9 + b.threads) };
 }
 
-/// The book: eight words of padding, and the head words of slots 0 to 63.
+/// A server's book: eight words of padding, and the head words of slots 0 to 63.
 ///
-/// The padding is never written. Steps that need no head word load its first word. A clause sees
-/// the table, and the key of the first job's track.
+/// The padding is never written. A step that needs no head word loads the first word of the
+/// padding. Contracts see the table, and the key of the first job's track.
 #[derive(Drop)]
 pub struct ServerBook<J: ServerName> {
     words: FiledWords,
@@ -91,7 +92,7 @@ impl<J: ServerName> Model for ServerBook<J> {
 
 /// The tracks that a thread or a message owns.
 ///
-/// It has no bytes; a clause sees its view.
+/// The tracks have no bytes. Contracts see the owner's view of the history.
 #[derive(Drop)]
 pub struct ServerTracks<J: ServerName> {
     seat: FiledSeat,
@@ -112,7 +113,7 @@ impl<J: ServerName> Model for ServerTracks<J> {
 
 /// The track of a part, stored under the part's lock.
 ///
-/// It has no bytes; a clause sees the entries on it, oldest first.
+/// The track has no bytes. Contracts see the track's entries, oldest first.
 #[derive(Drop)]
 pub struct FiledTrack<P: Part> {
     seat: FiledSeat,
@@ -151,14 +152,16 @@ impl NewServerBook {
         })
     }
 
-    /// Returns the number of threads that it is for.
+    /// Returns the number of threads that the book is for.
     pub fn threads(&self) -> u16
         ensures { 9 + result ≡ self.now.first_job }
     {
         self.threads
     }
 
-    /// Names the book, and returns it with an owner that may begin each track.
+    /// Names the book, and returns it with its first owner.
+    ///
+    /// The owner has no track yet, and may begin each track.
     pub fn with_name<J: ServerName>(self) -> (ServerBook<J>, ServerTracks<J>)
         requires named { self.table ≡ J.table }
         requires key { self.first_job ≡ J.first_job }
@@ -179,7 +182,7 @@ impl NewServerBook {
 }
 
 impl<J: ServerName> ServerTracks<J> {
-    /// Begins the next track, for a part, and returns it.
+    /// Begins the next track, for a part, and returns this empty track.
     pub fn begin_part<P: Part>(&mut self, book: &ServerBook<J>) -> FiledTrack<P>
         requires same { P.table ≡ J.table }
         requires key { P.key ≡ self.old.next }
@@ -205,7 +208,7 @@ impl<J: ServerName> ServerTracks<J> {
         }
     }
 
-    /// Begins the next track, and puts it first among the owner's.
+    /// Begins the next track, and puts it first among the owner's tracks.
     pub fn begin(&mut self, book: &ServerBook<J>)
         requires may_begin { self.old.may_begin ≡ true }
         ensures kept { self.new ≡ with_begun self.old }
@@ -215,8 +218,8 @@ impl<J: ServerName> ServerTracks<J> {
 
     /// Splits off the owner's first track, a job's, and returns it for a message.
     ///
-    /// The track is right for its job. So if the message is lost, the history has the job as it was
-    /// sent.
+    /// Requires that the track is right for its job. So the track is right even if the message is
+    /// lost.
     pub fn split_first(&mut self, book: &ServerBook<J>) -> ServerTracks<J>
         requires { IsFirstSent J.first_job self.old.own }
         ensures first { result ≡ first_own self.old }
@@ -228,7 +231,9 @@ impl<J: ServerName> ServerTracks<J> {
         }
     }
 
-    /// Merges the tracks of another owner, which may begin none, into the owner's.
+    /// Merges the tracks of `other` into the owner's tracks.
+    ///
+    /// Requires that `other` may begin no track.
     pub fn merge(&mut self, book: &ServerBook<J>, other: ServerTracks<J>)
         requires { other.may_begin ≡ false }
         ensures merged { self.new ≡ merged_with self.old other }
@@ -237,7 +242,7 @@ impl<J: ServerName> ServerTracks<J> {
         steps::merge(&book.words, &mut self.seat, seat);
     }
 
-    /// Closes a part: the part's track becomes one of the owner's.
+    /// Closes a part: the part's track becomes one of the owner's tracks.
     pub fn close<P: Part>(&mut self, book: &ServerBook<J>, part: FiledTrack<P>)
         requires { P.table ≡ J.table }
         ensures closed { self.new ≡ with_part self.old (part_view P.key part) }
@@ -254,9 +259,9 @@ impl<J: ServerName> ServerTracks<J> {
         steps::attest::<J>(&book.words, &mut self.seat);
     }
 
-    /// Reads the head word of `slot`, 0 to 63, and files that, without a lock.
+    /// Returns the head word of `slot`, 0 to 63, and files the read.
     ///
-    /// The entry is for the job whose track is first.
+    /// The entry is filed for thread `who` and for the job whose track is first. No lock is taken.
     pub fn look(&mut self, book: &ServerBook<J>, who: u64, slot: usize) -> u64
         requires slot { slot < 64 }
         requires thread { HasOwnTrack J.first_job who self.old }
@@ -268,7 +273,7 @@ impl<J: ServerName> ServerTracks<J> {
 
     /// Raises the head word of `slot`, 0 to 63, to `word` if `word` is greater.
     ///
-    /// It files the raise for the job whose track is first. It takes no lock.
+    /// The raise is filed for thread `who` and for the job whose track is first. No lock is taken.
     pub fn raise(&mut self, book: &ServerBook<J>, who: u64, slot: usize, word: u64)
         requires slot { slot < 64 }
         requires thread { HasOwnTrack J.first_job who self.old }
@@ -278,7 +283,10 @@ impl<J: ServerName> ServerTracks<J> {
         raise_as::<Brand, J>(book, self, who, slot, word);
     }
 
-    /// Files that the image of an install's `job` breaks a rule, with its `answer`.
+    /// Files that the image of an install's `job` breaks a rule.
+    ///
+    /// `answer` is the job's answer. The entry is filed for thread `who` and for the job whose
+    /// track is first.
     pub fn reject_image(&mut self, book: &ServerBook<J>, who: u64, job: &Job, answer: &Answer)
         requires thread { HasOwnTrack J.first_job who self.old }
         requires job { HasJobFirst J.first_job self.old }
@@ -288,6 +296,8 @@ impl<J: ServerName> ServerTracks<J> {
     }
 
     /// Files that memory for the program of an install's `job` is refused.
+    ///
+    /// The entry is filed for thread `who` and for the job whose track is first.
     pub fn lack_memory(&mut self, book: &ServerBook<J>, who: u64, job: &Job)
         requires thread { HasOwnTrack J.first_job who self.old }
         requires job { HasJobFirst J.first_job self.old }
@@ -299,8 +309,8 @@ impl<J: ServerName> ServerTracks<J> {
 
 /// Files the operation that `X` names, which belongs to no part.
 ///
-/// It becomes the last entry on two tracks: that of thread `who`, and that of the job whose track is
-/// the first in `tracks`.
+/// The entry becomes the last one on two tracks: that of thread `who`, and that of the job whose
+/// track is the first in `tracks`.
 fn file_alone_as<X: FiledName, J: ServerName>(
     book: &ServerBook<J>,
     tracks: &mut ServerTracks<J>,
@@ -315,9 +325,10 @@ fn file_alone_as<X: FiledName, J: ServerName>(
     steps::file_alone::<X>(&book.words, &mut tracks.seat);
 }
 
-/// Files a rejected image, with the entry named by `X`.
+/// Files that the image of an install's `job` breaks a rule.
 ///
-/// See [`ServerTracks::reject_image`].
+/// `X` names the entry. It becomes the last one on the tracks of thread `who` and of the job. See
+/// [`ServerTracks::reject_image`].
 fn reject_as<X: FiledName, J: ServerName>(
     book: &ServerBook<J>,
     tracks: &mut ServerTracks<J>,
@@ -334,9 +345,10 @@ fn reject_as<X: FiledName, J: ServerName>(
     file_alone_as::<X, J>(book, tracks, who);
 }
 
-/// Files refused memory, with the entry named by `X`.
+/// Files that memory for the program of an install's `job` is refused.
 ///
-/// See [`ServerTracks::lack_memory`].
+/// `X` names the entry. It becomes the last one on the tracks of thread `who` and of the job. See
+/// [`ServerTracks::lack_memory`].
 fn lack_as<X: FiledName, J: ServerName>(
     book: &ServerBook<J>,
     tracks: &mut ServerTracks<J>,
@@ -353,8 +365,9 @@ fn lack_as<X: FiledName, J: ServerName>(
 
 /// Files the operation that `X` names, of a part whose lock the caller holds.
 ///
-/// It becomes the last entry on the tracks of its part, of thread `who` and of the job whose track
-/// is first. [`crate::FiledFront`] and [`crate::FiledShard`] use it.
+/// The entry becomes the last one on `part`, on the track of thread `who`, and on the job's track,
+/// which is the first in `tracks`. [`crate::FiledFront`] and [`crate::FiledShard`] use the
+/// function.
 pub fn file_as<X: FiledName, J: ServerName, P: Part>(
     book: &ServerBook<J>,
     tracks: &mut ServerTracks<J>,
@@ -377,7 +390,9 @@ pub fn file_as<X: FiledName, J: ServerName, P: Part>(
     let _spent = replace(&mut part.seat, back);
 }
 
-/// Reads a head word, as [`ServerTracks::look`], with the entry named by `X`.
+/// Returns the head word of `slot`, and files the read.
+///
+/// `X` names the entry's thread and job. See [`ServerTracks::look`].
 fn look_as<X: FiledName, J: ServerName>(
     book: &ServerBook<J>,
     tracks: &mut ServerTracks<J>,
@@ -394,7 +409,9 @@ fn look_as<X: FiledName, J: ServerName>(
     steps::look::<X>(&book.words, &mut tracks.seat, slot)
 }
 
-/// Raises a head word, as [`ServerTracks::raise`], with the entry named by `X`.
+/// Raises the head word of `slot` to at least `word`, and files the raise.
+///
+/// `X` names the entry's thread and job. See [`ServerTracks::raise`].
 fn raise_as<X: FiledName, J: ServerName>(
     book: &ServerBook<J>,
     tracks: &mut ServerTracks<J>,

@@ -1,9 +1,9 @@
 //! Entries of a server's history.
 use std::marker::Model;
 
-/// An operation of a server, as a clause sees it.
+/// An operation of a server, for contracts.
 ///
-/// No value of it is made.
+/// No value of this type is made.
 pub struct FiledOperation {
     bits: u8,
 }
@@ -18,9 +18,9 @@ impl Model for FiledOperation {
     ghost view = { any_operation };
 }
 
-/// An entry: the keys of the calling thread and of its job, and the operation.
+/// An entry: the keys of the calling thread and the call's job, and the operation.
 ///
-/// No value of it is made.
+/// No value of this type is made.
 pub struct FiledEntry {
     pub who: u64,
     pub job: u64,

@@ -1,10 +1,11 @@
-//! The steps of a server's book: the moves of its rule, each made at a seat.
+//! The steps of a server's book: the moves of the book's rule, each made at a seat.
 //!
-//! A seat is an owner's handle at the book's table. A clause sees its owner's tracks: the owner's
-//! own, and a part's while that is taken over. The calls of `book.rt` are made of these steps.
+//! A seat is an owner's handle of the book's table. Contracts see the tracks of the seat's owner.
+//! These are the owner's own tracks, and a part's track while the owner has taken it over. The
+//! functions of `book.rt` are made of these steps.
 //!
-//! Each loads or raises one word of the table. A step that needs no head word loads the first word,
-//! which is padding.
+//! A step splits a seat off, joins a seat to another one, or loads or raises a word of the table. A
+//! load that needs no head word loads the first word of the padding.
 ghost use Rattle.std.specs.Prelude.{◌≡◌, ◌<◌, ◌≤◌, [], true, false};
 ghost use Rattle.fc_book.specs.Tracks.{AreSingle, HasKey, filed_with, first_own, locked_of, merged_with, no_tracks, own_view, part_view, with_begun, with_filed, with_next, with_part, without_first, without_locked};
 ghost use Rattle.fc_linear.specs.Operations.{NoPart, is_words, part_of};
@@ -28,12 +29,12 @@ pub(crate) type FiledSeat = Seat<u8, BookView<FiledEntry>>;
 
 pub(crate) type FiledWords = Table<u8, BookView<FiledEntry>, u64, ServerRule, Global>;
 
-/// The number of the table's first words that are padding.
+/// Number of words of padding at the start of the table.
 const PADDING: usize = 8;
 
 /// Makes a seat with no track.
 ///
-/// `file_as` puts it in the place of a part's seat while that is taken over.
+/// `file_as` puts it in the place of a part's seat while the part's track is taken over.
 pub(crate) fn empty_seat(words: &FiledWords, seat: &mut FiledSeat) -> FiledSeat
     requires size { words.now.shared.table_id.words ≡ 72 }
     requires table { seat.old.table_id ≡ words.now.shared.table_id }
@@ -107,7 +108,7 @@ pub(crate) fn begin_tracks(words: &FiledWords, seat: &mut FiledSeat) -> FiledSea
     words.shared.split_seat::<BeginsTracks>(seat)
 }
 
-/// Begins the next track, for the owner itself.
+/// Begins the next track, and puts it first among the owner's tracks.
 pub(crate) fn begin(words: &FiledWords, seat: &mut FiledSeat)
     requires size { words.now.shared.table_id.words ≡ 72 }
     requires table { seat.old.table_id ≡ words.now.shared.table_id }
@@ -118,7 +119,7 @@ pub(crate) fn begin(words: &FiledWords, seat: &mut FiledSeat)
     let _ = words.shared.load::<Begins>(seat, 0);
 }
 
-/// Splits off the first of the owner's tracks, a job's, as a seat for a message.
+/// Splits off the owner's first track, a job's, and returns a seat for a message.
 pub(crate) fn split_first(words: &FiledWords, seat: &mut FiledSeat) -> FiledSeat
     requires size { words.now.shared.table_id.words ≡ 72 }
     requires table { seat.old.table_id ≡ words.now.shared.table_id }
@@ -141,7 +142,7 @@ pub(crate) fn merge(words: &FiledWords, seat: &mut FiledSeat, other: FiledSeat)
     words.shared.join_seat::<Merges>(seat, other);
 }
 
-/// Makes a part's track one of the owner's.
+/// Makes a part's track one of the owner's tracks.
 pub(crate) fn close(words: &FiledWords, seat: &mut FiledSeat, part: FiledSeat)
     requires size { words.now.shared.table_id.words ≡ 72 }
     requires table { seat.old.table_id ≡ words.now.shared.table_id }
@@ -164,7 +165,7 @@ pub(crate) fn attest<J: ServerName>(words: &FiledWords, seat: &mut FiledSeat)
     let _ = words.shared.load::<AttestsServer<J>>(seat, 0);
 }
 
-/// Reads a head word, and files that.
+/// Returns the head word of `slot`, and files the read.
 ///
 /// The filed entry has the thread and the job of the entry that `X` names.
 pub(crate) fn look<X: FiledName>(words: &FiledWords, seat: &mut FiledSeat, slot: usize) -> u64
@@ -179,7 +180,7 @@ pub(crate) fn look<X: FiledName>(words: &FiledWords, seat: &mut FiledSeat, slot:
     words.shared.load::<LooksAtWord<X>>(seat, PADDING + slot)
 }
 
-/// Raises a head word to the greater of it and `word`, and files that.
+/// Raises the head word of `slot` to at least `word`, and files the raise.
 ///
 /// The filed entry has the thread and the job of the entry that `X` names.
 pub(crate) fn raise<X: FiledName>(words: &FiledWords, seat: &mut FiledSeat, slot: usize, word: u64)

@@ -21,7 +21,7 @@ impl TableRule<u8, BookView<FiledEntry>, u64> for ServerRule {
 
 /// The name of an entry that is filed.
 ///
-/// Each call that files an entry chooses its name.
+/// Each call that files an entry chooses a name for the entry.
 pub trait FiledName {
     ghost use Rattle.fc_filed.specs.declared.entry.FiledEntry.{FiledEntry};
 
@@ -50,7 +50,7 @@ impl<X: FiledName> Join<BookView<FiledEntry>> for FilesEntry<X> {
 
 /// Files an entry that belongs to no part.
 ///
-/// It is filed in a load of a word that is never written.
+/// The move loads a word of the padding, which is never written.
 pub(crate) struct FilesAlone<X: FiledName> {
     of: PhantomData<X>,
 }
@@ -63,7 +63,7 @@ impl<X: FiledName> Play<u8, BookView<FiledEntry>> for FilesAlone<X> {
     ghost then = { λ s v found w. w ≡ (with_filed entry_keys X.entry v.0, v.1) };
 }
 
-/// Attests the history.
+/// Attests that there is one history, of which the owner's tracks are subhistories.
 pub(crate) struct AttestsServer<J: ServerName> {
     of: PhantomData<J>,
 }
@@ -75,7 +75,7 @@ impl<J: ServerName> Play<u8, BookView<FiledEntry>> for AttestsServer<J> {
     ghost then = { λ s v found w. (w ≡ v) × HasServerHistory J.first_job v.0 };
 }
 
-/// Reads a head word, and files that in the same step.
+/// Reads a head word, and files the read in the same step.
 pub(crate) struct LooksAtWord<X: FiledName> {
     of: PhantomData<X>,
 }
@@ -89,7 +89,7 @@ impl<X: FiledName> Play<u8, BookView<FiledEntry>> for LooksAtWord<X> {
     ghost then = { λ s v found w. w ≡ (with_filed entry_keys (entry_of_look X.entry (s.word - 8) found) v.0, v.1) };
 }
 
-/// Raises a head word, and files that in the same step.
+/// Raises a head word, and files the raise in the same step.
 pub(crate) struct RaisesHead<X: FiledName> {
     of: PhantomData<X>,
 }

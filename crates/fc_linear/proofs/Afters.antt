@@ -7,13 +7,13 @@ use Rattle.fc_server.specs.States.{ServerState}
 use Rattle.fc_linear.specs.Operations.{Operation, LogEntry, emitted_of, event_for}
 use Rattle.fc_linear.specs.Parts.{RightByParts}
 
--- after the first call the rest is still right.
+-- the history with the first call leaves a server, and the other calls are right for this server.
 pub record After (k : ℕ) (op : Operation) (es : List LogEntry) (h : History) (end : ServerState) : Type 0 where
   pub server : ServerState
   pub tasks : List Task
   pub serves : Serves (next h (event_for k op) (emitted_of op)) server tasks
   pub rest : RightByParts end server tasks es
 
--- there are eight shards
+-- a server that a history leaves has eight shards.
 pub eight : (h : History) (s : ServerState) (tasks : List Task) → Serves h s tasks → length s.shards ≡ 8
 eight h s tasks v = v.agrees.shards.are.count

@@ -54,7 +54,8 @@ module _ (k : ℕ) (es : List LogEntry) (h : History) (end s : ServerState) (tas
         rest = record { front = r.2; shards = st.shards; words = st.words; jobs = st.jobs; to_come = st.to_come; numbered = st.numbered; events = st.events.1 };
       }
 
-  -- a delivery that produces no job.
+  -- if the first call is a delivery that produces no job, the history with this call leaves a
+  -- server. The other calls are right for this server.
   jobless : (now : ℕ) (from : Endpoint) (bytes : List ℕ) (d : Delivered) → job_in d ≡ None → jobs_by d ≡ [] → sent_by d ≡ reply_in d
       → RightByParts end s tasks (entry_for k (Logged (HandlesDatagram now from bytes d)) ∷ es) → After k (Logged (HandlesDatagram now from bytes d)) es h end
   jobless now from bytes d none nobody sent st =
@@ -134,7 +135,7 @@ module _ (k : ℕ) (es : List LogEntry) (h : History) (end s : ServerState) (tas
         rest = record { front = r.2; shards = st.shards; words = st.words; jobs = n.jobs; to_come = n.to_come; numbered = n.numbered; events = st.events.1 };
       }
 
--- the emission is permitted.
+-- the emission of an answer is the one that `IsAnswered` permits.
 sent_is : (live : Bool) (id : Option ℕ) (job : Job) (content : Content) (answered : Answered) → Answers live id job content answered → IsAnswered live id job content (emission_of answered)
 sent_is true (Some id) job content (Sent emission) a = a
 sent_is true (Some id) job content Late a = absurd a

@@ -1,4 +1,4 @@
--- Calls of a shard for no earlier job.
+-- Calls of a shard that are for no job that arrived before.
 use Rattle.std.proofs.Common.{◌≡◌, ℕ, Bool, true, List, [], ◌∷◌, ◌++◌, set, Option, Some, None, refl, ap, subst}
 use Rattle.std.proofs.lemmas.List.{append-nil}
 use Rattle.coap_msg.specs.declared.types.Endpoint.{Endpoint}

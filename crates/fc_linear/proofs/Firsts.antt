@@ -47,7 +47,8 @@ concerns_other j k op n = grind (is_other j k n, arith, nat_tests)
 concerns_none : (j k : ℕ) (op : Operation) → is_for_job op ≡ false → job_brought op ≡ None → concerns j (entry_for k op) ≡ false
 concerns_none j k op not none = rw (not, none) refl
 
--- a call for an earlier job.
+-- a call for a job that arrived before leads the job to a stage. With this stage, the other calls
+-- of each job are right.
 pub record Named (k : ℕ) (op : Operation) (tasks : List Task) (es : List LogEntry) : Type 0 where
   pub came : k < length tasks
   pub stage : Stage
@@ -57,7 +58,7 @@ pub record Named (k : ℕ) (op : Operation) (tasks : List Task) (es : List LogEn
   pub numbered : let later = set tasks k (record { job = (task_at tasks k).job; stage = stage }) in HaveNextNumbers (length later) (bringing es)
 
 module _ (k : ℕ) (op : Operation) (end s : ServerState) (tasks : List Task) (es : List LogEntry) (st : RightByParts end s tasks (entry_for k op ∷ es)) where
-  -- it produces nothing.
+  -- if the first call produces no job, the calls that produce a job are all among the others.
   bringing_left : job_brought op ≡ None → bringing (entry_for k op ∷ es) ≡ bringing es
   bringing_left none = left (λ e. is_some (job_brought e.operation)) (entry_for k op) es (ap (λ (o : Option Job). is_some o) none)
 
@@ -92,11 +93,13 @@ module _ (k : ℕ) (op : Operation) (end s : ServerState) (tasks : List Task) (e
         numbered = subst (λ (m : ℕ). HaveNextNumbers m (bringing es)) (sym n) (subst (HaveNextNumbers (length tasks)) (bringing_left none) st.numbered);
       }
 
-  -- a call for no job leaves them all unchanged.
+  -- if the first call is for no job and produces none, it is among no job's calls, nor among those
+  -- that produce a job.
   pub spared : is_for_job op ≡ false → job_brought op ≡ None → ((j : ℕ) → of_job j (entry_for k op ∷ es) ≡ of_job j es) × (bringing (entry_for k op ∷ es) ≡ bringing es)
   spared not none = (λ j. left (concerns j) (entry_for k op) es (concerns_none j k op not none), bringing_left none)
 
--- a call that produces a job.
+-- a call that produces a job gives the job the next number. With this job, the other calls of each
+-- job are right.
 pub record Brought (k : ℕ) (job : Job) (tasks : List Task) (es : List LogEntry) : Type 0 where
   pub is : k ≡ length tasks
   pub jobs : (j : ℕ) → j < length (tasks ++ new_task job ∷ []) → FollowsStages (of_job j es) (task_at (tasks ++ new_task job ∷ []) j)
@@ -140,7 +143,8 @@ module _ (k : ℕ) (op : Operation) (job : Job) (end s : ServerState) (tasks : L
 
 -- ---- of its part
 
--- a call of a shard
+-- a call of shard i leads the shard to a state. From this state on, the other calls of each shard
+-- are right.
 pub record OnShard (op : Operation) (i : ℕ) (end s : ServerState) (es : List LogEntry) : Type 0 where
   pub after : Shard
   pub does : ShardDoes op (shard_at s.shards i) after

@@ -173,7 +173,7 @@ module _ (s : ServerState) (task : Task) (k : ℕ) (receipt : Option Facts) (st 
         emits = refl;
       })
 
-  -- a receipt that the stage doesn't need
+  -- a receipt leaves a job at its stage if the stage doesn't need the receipt.
   elsewhere : (x : Inputs) (y : Stage) → (y ≡ ToDescribe → ⊥) → transition (Receipt k) (record x { stage = y }) ≡ goes_to y
   elsewhere x ToDescribe apart = absurd (apart refl)
   elsewhere x other apart = refl
@@ -221,12 +221,13 @@ module _ (s : ServerState) (task : Task) (k : ℕ) (w : AtWork s task) (turn : T
         emits = refl;
       })
 
--- the notification is that of the snapshot.
+-- the ticket of a notification that tells of `found` is `found`: a snapshot's ticket, or none for
+-- an empty slot.
 told_found : (told : Notification) (found : Option Ticket) → SaysFound told found → ticket_told told ≡ found
 told_found (tells.Ran outcome ticket) found is = sym is.0
 told_found tells.Gone found is = sym is
 
--- it is the lease's own.
+-- if a notification tells of the snapshot that a lease's job took, it belongs to the lease.
 own_told : (told : Notification) (found : Option Ticket) (turn : Turn) (id : ℕ) (job : Job) (slot : Slot) → SaysFound told found → turn.slot ≡ job.origin.slot → job.turn ≡ Some turn.number → FitsTurn job slot (turns.ToNote found id) → IsOfTurn turn slot.serial told
 own_told tells.Gone found turn id job slot is at number fits = tt
 own_told (tells.Ran outcome ticket) found turn id job slot is at number fits =

@@ -17,27 +17,29 @@ use Rattle.fc_server.proofs.Others.{does_done}
 use Rattle.fc_server.proofs.Served.{at_seen}
 use Rattle.fc_server.proofs.Stepping.{goes_on}
 
--- one more event.
+-- if a history leaves a server, and an event has its effect there, the history with the event
+-- leaves the server after it.
 pub served_on : (h : History) (e : Event) (old : ServerState) (tasks : List Task) (out : Option Emission) (new : ServerState) (later : List Task) → Done e (with_tasks old tasks) out (with_tasks new later) → Serves h old tasks → Serves (next h e out) new later
 unfolding seen
 served_on h e old tasks out new later done v =
     let s = goes_on e (with_tasks old tasks) (with_tasks new later) out done (seen h) v.agrees in
     record { legal = (s.emits, v.legal); means = (s.means, v.means); agrees = s.agrees }
 
--- a job that arrived may run.
+-- if a history leaves a server with a list of jobs, any job of the list may run.
 pub may_work : (h : History) (s : ServerState) (tasks : List Task) (k : ℕ) → Serves h s tasks → AtWork s (task_at tasks k)
 may_work h s tasks k v = at_seen (seen h) (with_tasks s tasks) k (task_at tasks k) v.agrees (ap (λ (ts : List Task). task_at ts k) (sym v.agrees.tasks))
 
--- an event of the job with this number.
+-- if an event of job k has its effect on server and job, the history with the event leaves the
+-- server after it.
 pub job_served : (h : History) (e : Event) (k : ℕ) → IsOfJob e k → (s t : ServerState) (tasks : List Task) (later : Task) (out : Option Emission) → Does e s (task_at tasks k) t later out → Serves h s tasks → Serves (next h e out) t (set tasks k later)
 job_served h e k of s t tasks later out d v = served_on h e s tasks out t (set tasks k later) (does_done e k of s t tasks (set tasks k later) (task_at tasks k) later out refl refl d) v
 
--- inputs at slot i, for a task at a stage.
+-- the inputs of a transition at slot i, for a task at this stage.
 abbrev pub inputs_with : ServerState → Task → ℕ → Stage → Inputs
 inputs_with s task i stage =
     let shard = shard_at s.shards (i % 8) in record { job = task.job; slot = slot_in shard i; around = around_of shard (common_in s.front s.words) i; stage = stage }
 
--- its effect, by its own stage and slot.
+-- the effect of an event on a server and a task, computed for slot i and this stage.
 pub record DoesThere (e : Event) (s : ServerState) (task : Task) (i : ℕ) (stage : Stage) (t : ServerState) (later : Task) (out : Option Emission) : Type 0 where
   pub front : t.front ≡ s.front
   pub task_is : later ≡ task_moved task (transition e (inputs_with s task i stage))

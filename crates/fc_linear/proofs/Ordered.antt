@@ -42,14 +42,15 @@ module _ (k : ℕ) (es : List LogEntry) (h : History) (end s : ServerState) (tas
   after_first (RejectsImage job content) st = after_reject k es h end s tasks v job content st
   after_first (LacksMemory job) st = after_lack k es h end s tasks v job st
 
--- for any history that leaves the server before them.
+-- if a log is right from a server that a history leaves, the history continued by the log leaves
+-- the server `end`.
 pub ends : (log : List LogEntry) (h : History) (end s : ServerState) (tasks : List Task) → Serves h s tasks → RightByParts end s tasks log → LeavesServer (history_on h log) end
 ends [] h end s tasks v st = record { server = s; tasks = tasks; serves = v; front = sym st.front; shards = λ i low. sym (st.shards i low); words = sym st.words }
 ends (e ∷ es) h end s tasks v st =
     let a : After e.job e.operation es h end = after_first e.job es h end s tasks v e.operation st in
     ends es (next h (event_of e) (emitted_of e.operation)) end a.server a.tasks a.serves a.rest
 
--- and those of a server that has just begun are one whole history
+-- a log that is right from a new server on is one legal history.
 pub whole : (log : List LogEntry) (b : Begin) (end : ServerState) → RightByParts end (first_server b) [] log → IsHistoryOf (history_on (begin_of b) log) end
 whole log b end right =
     let l : LeavesServer (history_on (begin_of b) log) end = ends log (begin_of b) end (first_server b) [] (begins b.serial b.id b.policy (first_server b) refl refl refl) right in

@@ -1,5 +1,5 @@
--- Operations of a server with many threads, as the entries of one history: the part of the server
--- that each belongs to, its effect on that part and on its job, and its event.
+-- Operations of a server with many threads, as the entries of one history. Each operation has a
+-- part of the server, an effect on that part, an effect on a job, and an event.
 use Rattle.std.specs.Prelude.{◌≡◌, ◌⊎◌, ℕ, ◌%◌, ◌<◌, ◌==◌, Bool, true, false, List, [], ◌∷◌, ◌++◌, length, Option, Some, None}
 use Rattle.std.specs.Borrow.{Bor}
 use Rattle.arrayvec.specs.ArrayVec.{ArrayVec}
@@ -37,8 +37,8 @@ use Rattle.fc_calls.specs.Logged.{TakesForJob, CommitsRun, InstallsProgram, Remo
 use Rattle.fc_calls.specs.Doings.{AdvancesTo, AnswersAt, CommitsAt, DescribesTo, DrawsAt, FiresAt, GivesTurnAt, GivesUpAt, HandsOn, HandlesAt, InstallsTo, NotesAt, PassesIfIdle, RemovesFrom, TakesTo, TicksAt}
 use Rattle.fc_calls.specs.Doings.{SaysFound}
 
--- a call that a thread's log has, or an image that isn't installed: it breaks a rule, or memory is
--- refused.
+-- a call in a thread's log, or an image that isn't installed. Such an image breaks a rule, or
+-- memory for it is refused.
 pub data Operation : Type 0 where
   Logged : (call : LoggedCall) → Operation
   RejectsImage : (job : Job) (content : Content) → Operation
@@ -141,7 +141,7 @@ abbrev pub job_in : Delivered → Option Job
 job_in (Brings job) = Some job
 job_in other = None
 
--- the new job that the operation produces, if any.
+-- the new job that the operation produces, or none.
 abbrev pub job_brought : Operation → Option Job
 job_brought (Logged (HandlesDatagram now from bytes brings)) = job_in brings
 job_brought (Logged (FiresTimer slot now)) = Some (timer_job slot)
@@ -160,7 +160,8 @@ is_for_job (Logged (AdvancesShard shard now ticked)) = false
 is_for_job (Logged (GivesTurn shard now turn)) = false
 is_for_job other = true
 
--- a receipt leads the job whose stage needs it to its answer, and doesn't change any other job.
+-- a receipt leads a job that needs one to the answer with the receipt. Any other job stays at its
+-- stage.
 abbrev pub ReceiptMoves : Option Facts → Stage → Stage → Type 0
 ReceiptMoves receipt s t = ((s ≡ ToDescribe) × (t ≡ ToAnswer (receipt_content receipt))) ⊎ ((s ≡ ToDescribe → ⊥) × (t ≡ s))
 
@@ -170,7 +171,7 @@ LookMoves slot word job s t =
     ((slot ≡ job.origin.slot) × (s ≡ ToMatch) × (t ≡ matched word job.etags.items))
     ⊎ ((seen : ArrayVec ℕ) × (slot ≡ length seen.items) × (s ≡ ToList seen) × (t ≡ listed (seen.items ++ word ∷ [])))
 
--- the operation that the job's stage needs, and the stage that its result leads to.
+-- the job's stage s needs this operation, and the operation's result leads the job to stage t.
 abbrev pub StageMoves : Operation → Job → Stage → Stage → Type 0
 StageMoves (Logged (DrawsId now id)) job s t = (turn : Turn) × (found : Option Ticket) × (s ≡ ToTell turn (turns.ToDraw found)) × (t ≡ ToTell turn (with_id found id))
 StageMoves (Logged (AnswersRequest now j content sent)) job s t = (j ≡ job) × (s ≡ ToAnswer content) × (t ≡ Gone)

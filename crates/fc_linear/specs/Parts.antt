@@ -46,17 +46,17 @@ abbrev pub LeadInOrder : {S : Type 0} → (Operation → S → S → Type 0) →
 LeadInOrder Does [] s t = t ≡ s
 LeadInOrder {S} Does (e ∷ es) s t = (m : S) × Does e.operation s m × LeadInOrder Does es m t
 
--- each operation is the one that the job needs at the stage that the earlier ones led to.
+-- each operation is the one that the job needs at the stage to which the earlier operations led it.
 abbrev pub FollowsStages : List LogEntry → Task → Type 0
 FollowsStages [] task = Unit {0}
 FollowsStages (e ∷ es) task = (stage : Stage) × StageMoves e.operation task.job task.stage stage × FollowsStages es (record { job = task.job; stage = stage })
 
--- the first operation produces the job, and the others follow its stages.
+-- if there are operations, the first one produces the job, and the others follow the job's stages.
 abbrev pub BringsItsJob : List LogEntry → Type 0
 BringsItsJob [] = Unit {0}
 BringsItsJob (e ∷ es) = (job : Job) × (job_brought e.operation ≡ Some job) × FollowsStages es (new_task job)
 
--- the jobs have the numbers from n on.
+-- the entries have the job numbers n, n + 1 and so on, in order.
 abbrev pub HaveNextNumbers : ℕ → List LogEntry → Type 0
 HaveNextNumbers n [] = Unit {0}
 HaveNextNumbers n (e ∷ es) = (e.job ≡ n) × HaveNextNumbers (n + 1) es
@@ -65,9 +65,10 @@ abbrev pub AllEvents : List LogEntry → Type 0
 AllEvents [] = Unit {0}
 AllEvents (e ∷ es) = IsEvent e.operation × AllEvents es
 
--- the log is right for each part and for each job, and leads a server with these jobs to another.
--- Each part's operations lead that part there, in order. The operations of an existing job follow
--- its stages. Those of a later job begin by producing it, with the next number.
+-- the log is right for each part of the server s with these jobs, and for each job, and leads s to
+-- `end`. The operations of each part lead it, in order, from its state in s to its state in `end`.
+-- The operations of an existing job follow its stages. The first operation of a later job produces
+-- it, and gives it the next number.
 pub record RightByParts (end : ServerState) (s : ServerState) (tasks : List Task) (log : List LogEntry) : Type 0 where
   pub front : LeadInOrder FrontDoes (of_front log) s.front end.front
   pub shards : (i : ℕ) → i < 8 → LeadInOrder ShardDoes (of_shard i log) (shard_at s.shards i) (shard_at end.shards i)
@@ -84,7 +85,7 @@ abbrev pub history_on : History → List LogEntry → History
 history_on h [] = h
 history_on h (e ∷ es) = history_on (next h (event_of e) (emitted_of e.operation)) es
 
--- the history leaves a server with these parts.
+-- the history leaves a server with the parts of `end`.
 pub record LeavesServer (h : History) (end : ServerState) : Type 0 where
   pub server : ServerState
   pub tasks : List Task
@@ -93,13 +94,13 @@ pub record LeavesServer (h : History) (end : ServerState) : Type 0 where
   pub shards : (i : ℕ) → i < 8 → shard_at server.shards i ≡ shard_at end.shards i
   pub words : server.words ≡ end.words
 
--- a server with this initial state, before any event.
+-- the server with this initial state, before any event.
 abbrev pub first_server : Begin → ServerState
 first_server b = record { front = first_front b.policy b.id; shards = first_shards b.serial b.policy.confirm_after; words = no_words }
 
--- the history is legal, each snapshot in it that found a program has a meaning, and the server is
--- that of the history: its front, its slots, the times of its shards, the observers of its slots,
--- and the head words. Place k of shard i is slot 8 k + i.
+-- the history is legal, and each snapshot in it that found a program has a meaning. The server is
+-- that of the history. This holds for its front, its slots, the times of its shards, the observers
+-- of its slots, and the head words. Place k of shard i is slot 8 k + i.
 pub record IsHistoryOf (h : History) (end : ServerState) : Type 0 where
   pub legal : IsLegal h
   pub means : AllMean h

@@ -10,7 +10,7 @@ ghost use Rattle.fc_linear.specs.Parts.{IsHistoryOf, LeavesServer, RightByParts,
 
 /// A log that is right for each part of a new server and each job is one history.
 ///
-/// The history is legal, and the server at its end is the one that the history leaves.
+/// The history of the log's operations is legal, and its server is `end`, to which the log leads.
 pub fn calls_are_one_history()
     ensures { (log : List LogEntry) (b : Begin) (end : ServerState) → RightByParts end (first_server b) [] log →
         IsHistoryOf (history_on (begin_of b) log) end }
@@ -18,7 +18,8 @@ pub fn calls_are_one_history()
 
 /// A log that is right for each part of a server and each job continues a history.
 ///
-/// It continues any history that leaves the server.
+/// If a history leaves the server, the history continued by the log leaves the server `end`, to
+/// which the log leads.
 pub fn calls_continue_a_history()
     ensures { (log : List LogEntry) (h : History) (end s : ServerState) (tasks : List Task) → Serves h s tasks →
         RightByParts end s tasks log → LeavesServer (history_on h log) end }

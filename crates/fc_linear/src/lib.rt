@@ -4,18 +4,19 @@
 //! server's threads are a log, in the order of their effects. The parts of the server are the
 //! front, each of the eight shards, and the head words. The operations of each part lead it from
 //! its first state to its last. The operations of each job are those that its stages need. By the
-//! law the whole log is then a legal history, in the sense of `run_world`'s headline: with the same
-//! events, emissions, slots and observers (`specs/Parts.antt`).
+//! law the whole log is then a legal history, as the contract of `run_world` states one. Its front,
+//! slots, observers and head words are those of the server (`specs/Parts.antt`).
 //!
 //! # What is proved
 //!
 //! - A log that is right by parts and by jobs, from a server that has just begun, is one legal
-//!   history. Each snapshot in it that found a program has a meaning, and the server's front, slots
-//!   and head words are those of the history.
-//! - The same log after any history, on a server that this history leaves.
+//!   history. Each snapshot in it that found a program has a meaning. The server's front, slots and
+//!   head words are those of the history.
+//! - A log that is right from a server that a history leaves continues this history. The longer
+//!   history leaves the server to which the log leads.
 //!
-//! No server is proved to make such a log yet: this requires an order of its calls, which
-//! [fc_book](../../fc_book/src/lib.rt) is to provide.
+//! No contract guarantees yet that a server's threads make such a log. That requires one order of
+//! all calls, which [fc_book](../../fc_book/src/lib.rt) is to provide.
 //!
 //! By the contracts of `laws`.
 #![tactic(auto)]

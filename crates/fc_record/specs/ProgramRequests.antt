@@ -1,4 +1,4 @@
--- Requests to change a program, and the text that records one.
+-- Requests to change a program, and the text that records such a request.
 use Rattle.std.specs.Prelude.{◌≡◌, ◌⊎◌, ℕ, ◌++◌, List, [], ◌∷◌, Option, Some, None, Result, Ok, Err, IsUtf8, codes, slice_index}
 use Rattle.std.specs.Fmt.{decimal}
 use Rattle.hex.specs.Hex.{encode_lower}
@@ -28,14 +28,14 @@ pub record Requested : Type 0 where
 
 -- ---- the jobs that ask for a change
 
--- the change of a job's request: to install this image or, without one, to remove the program; or
--- no change.
+-- the change that a job requests: to install this image, to remove the program (`Some None`), or no
+-- change (`None`).
 abbrev pub change_in : Ask → Option (Option (List ℕ))
 change_in (Install body initial) = Some (Some body.items)
 change_in Remove = Some None
 change_in other = None
 
--- the payload, or nothing if it isn't text.
+-- the note is the payload if that is UTF-8, and otherwise empty.
 abbrev pub IsNote : List ℕ → List ℕ → Type 0
 IsNote payload note = (IsUtf8 payload × (note ≡ payload)) ⊎ ((IsUtf8 payload → ⊥) × (note ≡ []))
 
@@ -50,7 +50,7 @@ abbrev pub IsResponseBy : Option Emission → Option Coded → Type 0
 IsResponseBy (Some emission) response = IsResponseIn (reading_of emission.bytes.items) response
 IsResponseBy None response = response ≡ None
 
--- the request of a job, with this reply.
+-- the request to change a program that a job makes, with this reply as its response.
 pub record IsRequestOf (job : Job) (sent : Option Emission) (request : Requested) : Type 0 where
   pub peer : request.peer ≡ job.origin.endpoint
   pub slot : request.slot ≡ job.origin.slot
@@ -70,13 +70,13 @@ peer_text peer =
     decimal (slice_index peer.ip 0) ++ (codes "." ++ (decimal (slice_index peer.ip 1) ++ (codes "." ++ (decimal (slice_index peer.ip 2) ++ (codes "."
     ++ (decimal (slice_index peer.ip 3) ++ (codes ":" ++ decimal peer.port)))))))
 
--- a text after a space; nothing if it is empty.
+-- a space and the text, or nothing if the text is empty.
 abbrev pub after_space : List ℕ → List ℕ
 after_space [] = []
 after_space (c ∷ text) = codes " " ++ (c ∷ text)
 
--- the response, as ` code=2.01 version=1 cost=2 budget=2 vars=0`, ` code=4.00 V16 slot 0`,
--- ` code=2.02`, ` unanswered`.
+-- the response, as ` code=2.01 version=1 cost=2 budget=2 vars=0`, as ` code=4.00 V16 slot 0`,
+-- as ` code=2.02` or as ` unanswered`.
 abbrev pub response_text : Option Coded → List ℕ
 response_text (Some response) = codes " code=" ++ (code_text response.code ++ after_space response.note)
 response_text None = codes " unanswered"

@@ -1,4 +1,4 @@
-//! Recorders of changes: of answered requests to change a slot's program.
+//! Recorders of changes, which are answered requests to change a slot's program.
 ghost use Rattle.std.specs.Prelude.{◌≡◌, ⊤};
 ghost use Rattle.fc_core.specs.Receiving.{emission_if};
 ghost use Rattle.fc_record.specs.ProgramRequests.{Requested};
@@ -15,7 +15,7 @@ use std::marker::Model;
 
 /// A recorder of changes.
 pub trait Recorder {
-    // The changes that were recorded, each from one state of the caller's log to the next.
+    // This change was recorded, which led the caller's log from `before` to `after`.
     ghost recorded: { Requested → Log → Log → Type 0 } = { λ change before after. ⊤ };
 
     /// Records an answered request to change a program.
@@ -23,7 +23,7 @@ pub trait Recorder {
         ensures { recorded change.now log.old log.new };
 }
 
-/// Records the change that a job asked for, if it asked for one, with its response.
+/// Records the change that a job asked for, if it asked for one, with the response.
 ///
 /// The response is `reply` if `has_reply`; otherwise there is none. Workers call this after each
 /// answer, and so does a server on one thread.
@@ -69,7 +69,7 @@ impl<'a, L: Logger> Recorder for LoggedChanges<'a, L> {
     }
 }
 
-/// A recorder, and the log of the changes passed to it.
+/// A recorder, and the log of the changes that were passed to the recorder.
 ///
 /// Contracts see the log.
 #[derive(Drop)]

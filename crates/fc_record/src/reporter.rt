@@ -10,16 +10,16 @@ use std::sync::atomic::{AtomicU64, Ordering};
 
 /// A recorder of reports.
 pub trait Reporter {
-    // The reports that were recorded, each from one state of the caller's log to the next.
+    // This report was recorded, which led the caller's log from `before` to `after`.
     ghost reported: { Counts → Log → Log → Type 0 } = { λ report before after. ⊤ };
 
     /// Records a report.
     fn report(&self, report: &Report, log: &mut CallLog)
         ensures { reported report.now log.old log.new };
 
-    /// Counts a datagram of the server's own: it was sent, or it couldn't be.
+    /// Counts a datagram of the server's own: as sent if `out`, and else as failed.
     ///
-    /// A later report may give the numbers of those counted so far.
+    /// A later report may give both numbers.
     fn count_sending(&self, out: bool);
 }
 
@@ -42,8 +42,8 @@ impl Reporter for NoReports {
 
 /// A reporter that passes each report to a logger, as a record of level info.
 ///
-/// The record ends with the numbers of datagrams that were sent and that couldn't be sent. Any
-/// thread counts its own, so no contract speaks of these two.
+/// The record ends with two numbers: of datagrams that were sent, and of datagrams that couldn't be
+/// sent. Any thread may change the numbers at any time, so no contract speaks of them.
 #[derive(Drop)]
 pub struct LoggedReports<'a, L: Logger> {
     logger: &'a L,

@@ -12,7 +12,7 @@ use std::{fmt, str};
 
 /// A request to change a slot's program: its sender, its image, and its response.
 ///
-/// It is written as a line of words.
+/// The request is written as one line of words.
 #[derive(Drop)]
 pub struct ProgramRequest<'a> {
     peer: Endpoint,
@@ -23,7 +23,7 @@ pub struct ProgramRequest<'a> {
     response: Option<Response<'a>>,
 }
 
-/// The code of a response, and its payload.
+/// The code of a response, and its payload if that is text.
 #[derive(Clone, Copy)]
 pub(crate) struct Response<'a> {
     pub(crate) code: Code,
@@ -47,7 +47,8 @@ impl<'a> Model for ProgramRequest<'a> {
 impl<'a> ProgramRequest<'a> {
     /// Returns the request of a job, or `None` if the job changes no program.
     ///
-    /// Its response is `reply` if `has_reply`.
+    /// The request's response is `reply` if `has_reply`; otherwise there is none. A `reply` that is
+    /// no message is no response either.
     pub fn of(job: &'a Job, has_reply: bool, reply: &'a Emission) -> Option<ProgramRequest<'a>>
         ensures { MatchOption result (change_in job.now.ask ≡ None) (IsRequestOf job.now (emission_if has_reply reply.now)) }
     {
@@ -83,8 +84,8 @@ fn image_in(ask: &Ask) -> Option<Option<&[u8]>>
     }
 }
 
-// Returns the code and the payload of a reply, or `None` if there is no reply or the reply is no
-// message.
+// Returns the code and the payload of a reply. Returns `None` if there is no reply, or if its bytes
+// are no message. A payload that isn't UTF-8 is replaced by an empty one.
 fn response_by(has_reply: bool, reply: &Emission) -> Option<Response<'_>>
     ensures { IsResponseBy (emission_if has_reply reply.now) (option_map (λ s. record { code = s.code.byte; note = s.note.now }) result) }
 {
@@ -94,7 +95,8 @@ fn response_by(has_reply: bool, reply: &Emission) -> Option<Response<'_>>
     response_in(reply.bytes.as_slice())
 }
 
-// Returns the code and the payload of a message, or `None` if the bytes are no message.
+// Returns the code and the payload of a message, or `None` if the bytes are no message. A payload
+// that isn't UTF-8 is replaced by an empty one.
 fn response_in(bytes: &[u8]) -> Option<Response<'_>>
     ensures { IsResponseIn (reading_of bytes.now) (option_map (λ s. record { code = s.code.byte; note = s.note.now }) result) }
 {

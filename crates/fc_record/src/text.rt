@@ -29,7 +29,7 @@ impl fmt::Display for PeerText {
     }
 }
 
-/// The response to a change, after a space.
+/// The response to a change, after a space; ` unanswered` if there is none.
 #[derive(Clone, Copy)]
 pub(crate) struct ResponseText<'a>(pub(crate) Option<Response<'a>>);
 
@@ -51,7 +51,7 @@ impl<'a> fmt::Display for ResponseText<'a> {
     }
 }
 
-/// A note after a space; nothing if it is empty.
+/// A space and the note, or nothing if the note is empty.
 #[derive(Clone, Copy)]
 pub(crate) struct NoteText<'a>(pub(crate) &'a str);
 

@@ -24,7 +24,8 @@ module _ {T : Type 0} where
       ap tracks_in (map-append (λ (x : Share T). x.log) shares (s ∷ []))
       ∙ (flat_map-append (λ (log : TrackedLog). log.tracks.own) (map (λ (x : Share T). x.log) shares) (s.log ∷ []) ∙ ap (λ (ts : List (Track FiledEntry)). shared_tracks shares ++ ts) (append-nil s.log.tracks.own))
 
-  -- the tracks of the last share, moved to the others.
+  -- if the last share's tracks are moved to the merged ones, these and the tracks of the remaining
+  -- shares are still all tracks.
   pub tracks_moved : (shares left : List (Share T)) (s : Share T) (ts us all : List (Track FiledEntry)) → shares ≡ left ++ s ∷ [] → us ≡ s.log.tracks.own ++ ts → shared_tracks shares ++ ts ≡ all → shared_tracks left ++ us ≡ all
   tracks_moved shares left s ts us all is moved before =
       ap (λ (x : List (Track FiledEntry)). shared_tracks left ++ x) moved
@@ -37,7 +38,7 @@ module _ {T : Type 0} where
     pub own_moved : (shares left : List (Share T)) (s : Share T) (All' : Type 0) → shares ≡ left ++ s ∷ [] → HasOwn s → (All HasOwn shares → All') → All HasOwn left → All'
     own_moved shares left s All' is own before rest = before (subst (λ (l : List (Share T)). All HasOwn l) (sym is) (All-push HasOwn left s rest own))
 
-    -- no share is left.
+    -- once no share is left to merge, the view has the tracks of all the logs.
     pub have_tracks : (shares left : List (Share T)) (own : Share T) (v : BookView FiledEntry) → left ≡ [] → shared_tracks left ++ v.own ≡ shared_tracks shares ++ own.log.tracks.own
         → (All HasOwn left → All HasOwn shares) → HasOwn own → HasTracksOf first_job (logs_of shares own) v
     have_tracks shares left own v none tracks threads mine = record {

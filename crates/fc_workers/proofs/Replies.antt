@@ -49,19 +49,20 @@ module _ {T : Type 0} (s : WorkerView T) where
   worked_is_reply None number job before after e w = inl (record { now = w.answered.now; job = job; content = w.content; answer = w.answered.answer })
   worked_is_reply (Some turn) number job before after e w = turn_is_reply (turn_of job turn) w.taken e w.log after.log w.told
 
-  -- the message for a job that was run is a reply.
+  -- if a job was run, the message that is to be sent for it is one that a worker may send.
   pub goes_out : (number : ℕ) (job : Job) (before after : Share T) {reply : Option Emission} (e : Emission) → IsWorked s number job before after reply
       → reply ≡ Some e → GoesOut e
   goes_out number job before after e w is = worked_is_reply job.turn number job before after e
       (subst (λ (r : Option Emission). IsWorked s number job before after r) is w)
 
-  -- it was sent and counted, or there was nothing to send.
+  -- if a reply was sent by one call and counted, it is sent as `IsSent` demands.
   pub sends_reply : (number : ℕ) (before : Share T) {reply : Option Emission} (e : Emission) (out : Bool) (log : TrackedLog) {after : Share T}
       → s.wire (SendsReply number e out) before.log log → reply ≡ Some e → after ≡ with_reply out (record before { log = log })
       → IsSent s number reply before after
   sends_reply number before e out log {after} sends is counted =
       subst (λ (r : Option Emission). IsSent s number r before after) (sym is) (out, log, sends, counted)
 
+  -- if there is no reply, and the statistics are unchanged, nothing had to be sent.
   pub sends_nothing : (number : ℕ) (before : Share T) {reply : Option Emission} {after : Share T} → reply ≡ None → after ≡ before
       → IsSent s number reply before after
   sends_nothing number before {reply} {after} is kept = subst (λ (r : Option Emission). IsSent s number r before after) (sym is) kept

@@ -15,6 +15,7 @@ pub last_popped : {X : Type 0} (xs : List X) (n : ℕ) (x : X) {ys : List X} →
 last_popped xs n x {ys} rest count is =
     sym (take_all (n + 1) xs (omega (arith, count))) ∙ (take_more xs n x (omega (arith, count)) ∙ (λ i. sym rest i ++ sym is i ∷ []))
 
--- the last item is pushed to another list.
+-- moving the last item of xs to the end of another list keeps that list followed by the reverse of
+-- xs.
 pub moved_last : {X : Type 0} (done xs ys zs : List X) (x : X) → xs ≡ ys ++ x ∷ [] → done ++ reverse xs ≡ zs → (done ++ x ∷ []) ++ reverse ys ≡ zs
 moved_last done xs ys zs x is h = append_assoc done (x ∷ []) (reverse ys) ∙ (ap (λ l. done ++ l) (sym (ap reverse is ∙ reverse-append ys (x ∷ []))) ∙ h)

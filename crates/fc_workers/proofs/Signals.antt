@@ -6,7 +6,7 @@ use Rattle.fc_calls.specs.Logged.{HandsSignal}
 use Rattle.fc_workers.specs.Called.{WorkerView}
 use Rattle.fc_workers.specs.Dispatch.{AreSignalled}
 
--- no shard has it yet.
+-- with an unchanged log, the signal was passed to none of the shards.
 pub no_signals : {T : Type 0} (s : WorkerView T) (from : Endpoint) (id : ℕ) (reset : Bool) (log : TrackedLog) → AreSignalled s 0 from id reset log log
 unfolding AreSignalled
 no_signals s from id reset log = refl
@@ -16,7 +16,8 @@ next_signal : {T : Type 0} (s : WorkerView T) (n : ℕ) (from : Endpoint) (id : 
 unfolding AreSignalled
 next_signal s n from id reset before now after are hands = (now, are, hands)
 
--- one more shard.
+-- if the signal was passed to the first n shards and then to shard n, it was passed to the first n
+-- + 1 shards.
 pub signals_on : {T : Type 0} (s : WorkerView T) (n : ℕ) (from : Endpoint) (id : ℕ) (reset : Bool) (before now after : TrackedLog) → AreSignalled s n from id reset before now
     → s.logged (HandsSignal n from id reset) now after → AreSignalled s (n + 1) from id reset before after
 signals_on s n from id reset before now after are hands =

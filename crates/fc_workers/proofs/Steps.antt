@@ -49,7 +49,8 @@ use Rattle.fc_workers.specs.Work.{AreCalls, IsCallAt, IsCommitted, IsWorkedOff, 
 
 -- ---- a step, stored in the job's state
 
--- a stage is its step, with the other data that the state stores.
+-- if a stage is made of a step and the state's other data, it is also made of a step that equals
+-- this one.
 pub stands_at : (stage : Stage) (step needs : Step) (f : SlotSnapshot) (seen : ArrayVec ℕ) (content : Content) → stage_of step f seen content ≡ stage
     → step ≡ needs → stage ≡ stage_of needs f seen content
 stands_at stage step needs f seen content view is = sym view ∙ ap (λ (s : Step). stage_of s f seen content) is
@@ -60,17 +61,18 @@ none_tallied : (b : Bool) (x : ℕ) → x ≡ x + (if b then 0 else 0)
 none_tallied true x = omega arith
 none_tallied false x = omega arith
 
--- a call that changes no slot.
+-- unchanged tallies have risen by 0 changes.
 same_tallies : (changes : ℕ → ℕ) (n : ℕ) → AreTallied changes changes n 0
 same_tallies changes n = λ shard less. none_tallied (shard == n % 8) (changes shard)
 
--- the changes of one call.
+-- tallies that rise by k changes rise by 0 + k, the total of a list of one call.
 one_tallied : (before after : ℕ → ℕ) (n k : ℕ) → AreTallied before after n k → AreTallied before after n (0 + k)
 one_tallied before after n k rises = subst (λ (x : ℕ). AreTallied before after n x) (omega arith) rises
 
 -- ---- the stage after a call
 
--- a ticket belongs to the job that took the snapshot.
+-- if a job may take one more snapshot, the stage that the snapshot leads to can follow, and a
+-- ticket belongs to the job.
 snapshot_follows : (kept : Option (List ℕ)) (job : Job) (n serial : ℕ) (p : Option Present) → n < snapshots
     → Follows job (ToTake n) 1 (took n (snapshot kept job serial p))
 snapshot_follows kept job n serial None less = record { ready = tt; fewer = omega (arith, less); few = omega (arith, less) }
@@ -92,7 +94,7 @@ took_follows : (job : Job) (n : ℕ) (readings : List ℕ) (x : Taken) → n < s
 took_follows job n readings x less is = subst (λ (x : Taken). Follows job (ToTake n) 1 (took n x)) (sym is.snapshot.1)
     (by_turn_follows job.turn (readings_if is.snapshot.0 readings) job n is.slot is.now is.watch less)
 
--- a request's snapshot is never stale.
+-- a request's snapshot is never stale, so it leaves the number of ended jobs unchanged.
 finding_ends : (kept : Option (List ℕ)) (job : Job) (serial ended : ℕ) (p : Option Present) → ended_by (snapshot kept job serial p) ended ≡ ended
 finding_ends kept job serial ended None = refl
 finding_ends (Some readings) job serial ended (Some p) = refl
@@ -150,13 +152,13 @@ rejected_follows job f false = record { ready = tt; fewer = omega arith; few = o
 -- ---- a step of each stage
 
 module _ {T : Type 0} (worker_view : WorkerView T) (number : ℕ) (job : Job) where
-  -- a step to a stage and statistics that equal these.
+  -- a step to a stage and statistics is also one to a stage and statistics that equal these.
   is_step : (old : Stage) {new next : Stage} {before after counted : Share T} → new ≡ next → after ≡ counted → IsStep worker_view number job old next before counted
       → IsStep worker_view number job old new before after
   is_step old {new} {next} {before} {after} {counted} e c s = subst (λ (x : Stage). IsStep worker_view number job old x before after) (sym e)
       (subst (λ (p : Share T). IsStep worker_view number job old next before p) (sym c) s)
 
-  -- a step from a stage that equals this one.
+  -- a step from a stage is also one from a stage that equals it.
   pub from_stage : {old at next : Stage} {before after : Share T} → old ≡ at → IsStep worker_view number job at next before after
       → IsStep worker_view number job old next before after
   from_stage {old} {at} {next} {before} {after} e s = subst (λ (x : Stage). IsStep worker_view number job x next before after) (sym e) s
@@ -238,7 +240,7 @@ module _ {T : Type 0} (worker_view : WorkerView T) (number : ℕ) (job : Job) wh
     };
   })
 
-  -- calls that count nothing.
+  -- a call without a change, a refused allocation or a conflict leaves the counts unchanged.
   logged_only : (call : Call) (p : Share T) (log : TrackedLog) → change_by call ≡ 0 → refusal_by call ≡ 0 → overtaking_by call ≡ 0
       → HasCounted worker_view job.origin.slot (call ∷ []) p (record p { log = log })
   logged_only call p log none no_refusal no_overtaking = record {
@@ -281,7 +283,8 @@ module _ {T : Type 0} (worker_view : WorkerView T) (number : ℕ) (job : Job) wh
     counted = logged_only (Lists seen word) p log refl refl refl;
   })
 
-  -- an image that breaks a rule.
+  -- if the job's image breaks a rule, its rejection is a step to the answer with this fault, and
+  -- counts nothing.
   pub reject_step : (f : Fault) (p : Share T) {next : Stage} → IsRefusal (image_of job.ask) (Broken f) → next ≡ ToAnswer (refused (Broken f))
       → IsStep worker_view number job ToInstall next p p
   reject_step f p is e = is_step ToInstall e refl (record {
@@ -299,7 +302,8 @@ module _ {T : Type 0} (worker_view : WorkerView T) (number : ℕ) (job : Job) wh
     };
   })
 
-  -- a refused allocation.
+  -- if memory for the job's image is refused, this is a step to the answer `Unavailable`, and is
+  -- counted.
   pub refuse_step : (p : Share T) {next : Stage} {after : Share T} → IsRefusal (image_of job.ask) NoMemory → next ≡ ToAnswer Unavailable
       → after ≡ record p { refusals = saturated (p.refusals + 1) } → IsStep worker_view number job ToInstall next p after
   refuse_step p is e c = is_step ToInstall e c (record {
@@ -334,7 +338,8 @@ module _ {T : Type 0} (worker_view : WorkerView T) (number : ℕ) (job : Job) wh
     };
   }
 
--- an outcome of the ticket's program, request, variables and readings is that of its run.
+-- the outcome of a run with the ticket's program, request, variables and readings is that of the
+-- ticket's run.
 pub is_run : (r : Ran) (t : Ticket) (p : Program) (request : Request) (vars readings : List ℕ) → r ≡ ran p request vars readings → p ≡ t.found.program
     → request ≡ t.request → vars ≡ t.found.vars → readings ≡ t.readings → r ≡ run_of t
 is_run r t p request vars readings e by for on with_them = e ∙ λ i. ran (by i) (for i) (on i) (with_them i)
@@ -391,7 +396,8 @@ counts_on worker_view n calls call before now after c d = record {
   failed = d.failed ∙ c.failed;
 }
 
--- one more step, from a stage that equals this one.
+-- if calls led the job to a stage, they and one more step from there lead it to the step's next
+-- stage.
 pub walks_on : {T : Type 0} (worker_view : WorkerView T) (number : ℕ) (job : Job) {stage at next : Stage} {before now after : Share T} → stage ≡ at
     → Walked worker_view number job stage before now → IsStep worker_view number job at next now after → Walked worker_view number job next before after
 walks_on worker_view number job {stage} {at} {next} {before} {now} {after} e w s =
@@ -408,7 +414,7 @@ walks_on worker_view number job {stage} {at} {next} {before} {now} {after} e w s
 
 -- ---- a job that was begun
 
--- a run that its slot's head word may answer.
+-- a job whose first step is to match its slot's head word requests a run.
 asks_first : (ask : Ask) (serials : List ℕ) → first_by ask serials ≡ ToMatch → AsksRun ask
 asks_first (Run request) serials is = tt
 asks_first Discover serials is = absurd (let n = is in cc)
@@ -424,11 +430,11 @@ match_untaken : (job : Job) (b : Bool) (word : ℕ) → AsksRun job.ask → IsUn
 match_untaken job true word asks = tt
 match_untaken job false word asks = (refl, asks)
 
--- no call was made yet.
+-- at its first stage a job has taken no snapshot.
 pub asked_untaken : (job : Job) {stage : Stage} → stage ≡ asked_stage job → IsUntaken job stage
 asked_untaken job is = subst (IsUntaken job) (sym is) (first_untaken job job.ask job.etags.items refl)
 
--- the head word of its slot was read.
+-- a job has taken no snapshot after its first call if that read the slot's head word.
 pub matched_untaken : (job : Job) (word : ℕ) {stage : Stage} → asked_stage job ≡ ToMatch → stage ≡ matched word job.etags.items → IsUntaken job stage
 matched_untaken job word first is = subst (IsUntaken job) (sym is)
     (match_untaken job (is_match word job.etags.items) word (asks_first job.ask job.etags.items first))
@@ -444,7 +450,8 @@ arrives worker_view number job stage content before now e w = record {
   counted = w.counted;
 }
 
--- the words that were read, and one more.
+-- if words were read from slot n on, and then the next slot's word, all of them were read from slot
+-- n on.
 pub more_seen : (Logged : LoggedCall → TrackedLog → TrackedLog → Type 0) (n word : ℕ) (words : List ℕ) (before now after : TrackedLog) → AreSeen Logged n words before now
     → Logged (LooksAt (n + length words) word) now after → AreSeen Logged n (words ++ word ∷ []) before after
 more_seen Logged n word [] before now after seen looks =
@@ -456,7 +463,8 @@ more_seen Logged n word (w ∷ ws) before now after seen looks = (
 )
 
 module _ {T : Type 0} (worker_view : WorkerView T) (number : ℕ) (job : Job) where
-  -- the reads of all head words that are left.
+  -- if the remaining head words are read, the job's calls lead it to the answer that lists all of
+  -- them.
   walks_list : (seen : ArrayVec ℕ) (more : List ℕ) (log : TrackedLog) {stage : Stage} {before now : Share T} → stage ≡ ToList seen
       → AreSeen worker_view.logged (length seen.items) more now.log log → 0 < length more → length (seen.items ++ more) ≡ 64 → Walked worker_view number job stage before now
       → Walked worker_view number job (ToAnswer (Listed (seen.items ++ more))) before (record now { log = log })

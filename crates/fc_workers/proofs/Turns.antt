@@ -18,7 +18,7 @@ more_turns : {T : Type 0} (worker_view : WorkerView T) (ns : List Numbered) (n :
 unfolding AreTurns
 more_turns worker_view ns n before now after turns turn = (now, (turns, turn))
 
--- a worker that hasn't begun.
+-- with unchanged statistics, a worker has received and ended no further job.
 pub sets_out : {T : Type 0} (worker_view : WorkerView T) (s : Share T) → HasEnded worker_view s s
 sets_out worker_view s = record {
   jobs = [];
@@ -27,7 +27,8 @@ sets_out worker_view s = record {
   count = omega arith;
 }
 
--- one more job.
+-- if a worker received and ended further jobs, and then ran one more, it received and ended all of
+-- these.
 pub turns_on : {T : Type 0} (worker_view : WorkerView T) (n : Numbered) (before now after : Share T) → HasEnded worker_view before now → IsTurn worker_view n now after
     → after.got ≡ with_got now.got n.number n.job → HasEnded worker_view before after
 turns_on worker_view n before now after h turn got = record {

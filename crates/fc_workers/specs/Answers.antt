@@ -1,5 +1,6 @@
--- The results of calls at some slot, and their counts. The definitions don't state which slot a
--- call meets: other jobs change the slots between two calls of a job.
+-- Possible results of calls, and counts of the results. A definition states that some front, shard
+-- or slot gives the result. It doesn't state which one, since other jobs change the server between
+-- two calls of a job.
 use Rattle.std.specs.Prelude.{◌≡◌, ℕ, ◌+◌, ◌%◌, ◌<◌, ◌==◌, if◌then◌else◌, Bool, List, Option, max, min}
 use Rattle.coap_msg.specs.declared.types.Emission.{Emission}
 use Rattle.coap_msg.specs.declared.types.Endpoint.{Endpoint}
@@ -39,28 +40,28 @@ pub record IsSomeDelivery (now : ℕ) (to : Endpoint) (bytes : List ℕ) (brings
   pub front : FrontState
   pub is : brings ≡ delivered (advanced front now) to bytes
 
--- some front draws this message ID at this time, or none is available.
+-- some front draws this message ID at this time, or has no message ID available.
 pub record IsSomeDraw (now : ℕ) (id : Option ℕ) : Type 0 where
   pub front : FrontState
   pub is : id ≡ free_id (advanced front now).ids (advanced front now).now
 
--- some front that answers a job at this time sends this, or nothing.
+-- some front that answers the job with this content at this time sends this emission, or nothing.
 pub record IsSomeAnswer (now : ℕ) (job : Job) (content : Content) (sent : Option Emission) : Type 0 where
   pub front : FrontState
   pub answered : Answered
   pub answers : AnswersIn (advanced front now) job content answered
   pub sent_is : sent ≡ emission_of answered
 
--- the result of a snapshot for the job with these readings, at some slot, with some observers, at
--- some time.
+-- the result of a snapshot that is taken for the job, with these readings, of some slot with some
+-- observers, at some time.
 pub record IsSomeSnapshot (job : Job) (readings : List ℕ) (taken : Taken) : Type 0 where
   pub slot : Slot
   pub now : ℕ
   pub watch : ObserverList
   pub snapshot : IsSnapshot job readings slot now watch taken
 
--- the backend returned readings, and the next call took a snapshot with them for the job, with this
--- result.
+-- the backend returned readings, and the next call in the log took a snapshot for the job with
+-- these readings. The snapshot has this result.
 pub record IsSnapshotWith (Logged : LoggedCall → TrackedLog → TrackedLog → Type 0) (job : Job) (taken : Taken) (before after : TrackedLog) : Type 0 where
   pub readings : List ℕ
   pub log : TrackedLog
@@ -68,13 +69,13 @@ pub record IsSnapshotWith (Logged : LoggedCall → TrackedLog → TrackedLog →
   pub takes : Logged (TakesForJob job readings taken) log after
   pub is : IsSomeSnapshot job readings taken
 
--- some shard grants this lease at this time, or none.
+-- some shard grants this lease at this time, or grants none.
 pub record IsSomeTurn (now : ℕ) (job : Option Job) : Type 0 where
   pub shard : Shard
   pub job_is : job ≡ due_job (due_place (at_time shard now)) (at_time shard now)
 
--- the result of a tick of some shard at this time: it retransmits this, or removes an observer, or
--- does nothing.
+-- the result of a tick of some shard at this time: the shard retransmits a notification, removes an
+-- observer, or does nothing.
 pub record IsSomeTick (now : ℕ) (ticked : Ticked) : Type 0 where
   pub shard : Shard
   pub ticked_is : ticked ≡ ticked_in (overdue_place (at_time shard now)) (at_time shard now)
@@ -84,15 +85,16 @@ pub record IsSomeIdle (now : ℕ) (idle : Bool) : Type 0 where
   pub shard : Shard
   pub idle_is : idle ≡ is_idle (at_time shard now)
 
--- the result of a notification for a lease with this message ID, at some serial of its slot, to
--- some observers. The notification is at this time, or at a later one that was passed to its shard.
+-- the result of a notification for this lease with this message ID, at some serial of the lease's
+-- slot and with some observers. The time of the notification is this time, or a later one that was
+-- passed to the lease's shard before.
 pub record IsSomeNote (now : ℕ) (told : Notification) (turn : Turn) (id : ℕ) (noted : Noted) : Type 0 where
   pub before : ℕ
   pub serial : ℕ
   pub watch : ObserverList
   pub note : IsNoted told turn id (max before now) serial watch noted
 
--- the result of a commit of a run by this ticket, at some slot with some observers.
+-- the result of a commit of this run with this ticket, at some slot with some observers.
 pub record IsSomeCommit (ran : Ran) (t : Ticket) (committed : Committed) : Type 0 where
   pub slot : Slot
   pub watch : ObserverList
@@ -129,15 +131,15 @@ snapshot_refusals other = 0
 abbrev pub AreTallied : (ℕ → ℕ) → (ℕ → ℕ) → ℕ → ℕ → Type 0
 AreTallied before after n changes = (shard : ℕ) → shard < 8 → after shard ≡ before shard + (if shard == n % 8 then changes else 0)
 
--- a count in 64 bits, which stops at its maximum.
+-- a count in 64 bits, which stops at 2^64 - 1.
 abbrev pub saturated : ℕ → ℕ
 saturated count = min count 18446744073709551615
 
--- a stale snapshot ends its job.
+-- the number of ended jobs after a snapshot with this result: a stale snapshot ends one more job.
 abbrev pub ended_by : Taken → ℕ → ℕ
 ended_by Stale ended = saturated (ended + 1)
 ended_by other ended = ended
 
--- a count in 64 bits has risen by n.
+-- a count in 64 bits has risen by n, or has stopped at 2^64 - 1.
 abbrev pub HasRisen : ℕ → ℕ → ℕ → Type 0
 HasRisen before n after = saturated after ≡ saturated (before + n)

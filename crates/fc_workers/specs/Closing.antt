@@ -5,8 +5,8 @@ use Rattle.fc_workers.specs.Answers.{saturated}
 use Rattle.fc_workers.specs.Counts.{sums}
 use Rattle.fc_calls.specs.Kept.{serials}
 
--- the serials of each shard have risen by exactly its counted changes, and the result has these
--- counts.
+-- the sum of each shard's serials has risen by exactly the shard's counted changes. The closed
+-- server has these counts, each up to 2^64 - 1.
 pub record HasCountedAll (closed : ClosedServer) : Type 0 where
   pub changes : List ℕ
   pub risen : map serials closed.shards ≡ sums (map (λ n. 8 * n) closed.first_serials) changes

@@ -1,14 +1,14 @@
--- Shards whose changes are counted, and tallies, as a clause sees them.
+-- Shards whose changes are counted, and tallies, as contracts see them.
 use Rattle.std.specs.Prelude.{ℕ, ◌+◌, List, [], ◌∷◌, replicate}
 use Rattle.fc_registry.specs.Slots.{Shard}
 
--- a shard with its book, and the sum of its serials when the book was opened.
+-- a shard whose book is open, and the sum of the shard's serials when the book was opened.
 pub record Counted : Type 0 where
   pub shard : Shard
   pub opened : ℕ
 
--- parts of a shard's book, and the changes that were counted on them. The tallies of all workers
--- have all parts.
+-- a number of parts of a shard's book, and the number of changes that were counted on these parts.
+-- The tallies of a shard together have all parts of its book.
 pub record Tally : Type 0 where
   pub parts : ℕ
   pub changes : ℕ
@@ -16,7 +16,8 @@ pub record Tally : Type 0 where
 abbrev pub counts : Tally → ℕ → Tally
 counts tally changes = record tally { changes = tally.changes + changes }
 
--- a worker's tallies: the changes of shards 0 to 7, and the number of jobs that the worker ended.
+-- a worker's tallies: the numbers of changes to shards 0 to 7, and the number of jobs that the
+-- worker ended.
 pub record Tallies : Type 0 where
   pub changes : List ℕ
   pub ended : ℕ
@@ -27,8 +28,8 @@ no_changes = replicate 8 0
 abbrev pub no_tallies : Tallies
 no_tallies = record { changes = no_changes; ended = 0 }
 
--- equally many parts of each book, the changes of shards 0 to 7 that were counted on them, and a
--- number of ended jobs.
+-- a number of parts, the same for each book, and a number of ended jobs. The changes to shards 0 to
+-- 7 are those that were counted on these parts.
 pub record Unassigned : Type 0 where
   pub parts : ℕ
   pub changes : List ℕ

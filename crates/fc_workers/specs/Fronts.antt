@@ -19,8 +19,8 @@ pub record Beginning : Type 0 where
 abbrev pub beginning : Policy → ℕ → Beginning
 beginning policy id = record { front = first_front policy id; confirm_after = policy.confirm_after }
 
--- a call of a front: a datagram is handled, the clock advances, the timer of a slot fires, a message
--- ID is drawn, or a job is answered.
+-- a call of a front. A datagram is handled, the clock advances, the timer of a slot fires, a
+-- message ID is drawn, or a job is answered.
 pub data FrontCall (before after : FrontState) : Type 0 where
   Handles : (now : ℕ) (from : Endpoint) (bytes : List ℕ) (brings : Delivered) → HandlesAt now from bytes brings before after → FrontCall before after
   Passes : (now : ℕ) → AdvancesTo now before after → FrontCall before after
@@ -28,13 +28,13 @@ pub data FrontCall (before after : FrontState) : Type 0 where
   Draws : (now : ℕ) (id : Option ℕ) → DrawsAt now id before after → FrontCall before after
   Answers : (now : ℕ) (job : Job) (content : Content) (sent : Option Emission) → AnswersAt now job content sent before after → FrontCall before after
 
--- each front in the list except the first results from a call of the front before it, and so does
--- the last front. The first is the given one. The newest is the head of the list.
+-- calls lead from the first front to the last one. The list has the front before each call, the
+-- newest first.
 abbrev pub AreFrontsFrom : FrontState → List FrontState → FrontState → Type 0
 AreFrontsFrom first [] front = front ≡ first
 AreFrontsFrom first (before ∷ earlier) front = AreFrontsFrom first earlier before × FrontCall before front
 
--- a front that began as the given one, and has been changed only by calls since.
+-- a front that only calls have changed since it was `first`.
 pub record BeganAt (first front : FrontState) : Type 0 where
   pub earlier : List FrontState
   pub calls : AreFrontsFrom first earlier front

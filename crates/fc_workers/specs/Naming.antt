@@ -2,7 +2,7 @@
 use Rattle.std.specs.Prelude.{◌≡◌, ℕ, [], ◌∷◌, slice_index}
 use Rattle.fc_workers.specs.declared.blanks.Blanks.{Blanks}
 
--- the name of the book of each shard, by its index.
+-- the name of each shard's book, by the shard's index.
 abbrev pub names_of : Blanks → ℕ → ℕ
 names_of b = slice_index (b.blank0.name ∷ b.blank1.name ∷ b.blank2.name ∷ b.blank3.name ∷ b.blank4.name ∷ b.blank5.name ∷ b.blank6.name ∷ b.blank7.name ∷ [])
 

@@ -18,7 +18,7 @@ use Rattle.fc_workers.specs.Logs.{TrackedLog}
 use Rattle.fc_calls.specs.Logged.{AnswersRequest, DrawsId, GivesUpTurn, NotesTurn}
 use Rattle.fc_workers.specs.Called.{SendsReply, WorkerView}
 
--- statistics that count one more reply, by whether it went out.
+-- statistics that count one more reply: as sent if it went out, otherwise as failed.
 abbrev pub with_reply : {T : Type 0} → Bool → Share T → Share T
 with_reply out share = if out then record share { sent = saturated (share.sent + 1) } else record share { failed = saturated (share.failed + 1) }
 
@@ -49,8 +49,8 @@ module _ {T : Type 0} (s : WorkerView T) where
     pub note : IsSomeNote now told turn id noted
     pub reply_is : reply ≡ sent_of noted
 
-  -- the time was requested, a message ID was drawn at that time, and the observer was notified of
-  -- the snapshot with this message ID.
+  -- the time was requested, and a message ID was drawn at that time. Then the lease's observer was
+  -- notified of the snapshot, with this message ID.
   pub record IsNotification (turn : Turn) (found : Option Ticket) (reply : Option Emission) (before after : TrackedLog) : Type 0 where
     pub drawn : ℕ
     pub asked : TrackedLog
@@ -81,11 +81,14 @@ module _ {T : Type 0} (s : WorkerView T) where
     pub draw : IsSomeDraw now None
     pub given_up : IsGivenUp turn reply log after
 
+  -- the lease's observer was notified of the snapshot; or no message ID was available, and the
+  -- lease was released.
   abbrev pub IsFoundTold : Turn → Option Ticket → Option Emission → TrackedLog → TrackedLog → Type 0
   IsFoundTold turn found reply before after = IsNotification turn found reply before after ⊎ IsStarved turn reply before after
 
-  -- the effect by the result of the lease's snapshot. If memory was refused, the lease is released.
-  -- If the snapshot is stale, nothing is left to do.
+  -- the calls that follow the snapshot of a lease's job, by the snapshot's result. The observer is
+  -- notified of a snapshot or of an empty slot. If memory was refused, the lease is released. If
+  -- the snapshot is stale, no call follows.
   abbrev pub IsTurnReply : Turn → Taken → Option Emission → TrackedLog → TrackedLog → Type 0
   IsTurnReply turn (Given t) reply before after = IsFoundTold turn (Some t) reply before after
   IsTurnReply turn Missing reply before after = IsFoundTold turn None reply before after
@@ -94,8 +97,8 @@ module _ {T : Type 0} (s : WorkerView T) where
 
   -- ---- sending
 
-  -- a reply was sent once, under its job's number, and is counted by whether it went out. If there
-  -- is no reply, nothing was called and nothing is counted.
+  -- the reply was sent once, under its job's number, and counted as sent or as failed. If there is
+  -- no reply, no call was made, and nothing is counted.
   abbrev pub IsSent : ℕ → Option Emission → Share T → Share T → Type 0
   IsSent number None before after = after ≡ before
   IsSent number (Some reply) before after =

@@ -13,34 +13,34 @@ use Rattle.fc_workers.specs.Work.{IsReplied}
 abbrev pub new_share : {T : Type 0} → Got → T → TrackedLog → Share T
 new_share got tallies log = record { tallies = tallies; log = log; got = got; sent = 0; failed = 0; refusals = 0; overtakings = 0 }
 
--- a worker seed for each of these tallies; its worker has received nothing yet. The worker seeds have
--- these logs, the first one the last log.
+-- there is a worker seed for each of these tallies, and its worker has received no job yet. The
+-- first worker seed has the last of these logs, and so on.
 pub record AreNewSeats {T : Type 0} (channel : Channel) (tallies : List T) (logs : List TrackedLog) (seats : List (WorkerSeed T)) : Type 0 where
   pub got : All (λ (s : WorkerSeed T). s.got ≡ nothing_got channel) seats
   pub tallies_are : map (λ (s : WorkerSeed T). s.tallies) seats ≡ tallies
   pub logs_are : map (λ (s : WorkerSeed T). s.log) seats ≡ reverse logs
 
 module _ {T : Type 0} (s : WorkerView T) where
-  -- the worker received a job, ran it under its number, and ended it. Its reply is sent and
-  -- counted.
+  -- the worker received a job, ran it under its number, and ended it. The job's reply, if there is
+  -- one, is sent and counted.
   pub record IsTurn (n : Numbered) (before after : Share T) : Type 0 where
     pub worked : IsReplied s n.number n.job (record before { got = with_got before.got n.number n.job }) after
     pub ends : s.ended after.tallies ≡ saturated (s.ended before.tallies + 1)
 
-  -- one job after the other, the newest first.
+  -- the worker ran these jobs one after the other. The list has the newest job first.
   unfoldable pub AreTurns : List Numbered → Share T → Share T → Type 0
   AreTurns [] before after = after ≡ before
   AreTurns (n ∷ ns) before after = (now : Share T) × (AreTurns ns before now × IsTurn n now after)
 
-  -- the worker received these further jobs, ran each, and has ended as many.
+  -- the worker received further jobs, ran each of them, and counted as many ended jobs.
   pub record HasEnded (before after : Share T) : Type 0 where
     pub jobs : List Numbered
     pub turns : AreTurns jobs before after
     pub got : after.got ≡ record before.got { got = before.got.got ++ reverse jobs }
     pub count : HasRisen (s.ended before.tallies) (length jobs) (s.ended after.tallies)
 
-  -- the statistics of the worker with this initial state; the worker's log goes on from that
-  -- state's.
+  -- the statistics of the worker that began with this worker seed. The worker's log continues the
+  -- worker seed's log.
   pub record IsShareOf (seat : WorkerSeed T) (share : Share T) : Type 0 where
     pub ended : HasEnded (new_share seat.got seat.tallies seat.log) share
 

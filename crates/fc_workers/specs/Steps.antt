@@ -19,8 +19,9 @@ abbrev pub AsksRun : Ask → Type 0
 AsksRun (Run request) = Unit {0}
 AsksRun other = ⊥
 
--- a job whose next step is a snapshot may take one more. A ticket belongs to its job, and so does
--- an answer. A job that lists head words has at least one left to read.
+-- the stage of a request's job that hasn't ended. A job whose next step is a snapshot may take one
+-- more. A ticket or an answer belongs to the job. A job that lists head words has at least one left
+-- to read.
 abbrev pub IsReady : Job → Stage → Type 0
 IsReady job (ToTake n) = n < snapshots
 IsReady job (ToCommit n t) = (n ≤ snapshots) × (t.origin ≡ job.origin)
@@ -34,7 +35,7 @@ IsReady job (ToAnswer content) = IsOf job content
 IsReady job (ToTell turn needs) = ⊥
 IsReady job Gone = ⊥
 
--- an upper bound on the number of calls that are left.
+-- an upper bound on the number of calls that a job at this stage still makes.
 abbrev pub calls_left : Stage → ℕ
 calls_left (ToTake n) = 2 * (snapshots - n) + 2
 calls_left (ToCommit n t) = 2 * (snapshots - n) + 3
@@ -46,21 +47,21 @@ calls_left (ToList seen) = 64 - length seen.items
 calls_left (ToRaise word content) = 1
 calls_left other = 0
 
--- an upper bound on the number of snapshots so far.
+-- an upper bound on the number of snapshots that led to this stage.
 abbrev pub taken_at : Stage → ℕ
 taken_at ToMatch = 0
 taken_at (ToTake n) = n
 taken_at (ToCommit n t) = n
 taken_at other = snapshots
 
--- a stage that can follow a call with this number of snapshots: the job is ready for it, and it is
--- nearer to the end.
+-- the new stage can follow a call that takes this number of snapshots at the old stage. The job is
+-- ready for the new stage, and has fewer calls left.
 pub record Follows (job : Job) (old : Stage) (takes : ℕ) (new : Stage) : Type 0 where
   pub ready : IsReady job new
   pub fewer : calls_left new < calls_left old
   pub few : taken_at old + takes ≤ taken_at new
 
--- a call for the job with this number, and the stage and statistics after it.
+-- one call for the job with this number leads from the old stage and statistics to the new ones.
 pub record IsStep {T : Type 0} (s : WorkerView T) (number : ℕ) (job : Job) (old new : Stage) (before after : Share T) : Type 0 where
   pub call : Call
   pub is : IsCallAt s number job old call before.log after.log
@@ -68,7 +69,8 @@ pub record IsStep {T : Type 0} (s : WorkerView T) (number : ℕ) (job : Job) (ol
   pub follows : Follows job old (snapshots_made call) new
   pub counted : HasCounted s job.origin.slot (call ∷ []) before after
 
--- the calls so far, and the stage that they led the job to.
+-- calls for the job with this number led it from its first stage to this stage, and the worker from
+-- the statistics `before` to `now`.
 pub record Walked {T : Type 0} (s : WorkerView T) (number : ℕ) (job : Job) (stage : Stage) (before now : Share T) : Type 0 where
   pub calls : List Call
   pub are : AreCalls s number job calls before.log now.log
@@ -92,20 +94,21 @@ abbrev pub IsToAnswer : Job → Stage → Type 0
 IsToAnswer job (ToAnswer content) = IsOf job content
 IsToAnswer job other = ⊥
 
--- the stage of a job that has taken no snapshot yet. If a snapshot is next, it is the first one and
--- the job requests a run. A commit isn't next.
+-- the job has taken no snapshot yet at this stage. If its next step is a snapshot, it is the job's
+-- first, and the job requests a run. The next step isn't a commit.
 abbrev pub IsUntaken : Job → Stage → Type 0
 IsUntaken job (ToTake n) = (n ≡ 0) × AsksRun job.ask
 IsUntaken job (ToCommit n t) = ⊥
 IsUntaken job other = Unit {0}
 
--- each of these words was read from the head word of its slot, from slot n on, one after the other.
--- The log has no other call.
+-- these words were read in order: those of slot n and of the slots after it. The log has no other
+-- call.
 abbrev pub AreSeen : (LoggedCall → TrackedLog → TrackedLog → Type 0) → ℕ → List ℕ → TrackedLog → TrackedLog → Type 0
 AreSeen Logged n [] before after = after ≡ before
 AreSeen Logged n (word ∷ words) before after = (next : TrackedLog) × Logged (LooksAt n word) before next × AreSeen Logged (n + 1) words next after
 
--- the head words of all slots: these were read before, and at least one was not.
+-- `words` has the head words of all slots. Those in `seen` were read before, and the others, at
+-- least one, are read now.
 pub record ListsOn (Logged : LoggedCall → TrackedLog → TrackedLog → Type 0) (seen words : List ℕ) (before after : TrackedLog) : Type 0 where
   pub more : List ℕ
   pub looks : AreSeen Logged (length seen) more before after
@@ -113,11 +116,12 @@ pub record ListsOn (Logged : LoggedCall → TrackedLog → TrackedLog → Type 0
   pub are : words ≡ seen ++ more
   pub all : length words ≡ 64
 
--- the head word of the job's slot was read once, or it wasn't. The log has no other call.
+-- the head word of the job's slot was read once, or not at all. The log has no other call.
 abbrev pub IsLookedUp : (LoggedCall → TrackedLog → TrackedLog → Type 0) → Job → TrackedLog → TrackedLog → Type 0
 IsLookedUp Logged job before after = (after ≡ before) ⊎ ((word : ℕ) × Logged (LooksAt job.origin.slot word) before after)
 
--- the job was looked up, or it wasn't, and then took one snapshot, which led to this stage.
+-- the head word of the job's slot was read once, or not at all. Then the job took one snapshot,
+-- which led to this stage.
 pub record HasTaken {T : Type 0} (s : WorkerView T) (number : ℕ) (job : Job) (stage : Stage) (before after : Share T) : Type 0 where
   pub log : TrackedLog
   pub looks : IsLookedUp s.logged job before.log log

@@ -1,7 +1,6 @@
--- The effect of a job on a server that other jobs change too. It is a list of calls, the newest
--- first. Each is made at the stage that needs it, with the result of its shard at some slot. Each
--- leads the worker's log on from the log's state after the call before it, so the log has no other
--- calls.
+-- The effect of a job on a server that other jobs change too: a list of calls, the newest first.
+-- Each call is the one that the job's stage needs, with a result that some slot gives. Each call
+-- continues the worker's log from its state after the call before. So the log has no other calls.
 use Rattle.std.specs.Prelude.{◌≡◌, ℕ, ◌+◌, ◌<◌, ◌≤◌, List, [], ◌∷◌, length, Option, Some, None}
 use Rattle.coap_msg.specs.declared.types.Emission.{Emission}
 use Rattle.fc_isa.specs.declared.rule.Fault.{Fault}
@@ -35,14 +34,14 @@ abbrev pub snapshots_made : Call → ℕ
 snapshots_made (Takes count taken) = 1
 snapshots_made other = 0
 
--- the changes of the job's slot by a call.
+-- the number of changes that a call makes to the job's slot.
 abbrev pub change_by : Call → ℕ
 change_by (Commits count t committed) = commit_changes committed
 change_by (Installs p initial answer) = install_changes answer
 change_by (Removes removal) = removal_changes removal
 change_by other = 0
 
--- the refused allocations of a call.
+-- the number of allocations that are refused to a call.
 abbrev pub refusal_by : Call → ℕ
 refusal_by (Takes count taken) = snapshot_refusals taken
 refusal_by Refuses = 1
@@ -76,11 +75,11 @@ module _ {T : Type 0} (s : WorkerView T) where
     pub commits : s.logged (CommitsRun now (run_of t) t committed) asked after
     pub commit : IsSomeCommit (run_of t) t committed
 
-  -- a call for the job with this number, by the logs before and after it. A match reads the head
-  -- word of the job's slot, and the job's client has the responses of the job's serials. A list
-  -- reads the head word of the next slot. A raise has the word of the job's stage. A rejection and
-  -- a refused allocation are those of the job's image. The result of any other call is that of some
-  -- slot. An answer, a loss and the calls of a lease are in no request's list.
+  -- a call for the job with this number leads from the log `before` to the log `after`. A match
+  -- reads the head word of the job's slot, for the request's ETags. A list reads the head word of
+  -- the next slot. A raise publishes the head word of the job's slot. A rejection and a refused
+  -- allocation are those of the job's image. The result of any other call is that of some slot.
+  -- Answers, losses and the calls of a lease are no such calls.
   abbrev pub IsCallOf : ℕ → Job → Call → TrackedLog → TrackedLog → Type 0
   IsCallOf number job (Matches serials word) before after = (serials ≡ job.etags.items) × s.logged (LooksAt job.origin.slot word) before after
   IsCallOf number job (Lists seen word) before after = s.logged (LooksAt (length seen.items) word) before after
@@ -100,14 +99,14 @@ module _ {T : Type 0} (s : WorkerView T) where
   abbrev pub IsCallAt : ℕ → Job → Stage → Call → TrackedLog → TrackedLog → Type 0
   IsCallAt number job stage call before after = (stage ≡ called_at call) × IsCallOf number job call before after
 
-  -- each call is the one that is needed at the stage after the calls before it. From one state to
-  -- the other, the log has only these calls.
+  -- each call is the one that the stage after the earlier calls needs. From `before` to `after`,
+  -- the log has only these calls.
   unfoldable pub AreCalls : ℕ → Job → List Call → TrackedLog → TrackedLog → Type 0
   AreCalls number job [] before after = after ≡ before
   AreCalls number job (call ∷ calls) before after =
       (now : TrackedLog) × AreCalls number job calls before now × IsCallAt number job (stage_after job calls) call now after
 
-  -- a worker's statistics before and after these calls, for a job of slot n.
+  -- the worker's statistics have risen by the counts of these calls, for a job of slot n.
   pub record HasCounted (n : ℕ) (calls : List Call) (before after : Share T) : Type 0 where
     pub tallies : AreTallied (s.changes before.tallies) (s.changes after.tallies) n (total change_by calls)
     pub refusals : HasRisen before.refusals (total refusal_by calls) after.refusals
@@ -118,7 +117,8 @@ module _ {T : Type 0} (s : WorkerView T) where
 
   -- ---- jobs
 
-  -- a job's calls, from its first stage to this answer.
+  -- calls led the job from its first stage to this answer, which belongs to the job. At most eight
+  -- of them took a snapshot, and the statistics count them all.
   pub record IsWorkedOff (number : ℕ) (job : Job) (content : Content) (before after : Share T) : Type 0 where
     pub calls : List Call
     pub are : AreCalls number job calls before.log after.log
@@ -131,8 +131,8 @@ module _ {T : Type 0} (s : WorkerView T) where
   abbrev pub IsWorkedTo : ℕ → Job → Stage → Share T → Share T → Type 0
   IsWorkedTo number job stage before after = (content : Content) × (stage ≡ ToAnswer content) × IsWorkedOff number job content before after
 
-  -- a worker's statistics with unchanged counts of changes and replies, and no further job
-  -- received.
+  -- the worker's counts of changes and replies are unchanged, and the worker received no further
+  -- job.
   pub record HasSameTallies (before after : Share T) : Type 0 where
     pub tallies : (shard : ℕ) → shard < 8 → s.changes after.tallies shard ≡ s.changes before.tallies shard
     pub got : after.got ≡ before.got
@@ -160,7 +160,8 @@ module _ {T : Type 0} (s : WorkerView T) where
   IsWorkedAs None number job before after reply = IsRequestWorked number job before after reply
   IsWorkedAs (Some turn) number job before after reply = IsTurnWorked job (turn_of job turn) before after reply
 
-  -- the job with this number was run, a request's or a lease's.
+  -- the job with this number, a request's or a lease's, was run. This reply, or nothing, is to be
+  -- sent for it.
   abbrev pub IsWorked : ℕ → Job → Share T → Share T → Option Emission → Type 0
   IsWorked number job before after reply = IsWorkedAs job.turn number job before after reply
 

@@ -1,12 +1,12 @@
-//! Books of changes that aren't opened yet, for a new server.
+//! Unopened books of changes, for a new server.
 ghost use Rattle.std.specs.Prelude.{◌≡◌, ◌<◌};
 
 use std::sync::ledger::Blank;
 
-/// Eight books that aren't opened yet, with the same number of parts each.
+/// Eight unopened books of changes, each with the same number of parts.
 ///
-/// [`Locked::new`](crate::server::Locked::new) opens them, one for each shard, as ledgers that are
-/// named after them.
+/// [`Locked::new`](crate::server::Locked::new) opens one book for each shard. The shard's ledger
+/// has the name of that book.
 #[derive(Drop)]
 pub struct Blanks {
     pub parts: u64,

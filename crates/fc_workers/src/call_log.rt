@@ -2,10 +2,11 @@
 
 /// A worker's log of calls.
 ///
-/// It has the calls of the worker's gate and transmitter, and the backend calls that may change
-/// something or are soon out of date (`LoggedCall`). Each of these calls gets the log, and its
-/// contract names the states before and after. So a clause can state which calls were made with
-/// this log, and in which order, and that there were no others. At run time the log stores nothing.
+/// The log has the calls to the worker's gate and transmitter, and those that return a time. It
+/// also has each backend call that may change something, or whose result is soon out of date
+/// (`LoggedCall`). Each of these calls gets the log, and the call's contract names the log's states
+/// before and after. So a contract can state which calls were made with this log, in which order,
+/// and that there were no others. At run time the log stores nothing.
 #[derive(Drop)]
 pub struct CallLog {
     state: u8,

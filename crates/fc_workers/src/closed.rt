@@ -4,8 +4,8 @@ use fc_registry::Shard;
 
 /// The front and the shards of a closed server.
 ///
-/// For each shard it has the serial that its slots began with, and the counted changes of its
-/// slots, up to 2^64 - 1.
+/// `first_serials` has, for each shard, the serial that the shard's slots began with. `changes` has
+/// the number of counted changes of each shard's slots, up to 2^64 - 1.
 #[derive(Drop)]
 pub struct ClosedServer {
     pub front: Front,

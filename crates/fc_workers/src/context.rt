@@ -1,6 +1,6 @@
-//! The context shared by all workers, and the parts that their caller supplies.
+//! The context shared by all workers, with the parts that a caller supplies.
 //!
-//! These are a test hook, a transmitter, and a source of times.
+//! A caller supplies a test hook, a transmitter, and a source of times.
 ghost use Rattle.std.specs.Prelude.{⊤, ℕ};
 ghost use Rattle.fc_workers.specs.Called.{EndsJob, SendsReply, WireCall};
 ghost use Rattle.fc_workers.specs.declared.call_log.CallLog.{CallLog as Log};
@@ -16,29 +16,30 @@ use std::sync::Wait;
 
 /// A test hook between snapshot and commit.
 ///
-/// A test can delay a job there, to let another job cause a conflict.
+/// A test can delay a job in the hook, so that another job causes a conflict.
 pub trait Gate {
-    // The jobs that were let through, by their numbers. It says that a call with this number
-    // returned, and between which states of the caller's log.
+    // The hook let the job with this number through, and the caller's log went from `before` to
+    // `after`.
     ghost passed: { ℕ → Log → Log → Type 0 } = { λ number before after. ⊤ };
 
-    /// Is called with a job's number before each run of the job.
+    /// Is called with the number of a request's job before each run of the job.
     ///
-    /// The call is after the snapshot, and before the commit.
+    /// The call is after the run's snapshot, and before the run's commit. A lease's job, which
+    /// commits nothing, makes no such call.
     fn between<R: Wait>(&self, rt: &R, number: u64, log: &mut CallLog)
         ensures { passed number log.old log.new };
 }
 
 /// The transmitter of the jobs' replies.
 pub trait Wire {
-    // The calls that were made, each with its arguments, its result, and the log's states before
-    // and after.
+    // A call with these arguments and this result was made, and led the caller's log from `before`
+    // to `after`.
     ghost called: { WireCall → Log → Log → Type 0 } = { λ call before after. ⊤ };
 
     /// Sends `emission`, the reply of the job with this number.
     ///
-    /// Returns whether it went out. The reply is the answer of some front to some job, or the
-    /// notification of some shard.
+    /// Returns whether the emission went out. The emission is the answer of some front to some job,
+    /// or the notification of some shard.
     fn send<R: Wait>(&self, rt: &R, number: u64, emission: &Emission, log: &mut CallLog) -> bool
         requires { GoesOut emission.now }
         ensures { called (SendsReply number emission.now result) log.old log.new };
@@ -52,14 +53,13 @@ pub trait Wire {
 
 /// A source of times and random words.
 ///
-/// A time is in milliseconds since a start of its own. It may run backwards: the receiver of a time
-/// keeps the latest.
+/// A time is in milliseconds since a start that the source chooses. A later call may return an
+/// earlier time: the receiver of the times keeps the latest one.
 pub trait TimeSource {
-    // The times that it returns. It says that a call returned this time, and between which states
-    // of the caller's log.
+    // A call returned the time `now`, and led the caller's log from `before` to `after`.
     ghost is_time: { ℕ → Log → Log → Type 0 } = { λ now before after. ⊤ };
 
-    // The random words that it returns. It says that a call returned this word.
+    // A call returned this random word.
     ghost is_random: { ℕ → Type 0 } = { λ _. ⊤ };
 
     /// Returns the time of the call, in milliseconds.
@@ -81,7 +81,7 @@ pub struct Context<'a, B: Bench, G: Gate, W: Wire, M: TimeSource> {
     pub times: &'a M,
 }
 
-// The calls that aren't filed.
+// Calls to the gate, the source of times and the transmitter. No track has an entry of such a call.
 impl<'a, B: Bench, G: Gate, W: Wire, M: TimeSource> Context<'a, B, G, W, M> {
     // Calls the gate before a run of the job with this number. See [`Gate::between`].
     pub(crate) fn between<R: Wait>(&self, rt: &R, number: u64, log: &mut TrackLog<B::Book>)

@@ -8,10 +8,10 @@ use std::sync::Wait;
 
 /// The source of a server's readings.
 ///
-/// It is the sensors and clock of the server's device, or values that a driver keeps for it.
+/// The readings come from the sensors and the clock of the server's host, or a driver stores them
+/// for the server.
 pub trait Device {
-    // The readings that it returns. It says that a call returned these readings, and between which
-    // states of the caller's log.
+    // A call returned these readings, and led the caller's log from `before` to `after`.
     ghost are_readings: { List ℕ → Log → Log → Type 0 } = { λ readings before after. ⊤ };
 
     /// Returns the readings at the time of the call, for one snapshot.

@@ -1,6 +1,6 @@
 //! Jobs of notification leases, run with the calls of a backend.
 //!
-//! A worker runs them, or the dispatcher.
+//! A worker or the dispatcher runs such a job.
 ghost use Rattle.std.specs.Prelude.{◌≡◌, ◌+◌, ◌<◌, None};
 ghost use Rattle.coap_msg.specs.declared.types.Emission.{Emission as Emitted};
 ghost use Rattle.fc_core.specs.Receiving.{emission_if};
@@ -26,9 +26,10 @@ impl<'a, B: Bench, G: Gate, W: Wire, M: TimeSource> Context<'a, B, G, W, M> {
     /// Runs the job of a lease, and returns whether a message is to be sent.
     ///
     /// It takes a snapshot of the lease's slot, draws a message ID, runs the program and notifies
-    /// the observer. The message is written over `scratch.reply`. If memory is refused, or no
-    /// message ID is available, the lease is released. If the lease isn't active any more, nothing
-    /// else is done. No slot changes, and one job is ended.
+    /// the observer. If the slot is empty, nothing is run. The message is written over
+    /// `scratch.reply`. If memory for the snapshot is refused, or no message ID is available, the
+    /// lease is released, and nothing is to be sent. If the lease isn't active any more, nothing
+    /// else is done. No slot changes, and one more ended job is counted.
     #[inline(never)]
     pub fn notify<R: Wait>(
         &self,
@@ -71,9 +72,9 @@ impl<'a, B: Bench, G: Gate, W: Wire, M: TimeSource> Context<'a, B, G, W, M> {
         }
     }
 
-    // Notifies the lease's observer of a run of the ticket's program, or, if `found` is `None`, of
-    // an empty slot. Returns whether a message, in `reply`, is to be sent. If no message ID is
-    // available, releases the lease instead.
+    // Runs the ticket's program, and notifies the lease's observer of the outcome. If `found` is
+    // `None`, notifies the observer of an empty slot. Returns whether the message in `reply` is to
+    // be sent. If no message ID is available, releases the lease instead, and returns `false`.
     fn tell<R: Wait>(
         &self,
         rt: &R,
@@ -112,7 +113,7 @@ impl<'a, B: Bench, G: Gate, W: Wire, M: TimeSource> Context<'a, B, G, W, M> {
     }
 
     // Notifies the observer of a lease, with the content `told` and message ID `id`, at the current
-    // time. Returns whether a message, in `reply`, is to be sent.
+    // time. Returns whether the message in `reply` is to be sent.
     fn note<R: Wait>(
         &self,
         rt: &R,
@@ -153,7 +154,7 @@ impl<'a, B: Bench, G: Gate, W: Wire, M: TimeSource> Context<'a, B, G, W, M> {
     }
 }
 
-// Returns whether a message is to be sent, by the result `noted` of the shard.
+// Returns whether a message is to be sent: whether the shard's result `noted` is `Sent`.
 fn is_note_sent(noted: NoteOutcome) -> bool
     ensures { (reply : Emitted) → emission_if result reply ≡ sent_of (noted_as noted reply) }
 {

@@ -21,8 +21,8 @@ use std::thread::{Promise, Threads};
 
 /// Makes a channel of jobs, and a worker seed for each of `tallies`.
 ///
-/// The first worker seed gets the last of `logs`, and so on; there are as many logs as tallies. Returns
-/// the channel, its sending end and the worker seeds.
+/// The worker seeds have the tallies in order, and the logs in reverse order. There are as many
+/// logs as tallies. Returns the channel, the channel's sending end, and the worker seeds.
 ///
 /// # Errors
 /// Returns `AllocError` if memory can't be allocated.
@@ -40,8 +40,9 @@ pub fn make_seats<T: Drop, J: ServerName>(
     Ok((jobs, sent, seats))
 }
 
-// Makes a worker seed for each of `tallies`, with one of `gots`, the places at the channel, and one
-// of `logs`. There are as many of each.
+// Makes a worker seed for each of `tallies`, in order. Each worker seed gets the last place left in
+// `gots`, and the last log left in `logs`. The three lists have the same length. Returns
+// `AllocError` if memory can't be allocated.
 fn seats_at<T: Drop, J: ServerName>(
     alloc: Global,
     jobs: &Jobs,
@@ -71,7 +72,7 @@ fn seats_at<T: Drop, J: ServerName>(
 /// Runs a worker for each worker seed, until the channel is closed and empty.
 ///
 /// Each worker has a thread of its own. If no thread can be made, the workers run one after
-/// another. Returns the statistics of each, in the order of the worker seeds.
+/// another. Returns the workers' statistics, in the order of the worker seeds.
 ///
 /// # Errors
 /// Returns `AllocError` if memory for the list of statistics can't be allocated. Then the
@@ -105,7 +106,8 @@ where
     )
 }
 
-// The promise that a thread returns the statistics of the workers at these seats.
+// The promise that a thread returns the statistics of the workers of these worker seeds, or an
+// error.
 #[derive(Drop)]
 struct SharesOf<B: Bench, G: Gate, W: Wire, M: TimeSource> {
     seats: Snapshot<Vec<WorkerSeed<B::Tallies, TrackLog<B::Book>>>>,
@@ -125,10 +127,10 @@ impl<B: Bench, G: Gate, W: Wire, M: TimeSource> Promise<
 ///
 /// See [`run_workers`]. Returns the driver's result and the workers' statistics.
 ///
-/// The driver sends the jobs, and owns the sending end of the channel. Once the driver drops it,
-/// the channel is closed, and the workers end. The driver's argument says whether workers were
-/// started; the clause doesn't say that. If no thread can be made for the workers, they run after
-/// the driver.
+/// The driver sends the jobs, and owns the sending end of the channel. Once the driver drops this
+/// end, the channel is closed, and the workers end. The driver's argument is whether workers were
+/// started; the contract doesn't guarantee its value. If no thread can be made for the workers, the
+/// workers run after the driver.
 ///
 /// # Errors
 /// The statistics are an error if those of `run_workers` are. If memory is refused for every worker

@@ -11,8 +11,8 @@ use fc_machine::Frame;
 
 /// The working state of a worker.
 ///
-/// It has the frame that its programs run in, its handle of the head words, the stage of its job,
-/// and a buffer for a reply.
+/// It has a frame, in which the worker's programs run, and a handle of the head words. It also has
+/// the stage of the worker's job, and a buffer for a reply.
 #[derive(Drop)]
 pub struct Scratch {
     pub frame: Frame,

@@ -12,9 +12,9 @@ use fc_registry::{Committed, Taken};
 
 /// The statistics of a worker.
 ///
-/// They are its backend's tallies, the log of its calls and the jobs that it received. Its counters
-/// are of replies that went out and that didn't, of refused allocations, and of conflicts of
-/// commits. Each counter stops at 2^64 - 1.
+/// The statistics are the worker's tallies, the log of the worker's calls, and the jobs that the
+/// worker received. The counters are of replies that went out, of replies that didn't, of refused
+/// allocations, and of conflicts of commits. Each counter stops at 2^64 - 1.
 #[derive(Drop)]
 pub struct Share<T: Drop, L: Drop> {
     pub tallies: T,
@@ -27,7 +27,9 @@ pub struct Share<T: Drop, L: Drop> {
 }
 
 impl<T: Drop, J: ServerName> Share<T, TrackLog<J>> {
-    /// Makes the statistics of a worker that hasn't begun, with this log.
+    /// Makes the statistics of a worker that hasn't begun.
+    ///
+    /// All counters are 0.
     pub fn new(got: Got, tallies: T, log: TrackLog<J>) -> Share<T, TrackLog<J>>
         ensures { result ≡ new_share got tallies log }
     {

@@ -1,4 +1,4 @@
-//! A worker's counts: its changes of the eight shards, and the jobs that it ended.
+//! A worker's counts: of its changes to each of the eight shards, and of the jobs that it ended.
 ghost use Rattle.std.specs.Prelude.{◌≡◌, ◌+◌, ◌<◌, slice_index};
 ghost use Rattle.fc_registry.specs.Taken.{SlotSnapshot};
 ghost use Rattle.fc_registry.specs.Views.{taken_with};
@@ -9,10 +9,10 @@ use crate::tally::Tally;
 use fc_registry::Taken;
 use std::marker::Model;
 
-/// One worker's changes of the eight shards, and the jobs that it ended.
+/// The numbers of a worker's changes to the eight shards, and of its ended jobs.
 ///
-/// It has one part of each book. The number of jobs stops at 2^64 - 1. A clause sees the changes of
-/// shards 0 to 7, and the jobs.
+/// The tallies have one part of each book of changes. The number of ended jobs stops at 2^64 - 1.
+/// Contracts see the number of changes to each of shards 0 to 7, and the number of ended jobs.
 #[derive(Drop)]
 pub struct Tallies<B: Books> {
     pub(crate) tally0: Tally<BookOf<B, 0>>,
@@ -45,7 +45,7 @@ impl<B: Books> Model for Tallies<B> {
 }
 
 impl<B: Books> Tallies<B> {
-    /// Returns the changes of the shard with this index, up to 2^64 - 1.
+    /// Returns the number of changes to shard `shard`, up to 2^64 - 1.
     pub fn shown(&self, shard: usize) -> u64
         requires { shard < 8 }
         ensures { result ≡ saturated (slice_index self.now.changes shard) }

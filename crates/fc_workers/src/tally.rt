@@ -1,4 +1,4 @@
-//! Counts of one worker's changes of one shard.
+//! The count of the changes to one shard.
 ghost use Rattle.std.specs.Prelude.{◌≡◌, ◌+◌, ◌<◌, min};
 ghost use Rattle.fc_workers.specs.Answers.{saturated};
 ghost use Rattle.fc_workers.specs.Counts.{counts};
@@ -6,10 +6,11 @@ ghost use Rattle.fc_workers.specs.Counts.{counts};
 use std::marker::Model;
 use std::sync::ledger::{Book, Ledger, Share};
 
-/// The number of changes that one worker made to a shard.
+/// A count of changes to one shard.
 ///
-/// It is the worker's share of the shard's book. A clause sees the parts of the book that the tally
-/// has, and its changes.
+/// The tally is a share of the shard's book of changes; a worker's tally has one part of the book.
+/// Contracts see the number of parts of the book that the tally has, and the number of changes that
+/// it counted.
 #[derive(Drop)]
 pub struct Tally<L: Ledger> {
     share: Share<L>,
@@ -39,7 +40,7 @@ impl<L: Ledger> Tally<L> {
         Tally { share, shown: 0 }
     }
 
-    /// Counts a change, here and in the book.
+    /// Counts a change, in the tally and in the book.
     pub(crate) fn count(&mut self, book: &mut Book<L>)
         ensures book { book.new.total ≡ book.old.total + 1 }
         ensures tally { self.new ≡ counts self.old 1 }
@@ -50,7 +51,8 @@ impl<L: Ledger> Tally<L> {
 
     /// Compares the tally with the book, when the book is closed.
     ///
-    /// A tally of all parts counts all changes. Neither is changed.
+    /// A tally with all parts of the book has counted all changes. Neither the tally nor the book
+    /// is changed.
     pub(crate) fn audit(&mut self, book: &mut Book<L>)
         ensures same { (book.new.total ≡ book.old.total) × (self.new ≡ self.old) }
         ensures whole { self.old.parts ≡ L.parts → self.old.changes ≡ book.old.total }
@@ -60,7 +62,8 @@ impl<L: Ledger> Tally<L> {
 
     /// Splits off a tally of one part, for another worker.
     ///
-    /// It requires that no change was counted yet, and that a part is left.
+    /// Requires that no change was counted on the tally yet, and that the tally has at least two
+    /// parts.
     pub fn split(&mut self) -> Tally<L>
         requires parts { 1 < self.old.parts }
         requires changes { self.old.changes ≡ 0 }
@@ -82,7 +85,7 @@ impl<L: Ledger> Tally<L> {
         self.shown = self.shown.saturating_add(shown);
     }
 
-    /// Returns the changes, up to 2^64 - 1.
+    /// Returns the number of changes, up to 2^64 - 1.
     pub fn shown(&self) -> u64
         ensures { result ≡ saturated self.now.changes }
     {

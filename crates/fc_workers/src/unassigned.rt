@@ -1,7 +1,7 @@
 //! Ledger parts that aren't assigned to a worker.
 //!
-//! Workers get their parts from these, and their parts are merged into these before the server is
-//! closed.
+//! Each worker gets its parts from the unassigned ones. Before the server is closed, the parts of
+//! the workers are merged into the unassigned ones again.
 ghost use Rattle.std.specs.Prelude.{◌≡◌, ◌+◌, ◌-◌, ◌<◌, ◌≤◌, map, replicate, vec_len, IfOk};
 ghost use Rattle.fc_workers.specs.Answers.{saturated};
 ghost use Rattle.fc_workers.specs.Counts.{no_changes, no_tallies, sums};
@@ -14,9 +14,9 @@ use std::marker::Model;
 
 /// The tallies of the parts that aren't assigned to a worker.
 ///
-/// There are equally many parts of each of the eight books. A clause sees their number, and the
-/// changes of shards 0 to 7 that were counted on them. It also sees how many jobs were ended by the
-/// workers whose tallies were merged into it, up to 2^64 - 1.
+/// The number of parts is the same for each of the eight books. Contracts see this number, and the
+/// changes to shards 0 to 7 that were counted on these parts. They also see the number of jobs that
+/// the merged workers ended, up to 2^64 - 1.
 #[derive(Drop)]
 pub struct Unassigned<B: Books> {
     pub(crate) tally0: Tally<BookOf<B, 0>>,
@@ -53,7 +53,8 @@ impl<B: Books> Model for Unassigned<B> {
 impl<B: Books> Unassigned<B> {
     /// Splits off the tallies of a worker: one part of each book.
     ///
-    /// It requires that no change was counted yet, and that a part is left.
+    /// Requires that no change was counted on the unassigned parts yet, and that there are at least
+    /// two parts of each book.
     pub fn split(&mut self) -> Tallies<B>
         requires parts { 1 < self.old.parts }
         requires changes { self.old.changes ≡ no_changes }
@@ -76,8 +77,8 @@ impl<B: Books> Unassigned<B> {
     /// Splits off the tallies of `workers` workers.
     ///
     /// # Errors
-    /// Returns `AllocError` if memory for them can't be allocated. The parts that were split off by
-    /// then are lost.
+    /// Returns `AllocError` if memory for the list of tallies can't be allocated. The parts that
+    /// were already split off are then lost.
     pub fn split_each(
         &mut self,
         alloc: Global,
@@ -96,7 +97,7 @@ impl<B: Books> Unassigned<B> {
         Ok(each)
     }
 
-    /// Merges the tallies of a worker; the worker's part is unassigned again.
+    /// Merges the tallies of a worker: the worker's parts are unassigned again.
     pub fn merge(&mut self, worker: Tallies<B>)
         ensures { self.new ≡ record {
           parts = self.old.parts + 1;
@@ -126,7 +127,7 @@ impl<B: Books> Unassigned<B> {
         self.ended = self.ended.saturating_add(ended);
     }
 
-    /// Returns the changes of shards 0 to 7, each up to 2^64 - 1.
+    /// Returns the numbers of changes to shards 0 to 7, each up to 2^64 - 1.
     pub fn shown_each(&self) -> [u64; 8]
         ensures { result ≡ map saturated self.now.changes }
     {

@@ -24,17 +24,18 @@ use fc_registry::{Job, Receipt, SlotNumber, Ticket};
 use fc_verify::{Refusal, Verified, verify};
 use std::sync::{Arc, Wait};
 
-// The calls that few jobs need aren't inlined into the loop, which would zero their stack space for
-// each job.
+// Functions that few jobs need aren't inlined into the loop. Inlined, they would make the loop zero
+// their stack space for each job.
 impl<'a, B: Bench, G: Gate, W: Wire, M: TimeSource> Context<'a, B, G, W, M> {
-    /// Runs a request's job up to its answer, and leaves its stage there.
+    /// Runs a request's job until only its answer is left.
     ///
-    /// A list of calls leads from the job's first stage to this answer:
+    /// `scratch.stage` then has the answer. A list of calls leads from the job's first stage to
+    /// this stage:
     ///
-    /// - Each is the call that its stage needs, and its result is that of some slot.
-    /// - A look reads the head word that its stage needs. A raise is to the word that its stage
-    ///   has.
-    /// - Before each commit the gate let the job through.
+    /// - Each call is the one that the stage before it needs, and its result is that of some slot.
+    /// - A call that reads a head word reads the one that the stage needs.
+    /// - A call that raises a head word raises it to the word that the stage has.
+    /// - The gate lets the job through before each commit.
     /// - The next stage follows from the call's result.
     /// - At most eight calls take a snapshot.
     ///
@@ -59,10 +60,10 @@ impl<'a, B: Bench, G: Gate, W: Wire, M: TimeSource> Context<'a, B, G, W, M> {
         self.work_on(rt, scratch, number, job, share);
     }
 
-    /// Runs a request's job from its present stage, as `work_off` does.
+    /// Runs a request's job from its present stage until only its answer is left.
     ///
-    /// If calls led the job from its first stage to the present one, the job is run by these calls
-    /// and further ones.
+    /// See [`Context::work_off`]. The present stage is that of `scratch`. If calls led the job from
+    /// its first stage to the present one, these calls and further ones lead to the answer.
     pub(crate) fn work_on<R: Wait>(
         &self,
         rt: &R,
@@ -118,11 +119,12 @@ impl<'a, B: Bench, G: Gate, W: Wire, M: TimeSource> Context<'a, B, G, W, M> {
         }
     }
 
-    /// Begins a request's job: a run takes a snapshot.
+    /// Begins a request's job: a job that requests a run takes its first snapshot.
     ///
-    /// It takes none if the slot's head word answers the request by one of its ETags. The job's
-    /// stage is a commit only after that one snapshot. From that snapshot the dispatcher knows a
-    /// run's cost.
+    /// If a run is requested with ETags, the slot's head word is read before. The job takes no
+    /// snapshot if the word answers the request. If the job's next step is then a commit, the job
+    /// requests a run, and took exactly one snapshot. From this snapshot the dispatcher knows the
+    /// cost of the run.
     pub(crate) fn begin<R: Wait>(
         &self,
         rt: &R,
@@ -147,8 +149,8 @@ impl<'a, B: Bench, G: Gate, W: Wire, M: TimeSource> Context<'a, B, G, W, M> {
         }
     }
 
-    // Begins a request's job: reads its slot's head word if the request has ETags. It takes no
-    // snapshot yet.
+    // Begins a request's job without a snapshot. If a run is requested with ETags, reads the head
+    // word of the job's slot.
     fn look(
         &self,
         scratch: &mut Scratch,
@@ -172,8 +174,8 @@ impl<'a, B: Bench, G: Gate, W: Wire, M: TimeSource> Context<'a, B, G, W, M> {
         }
     }
 
-    // Reads the remaining head words, and adds them to `words`: from the slot after those that
-    // `words` has, to the last slot.
+    // Reads the head words that `words` doesn't have yet, up to that of slot 63, and appends them
+    // to `words` in order.
     #[inline(never)]
     fn list(&self, heads: &mut HeadSeat, words: &mut Words, log: &mut TrackLog<B::Book>)
         requires seen { length words.old.items < 64 }
@@ -233,9 +235,9 @@ impl<'a, B: Bench, G: Gate, W: Wire, M: TimeSource> Context<'a, B, G, W, M> {
         stage.step = Step::took(count, taken, &mut stage.answer);
     }
 
-    // Runs the ticket's program, commits the run once the gate lets the job through, and sets the
+    // Runs the ticket's program once the gate lets the job through, commits the run, and sets the
     // next stage. After a conflict the next stage is another snapshot, if the job may take one
-    // more.
+    // more; otherwise it is the answer `Unavailable`.
     fn commit<R: Wait>(
         &self,
         rt: &R,
@@ -272,8 +274,9 @@ impl<'a, B: Bench, G: Gate, W: Wire, M: TimeSource> Context<'a, B, G, W, M> {
         stage.step = Step::committed(*count, &outcome, &ticket, committed, &mut stage.answer);
     }
 
-    // Verifies the job's image, installs the program, and sets the next stage. If a rule or a lack
-    // of memory refuses the image, the answer says so, and no shard is called.
+    // Verifies the job's image, installs the program, and sets the next stage. If the image breaks
+    // a rule, or if memory is refused, the next stage is an answer with this reason. Then no shard
+    // is called.
     #[inline(never)]
     fn install<R: Wait>(
         &self,
@@ -296,8 +299,9 @@ impl<'a, B: Bench, G: Gate, W: Wire, M: TimeSource> Context<'a, B, G, W, M> {
         }
     }
 
-    // Installs `program`, that of the job's image, and sets the next stage. If memory for its
-    // handle is refused, no shard is called.
+    // Installs `program`, the verified program of the job's image, and sets the next stage. If
+    // memory for the program's handle is refused, the next stage is the answer `Unavailable`, and
+    // no shard is called.
     fn install_program<R: Wait>(
         &self,
         rt: &R,

@@ -1,4 +1,4 @@
-//! Workers: the initial state of each, and how it runs a job.
+//! Workers: a worker's initial state, and how a worker runs a job.
 ghost use Rattle.std.specs.Prelude.{◌≡◌, ◌+◌, ℕ, true, None, IfOk};
 ghost use Rattle.fc_core.specs.Receiving.{emission_if};
 ghost use Rattle.fc_workers.specs.Answers.{saturated};
@@ -24,8 +24,8 @@ use std::sync::Wait;
 
 /// The initial state of a worker.
 ///
-/// It has the worker's place at the channel, its backend's tallies, its log, and the frame that its
-/// programs run in.
+/// It has the worker's place at the channel, the worker's tallies and log, and the frame that the
+/// worker's programs run in.
 #[derive(Drop)]
 pub struct WorkerSeed<T: Drop, L: Drop> {
     pub got: Got,
@@ -35,7 +35,7 @@ pub struct WorkerSeed<T: Drop, L: Drop> {
 }
 
 impl<T: Drop, L: Drop> WorkerSeed<T, L> {
-    /// Makes a worker's initial state, with a new frame for its programs.
+    /// Makes a worker's initial state, with a new frame for the worker's programs.
     ///
     /// # Errors
     /// Returns `AllocError` if memory for the frame can't be allocated.
@@ -56,8 +56,8 @@ impl<T: Drop, L: Drop> WorkerSeed<T, L> {
 
 /// Runs jobs until the channel is closed and empty.
 ///
-/// Each job is run and answered. Its reply, if there is one, is sent and counted. Returns the
-/// worker's statistics. The worker has ended exactly the jobs that it received.
+/// Each job is run. If the job has a reply, the reply is sent and counted. Returns the worker's
+/// statistics. The worker has ended exactly the jobs that it received.
 pub fn worker<B: Bench, G: Gate, W: Wire, M: TimeSource, R: Wait>(
     rt: &R,
     context: &Context<'_, B, G, W, M>,
@@ -85,11 +85,11 @@ pub fn worker<B: Bench, G: Gate, W: Wire, M: TimeSource, R: Wait>(
 }
 
 impl<'a, B: Bench, G: Gate, W: Wire, M: TimeSource> Context<'a, B, G, W, M> {
-    /// Runs a job under its number.
+    /// Runs the job with this number, and sends its reply if there is one.
     ///
-    /// A request is answered, and a lease's observer is notified. If there is a reply, it is sent
-    /// under the number, and counted by whether it went out. The last call reports to the
-    /// transmitter that the job has ended.
+    /// A request is answered, and a lease's observer is notified. The reply is sent under the job's
+    /// number, and counted as sent or as failed. The last call reports to the transmitter that the
+    /// job has ended. One more ended job is counted.
     pub fn work<R: Wait>(
         &self,
         rt: &R,
@@ -109,11 +109,11 @@ impl<'a, B: Bench, G: Gate, W: Wire, M: TimeSource> Context<'a, B, G, W, M> {
         self.finish(rt, number, replies, &scratch.reply, share);
     }
 
-    /// Runs a request's job from its present stage, and then answers it.
+    /// Runs a request's job from its present stage, and answers the request.
     ///
-    /// For the dispatcher, which began the job. The reply is sent and the job is ended, as `work`
-    /// does. The stage is that of `scratch`. If calls led the job from its first stage to this one,
-    /// those calls and the ones made here are together its one run, as `work` would make it.
+    /// The dispatcher uses it for a job that it began. The present stage is that of `scratch`. The
+    /// reply is sent, and the job is ended, as in [`Context::work`]. If calls led the job from its
+    /// first stage to the present one, all calls together are one run of the job by `work`.
     pub(crate) fn work_begun<R: Wait>(
         &self,
         rt: &R,
@@ -138,7 +138,8 @@ impl<'a, B: Bench, G: Gate, W: Wire, M: TimeSource> Context<'a, B, G, W, M> {
         self.finish(rt, number, replies, &scratch.reply, share);
     }
 
-    // Runs a job, and writes its reply over `scratch.reply`. Returns whether there is one.
+    // Runs a job, and writes its reply over `scratch.reply`. Returns whether there is a reply to
+    // send.
     fn reply<R: Wait>(
         &self,
         rt: &R,
@@ -164,8 +165,8 @@ impl<'a, B: Bench, G: Gate, W: Wire, M: TimeSource> Context<'a, B, G, W, M> {
         }
     }
 
-    // Runs a request's job, answers it, and writes its reply over `scratch.reply`. Returns whether
-    // there is one.
+    // Runs a request's job, answers the request, and writes the reply over `scratch.reply`. Returns
+    // whether there is a reply to send.
     fn answer<R: Wait>(
         &self,
         rt: &R,
@@ -186,8 +187,8 @@ impl<'a, B: Bench, G: Gate, W: Wire, M: TimeSource> Context<'a, B, G, W, M> {
         self.respond(rt, scratch, job, share)
     }
 
-    // Answers a request's job that was run, and writes its reply over `scratch.reply`. Returns
-    // whether there is one.
+    // Answers the request of a job that was run, and writes the reply over `scratch.reply`. Returns
+    // whether there is a reply to send.
     fn respond<R: Wait>(
         &self,
         rt: &R,
@@ -215,7 +216,7 @@ impl<'a, B: Bench, G: Gate, W: Wire, M: TimeSource> Context<'a, B, G, W, M> {
             .respond(rt, now, job, answer, &mut scratch.reply, tallies, log)
     }
 
-    // Sends the reply of a job if `replies`, and counts it. The last call reports to the
+    // Sends `reply` if `replies`, and counts it as sent or as failed. The last call reports to the
     // transmitter that the job has ended.
     fn finish<R: Wait>(
         &self,

@@ -7,7 +7,7 @@ use Rattle.std.proofs.lemmas.Bool.{or_left, or_right}
 use Rattle.std.proofs.lemmas.List.Folds.{list_any-append}
 use Rattle.fc_fetch.proofs.laws.localhost_is_one_address.Goals as goal
 
--- a text that contains a dot
+-- a text with a dot between two others contains the byte of a dot.
 has_dot : (before after : List ℕ) → list_any (λ b. b == 46) (before ++ codes "." ++ after) ≡ true
 has_dot before after =
     list_any-append (λ b. b == 46) (before ++ codes ".") after

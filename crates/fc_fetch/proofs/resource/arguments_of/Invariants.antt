@@ -4,7 +4,7 @@ use Rattle.coap_client.specs.Paths.{slices_in}
 use Rattle.fc_fetch.specs.Addresses.{texts_in}
 use Rattle.fc_fetch.proofs.resource.arguments_of.Given as goal
 
--- the arguments so far are stored, each of at most 255 bytes
+-- the arguments before this index are stored, and each of them has at most 255 bytes.
 abbrev pub invariant-loop-argument : goal.invariant-loop-argument
 invariant-loop-argument l =
     (slices_in l.arguments.items ≡ texts_in (take l.argument-index l.query)) × All (λ argument. length argument ≤ 255) (texts_in (take l.argument-index l.query))

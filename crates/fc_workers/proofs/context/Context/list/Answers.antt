@@ -5,7 +5,8 @@ use Rattle.fc_calls.specs.Logged.{LooksAt}
 use Rattle.fc_workers.proofs.Steps.{more_seen}
 use Rattle.fc_workers.proofs.context.Context.list.Goals as goal
 
--- a word was appended to others that left room for it.
+-- if fewer than 64 words were stored, the push of a word succeeded, so the new list ends with that
+-- word.
 pushed : {E : Type 0} (new old : List ℕ) (word : ℕ) (r : Result (Unit {0}) E) → OnOk r (new ≡ old ++ word ∷ []) → OnErr r (length old ≡ 64) → length old < 64
     → new ≡ old ++ word ∷ []
 pushed new old word (Ok x) ok err less = ok

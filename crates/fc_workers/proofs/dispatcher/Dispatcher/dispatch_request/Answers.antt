@@ -34,7 +34,7 @@ returns-then-sent-clause-dispatched g c =
       may_go = inr (record { asks = found.0; request = c.requires; stage = stage; took = found.1; expensive = expensive; ended = c.begin.ensures.ended });
     }))
 
--- the job that isn't sent was begun here, and is continued from there.
+-- the dispatcher began the job that isn't sent, and continues it from the stage that it reached.
 pub returns-else-sent-clause-dispatched : goal.returns-else-sent-clause-dispatched
 returns-else-sent-clause-dispatched g c =
     let s = (worker_view g.B.Bench.changes g.B.Bench.ended g.B.Bench.called g.B.Bench.logged

@@ -5,7 +5,8 @@ use Rattle.fc_workers.specs.Dispatch.{IsPriced, IsWorkedHere, logged_at}
 use Rattle.fc_workers.specs.Workers.{Dispatched}
 use Rattle.fc_workers.proofs.dispatcher.Dispatcher.dispatch_whole.Goals as goal
 
--- the job that isn't sent is the one that arrived, and its slot's receipt was returned since.
+-- the job that isn't sent is the one that arrived. In between, its slot's receipt was returned or
+-- wasn't requested.
 pub returns-then-not-sent-clause-dispatched : goal.returns-then-not-sent-clause-dispatched
 returns-then-not-sent-clause-dispatched g c =
     let s = (worker_view g.B.Bench.changes g.B.Bench.ended g.B.Bench.called g.B.Bench.logged
