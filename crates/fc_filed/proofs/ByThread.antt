@@ -1,14 +1,15 @@
--- A thread's track has the thread's operations, and the front's track has the front's.
+-- A thread's track has the thread's operations. The front's track has the front's, and a shard's
+-- track the shard's.
 use Rattle.std.proofs.Common.{◌≡◌, ◌≢◌, ◌⊎◌, ℕ, zero, suc, ◌+◌, ◌<◌, ◌≤◌, Bool, true, false, if◌then◌else◌, List, [], ◌∷◌, length, refl, sym, ap, ⊎_elim, inl, inr, arith}
 use Rattle.std.specs.Prelude.{◌==◌, ◌||◌}
 use Rattle.std.specs.List.{All, filter}
 use Rattle.std.proofs.lemmas.Bool.Decides.{nat_tests}
 use Rattle.std.proofs.lemmas.List.Elements.{All-cons, All-nil}
 use Rattle.fc_book.specs.Tracks.{is_on, on}
-use Rattle.fc_linear.specs.Operations.{ServerPart, FrontPart, ShardPart, WordsPart, NoPart, is_front, part_of}
+use Rattle.fc_linear.specs.Operations.{ServerPart, FrontPart, ShardPart, WordsPart, NoPart, is_front, is_shard, part_of}
 use Rattle.fc_filed.specs.declared.entry.FiledEntry.{FiledEntry}
-use Rattle.fc_filed.specs.Entries.{AreKeyed, IsKeyed, entries_by, entry_keys, front_entries, is_of_job, part_key}
-use Rattle.fc_filed.proofs.Closing.{on_front_track}
+use Rattle.fc_filed.specs.Entries.{AreKeyed, IsKeyed, entries_by, entry_keys, front_entries, is_of_job, part_key, shard_entries}
+use Rattle.fc_filed.proofs.Closing.{on_front_track, on_shard_track}
 use Rattle.fc_filed.proofs.Keyed.{IsLow, low_of}
 
 unlike : (m n : ℕ) → m ≢ n → (m == n) ≡ false
@@ -50,6 +51,9 @@ module _ (first_job : ℕ) where
 
   pub front_track : (log : List FiledEntry) → AreKeyed first_job log → on entry_keys 0 log ≡ front_entries log
   front_track log k = same_filter (is_on entry_keys 0) (λ e. is_front (part_of e.operation)) log k (λ e y. sym (on_front_track first_job e y))
+
+  pub shard_track : (index : ℕ) → index < 8 → (log : List FiledEntry) → AreKeyed first_job log → on entry_keys (index + 1) log ≡ shard_entries index log
+  shard_track index lt log k = same_filter (is_on entry_keys (index + 1)) (λ e. is_shard index (part_of e.operation)) log k (λ e y. sym (on_shard_track first_job index lt e y))
 
   pub all_keyed : (log : List FiledEntry) → AreKeyed first_job log → All (λ (e : FiledEntry). IsKeyed first_job e) log
   all_keyed [] k = All-nil (λ (x : FiledEntry). IsKeyed first_job x)

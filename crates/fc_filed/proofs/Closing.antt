@@ -63,7 +63,7 @@ module _ (first_job : ℕ) where
       front_key (part_of e.operation) e.who who
       ∙ or_none (part_key e.who (part_of e.operation) == 0) (e.who == 0) (e.job == 0) (not_same e.who 0 (λ z. absurd (omega (arith, z, who)))) (not_same e.job 0 (λ z. absurd (omega (arith, z, low))))
 
-  on_shard_track : (i : ℕ) → i < 8 → (e : FiledEntry) → IsKeyed first_job e → is_shard i (part_of e.operation) ≡ is_on entry_keys (i + 1) e
+  pub on_shard_track : (i : ℕ) → i < 8 → (e : FiledEntry) → IsKeyed first_job e → is_shard i (part_of e.operation) ≡ is_on entry_keys (i + 1) e
   on_shard_track i lt e k =
       let low = job_low first_job e (is_of_job e.operation) refl k in
       let who = k.who.0 in

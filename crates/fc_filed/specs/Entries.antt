@@ -4,7 +4,7 @@
 use Rattle.std.specs.Prelude.{◌≡◌, ℕ, ◌+◌, ◌-◌, ◌<◌, ◌≤◌, ◌==◌, ◌||◌, Bool, true, false, List, [], ◌∷◌, map, is_some}
 use Rattle.std.specs.List.{filter}
 use Rattle.fc_book.specs.Tracks.{EntryKeys}
-use Rattle.fc_linear.specs.Operations.{LogEntry, Operation, ServerPart, FrontPart, ShardPart, WordsPart, NoPart, IsEvent, WordsDo, is_for_job, is_front, is_words, job_brought, part_of}
+use Rattle.fc_linear.specs.Operations.{LogEntry, Operation, ServerPart, FrontPart, ShardPart, WordsPart, NoPart, IsEvent, WordsDo, is_for_job, is_front, is_shard, is_words, job_brought, part_of}
 use Rattle.fc_filed.specs.declared.entry.FiledEntry.{FiledEntry}
 use Rattle.fc_filed.specs.Blank.{no_operation}
 
@@ -40,13 +40,16 @@ AreKeyed first_job (e ∷ es) = IsKeyed first_job e × AreKeyed first_job es
 abbrev pub blank_entry : FiledEntry
 blank_entry = record { who = 0; job = 0; operation = no_operation }
 
--- ---- the operations of a thread and of the front, in order
+-- ---- the operations of a thread, of the front and of a shard, in order
 
 abbrev pub entries_by : ℕ → List FiledEntry → List FiledEntry
 entries_by who log = filter (λ e. e.who == who) log
 
 abbrev pub front_entries : List FiledEntry → List FiledEntry
 front_entries log = filter (λ e. is_front (part_of e.operation)) log
+
+abbrev pub shard_entries : ℕ → List FiledEntry → List FiledEntry
+shard_entries index log = filter (λ e. is_shard index (part_of e.operation)) log
 
 -- ---- the log of the entries, whose jobs have the numbers from 0 up
 

@@ -1,5 +1,5 @@
 -- The views of a front and a shard that are under a lock with the track of their calls.
-use Rattle.std.specs.Prelude.{◌≡◌, ℕ, ◌+◌, ◌<◌, ◌≤◌, Bool, List}
+use Rattle.std.specs.Prelude.{◌≡◌, ℕ, ◌+◌, ◌<◌, ◌≤◌, Bool, true, false, List, refl}
 use Rattle.fc_registry.specs.declared.job.Job.{Job}
 use Rattle.fc_registry.specs.declared.shard.Taken.{Taken}
 use Rattle.fc_registry.specs.declared.shard.Taken.TheVariants.{Given}
@@ -10,9 +10,11 @@ use Rattle.fc_core.specs.Exchanges.{FrontState}
 use Rattle.fc_registry.specs.Slots.{Shard}
 use Rattle.fc_registry.specs.Shards.{shard_at}
 use Rattle.fc_server.specs.declared.server.Begin.{Begin}
-use Rattle.fc_calls.specs.Kept.{HasEightSlots}
+use Rattle.fc_calls.specs.Doings.{PassesIfIdle}
+use Rattle.fc_calls.specs.Kept.{HasEightSlots, confirm_times, serials}
+use Rattle.fc_calls.specs.Logged.{AdvancesIdle}
 use Rattle.fc_linear.specs.Parts.{first_server}
-use Rattle.fc_linear.specs.Operations.{Operation, ShardPart, IsEvent, ShardDoes, part_of}
+use Rattle.fc_linear.specs.Operations.{Logged, Operation, ShardPart, IsEvent, ShardDoes, part_of}
 use Rattle.fc_filed.specs.declared.entry.FiledEntry.{FiledEntry}
 use Rattle.fc_filed.specs.Entries.{OperationsLead, is_of_job}
 
@@ -26,13 +28,23 @@ pub record ShardCalls : Type 0 where
   pub shard : Shard
   pub calls : List FiledEntry
 
--- the operation is one of this shard, for a job or for none, and led from one state of the shard to
--- the other.
+-- the operation is one of this shard, and led from one state of the shard to the other. It is for no
+-- job, or `of_job` says that it may be for one.
 pub record IsOperationOf (of_job : Bool) (operation : Operation) (before after : Shard) : Type 0 where
   pub does : ShardDoes operation before after
   pub part : part_of operation ≡ ShardPart before.index
-  pub job : is_of_job operation ≡ of_job
+  pub job : is_of_job operation ≡ true → of_job ≡ true
   pub event : before.index < 8 → IsEvent operation
+
+-- the call is filed as this operation, or it isn't filed and the shard is unchanged.
+abbrev pub IsFiledAs : Bool → Bool → Operation → Shard → Shard → Type 0
+IsFiledAs true of_job operation before after = IsOperationOf of_job operation before after
+IsFiledAs false of_job operation before after = after ≡ before
+
+-- an advance of an idle shard is filed.
+pub advance_filed : (now : ℕ) (before after : Shard) (idle : Bool) → PassesIfIdle now before idle after → IsFiledAs idle false (Logged (AdvancesIdle before.index now)) before after
+advance_filed now before after true does = record { does = does; part = refl; job = λ is. is; event = λ low. low }
+advance_filed now before after false does = does.1
 
 -- the operations lead to the shard from a new server's first shard of its index, 0 to 7; the key is
 -- the index plus one.
@@ -40,6 +52,15 @@ abbrev pub AreCallsOf : Begin → ℕ → List FiledEntry → Shard → Type 0
 AreCallsOf begin key calls shard =
     HasEightSlots shard × (shard.index < 8) × (key ≡ shard.index + 1)
     × OperationsLead ShardDoes calls (shard_at (first_server begin).shards shard.index) shard
+
+-- a call keeps the shard's index, and the times after which its notifications are confirmable. The
+-- shard's serials increase by the number of changes that the call's result reports. If that number
+-- is 0, no slot changes.
+pub record KeepsShard (changes : ℕ) (before after : Shard) : Type 0 where
+  pub index : after.index ≡ before.index
+  pub confirms : confirm_times after ≡ confirm_times before
+  pub slots : changes ≡ 0 → after.slots ≡ before.slots
+  pub risen : serials after ≡ serials before + changes
 
 -- ---- the cost of a snapshot's program
 

@@ -24,6 +24,10 @@ entry_by who v operation = record { who = who; job = if is_of_job operation then
 abbrev pub did_by : ℕ → Operation → BookView FiledEntry → BookView FiledEntry
 did_by who operation v = with_filed entry_keys (entry_by who v operation) v
 
+-- the thread's tracks after a call that it has filed, or hasn't.
+abbrev pub did_if : Bool → ℕ → Operation → BookView FiledEntry → BookView FiledEntry
+did_if files who operation v = if files then did_by who operation v else v
+
 -- the thread has its own track.
 pub record HasOwnTrack (first_job who : ℕ) (v : BookView FiledEntry) : Type 0 where
   pub key : (9 ≤ who) × (who < first_job)

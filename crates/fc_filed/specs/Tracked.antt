@@ -1,10 +1,10 @@
 -- Tracks that are one legal history: each is right by itself.
 --
--- The last definition is that of an owner of all tracks.
+-- The last definitions are those of an owner of all tracks, and of a part that is closed.
 use Rattle.std.specs.Prelude.{◌≡◌, ◌⊎◌, ℕ, ◌+◌, ◌<◌, ◌≤◌, List, [], ◌∷◌}
 use Rattle.fc_book.specs.declared.view.Track.{Track}
 use Rattle.fc_book.specs.declared.view.BookView.{BookView}
-use Rattle.fc_book.specs.Tracks.{HasKey, on}
+use Rattle.fc_book.specs.Tracks.{HasKey, on, part_view, with_part}
 use Rattle.fc_registry.specs.Shards.{shard_at}
 use Rattle.fc_server.specs.States.{ServerState}
 use Rattle.fc_linear.specs.Operations.{FrontDoes, Operation, ShardDoes}
@@ -41,3 +41,10 @@ pub record OwnsAll (first_job : ℕ) (v : BookView FiledEntry) (first end : Serv
   pub shards : (i : ℕ) → i < 8 → LeadsPart ShardDoes (i + 1) v.own (shard_at first.shards i) (shard_at end.shards i)
   pub threads : (t : ℕ) → 9 ≤ t → t < first_job → HasKey t v.own
   pub jobs : (k : ℕ) (entries : List FiledEntry) → first_job ≤ k → HasTrackOf k entries v.own → IsRightForJob first_job entries
+
+-- a part is closed. Its entries led it from one state to the other, and its track is now the first
+-- of the owner's own.
+pub record IsPartClosed {S : Type 0} (Does : Operation → S → S → Type 0) (key : ℕ) (first end : S) (before after : BookView FiledEntry) : Type 0 where
+  pub entries : List FiledEntry
+  pub led : OperationsLead Does entries first end
+  pub closed : after ≡ with_part before (part_view key entries)

@@ -1,13 +1,15 @@
-//! The calls of a shard that are filed with any answer.
+//! The calls of a shard, and the operations that are filed for them.
 //!
-//! [`crate::FiledShard::ask`] makes them. The other calls are methods of `FiledShard`: a granted
-//! lease begins a track, and an advance is filed only if the shard is idle.
-ghost use Rattle.std.specs.Prelude.{true, false, ⊤, refl};
+//! [`crate::FiledShard::ask`] makes them. An advance is filed only if the shard is idle. A lease
+//! that begins a track, and a snapshot that may be dropped, are methods of `FiledShard`.
+ghost use Rattle.std.specs.Prelude.{◌≡◌, true, false, ⊤, refl};
 ghost use Rattle.fc_registry.specs.Slots.{IsOwned};
 ghost use Rattle.fc_linear.specs.Operations.{Logged, ShardPart};
 
 use crate::shard::FiledCall;
-use fc_calls::calls::{Commit, Describe, GiveUp, Install, Note, Remove, Signal, Take, Tick};
+use fc_calls::calls::{
+    AdvanceIfIdle, Commit, Describe, GiveUp, Install, NextDue, Note, Remove, Signal, Take, Tick,
+};
 
 impl<'a> FiledCall for Take<'a> {
     ghost use Rattle.fc_registry.specs.Views.{taken_with};
@@ -19,8 +21,15 @@ impl<'a> FiledCall for Take<'a> {
 
     ghost operation = { λ index call answer room. Logged (TakesForJob call.job.now call.readings.now (taken_with answer room)) };
 
+    fn is_filed(answer: &Self::Answer) -> bool
+        ensures { result ≡ true }
+    {
+        let _ = answer;
+        true
+    }
+
     ghost right = { λ call before answer room after is does.
-        record { does = does.0; part = λ i. ShardPart (is.index i); job = refl; event = λ low. tt } };
+        record { does = does.0; part = λ i. ShardPart (is.index i); job = λ is. is; event = λ low. tt } };
 }
 
 impl<'a> FiledCall for Commit<'a> {
@@ -32,8 +41,15 @@ impl<'a> FiledCall for Commit<'a> {
 
     ghost operation = { λ index call answer room. Logged (CommitsRun call.now call.outcome.now call.ticket.now answer) };
 
+    fn is_filed(answer: &Self::Answer) -> bool
+        ensures { result ≡ true }
+    {
+        let _ = answer;
+        true
+    }
+
     ghost right = { λ call before answer room after is does.
-        record { does = does; part = λ i. ShardPart (is.index i); job = refl; event = λ low. tt } };
+        record { does = does; part = λ i. ShardPart (is.index i); job = λ is. is; event = λ low. tt } };
 }
 
 impl<'a> FiledCall for Install<'a> {
@@ -45,8 +61,15 @@ impl<'a> FiledCall for Install<'a> {
 
     ghost operation = { λ index call answer room. Logged (InstallsProgram call.job.now call.program.value answer) };
 
+    fn is_filed(answer: &Self::Answer) -> bool
+        ensures { result ≡ true }
+    {
+        let _ = answer;
+        true
+    }
+
     ghost right = { λ call before answer room after is does.
-        record { does = does; part = λ i. ShardPart (is.index i); job = refl; event = λ low. tt } };
+        record { does = does; part = λ i. ShardPart (is.index i); job = λ is. is; event = λ low. tt } };
 }
 
 impl<'a> FiledCall for Remove<'a> {
@@ -58,8 +81,15 @@ impl<'a> FiledCall for Remove<'a> {
 
     ghost operation = { λ index call answer room. Logged (RemovesProgram call.job.now answer) };
 
+    fn is_filed(answer: &Self::Answer) -> bool
+        ensures { result ≡ true }
+    {
+        let _ = answer;
+        true
+    }
+
     ghost right = { λ call before answer room after is does.
-        record { does = does; part = λ i. ShardPart (is.index i); job = refl; event = λ low. tt } };
+        record { does = does; part = λ i. ShardPart (is.index i); job = λ is. is; event = λ low. tt } };
 }
 
 impl<'a> FiledCall for Describe<'a> {
@@ -71,8 +101,15 @@ impl<'a> FiledCall for Describe<'a> {
 
     ghost operation = { λ index call answer room. Logged (TellsReceipt call.job.now answer) };
 
+    fn is_filed(answer: &Self::Answer) -> bool
+        ensures { result ≡ true }
+    {
+        let _ = answer;
+        true
+    }
+
     ghost right = { λ call before answer room after is does.
-        record { does = does; part = λ i. ShardPart (is.index i); job = refl; event = λ low. tt } };
+        record { does = does; part = λ i. ShardPart (is.index i); job = λ is. is; event = λ low. tt } };
 }
 
 impl<'a> FiledCall for Note<'a> {
@@ -85,8 +122,15 @@ impl<'a> FiledCall for Note<'a> {
 
     ghost operation = { λ index call answer room. Logged (NotesTurn call.turn call.id call.now call.random call.told.now (noted_as answer room)) };
 
+    fn is_filed(answer: &Self::Answer) -> bool
+        ensures { result ≡ true }
+    {
+        let _ = answer;
+        true
+    }
+
     ghost right = { λ call before answer room after is does.
-        record { does = does; part = λ i. ShardPart (is.index i); job = refl; event = λ low. tt } };
+        record { does = does; part = λ i. ShardPart (is.index i); job = λ is. is; event = λ low. tt } };
 }
 
 impl FiledCall for GiveUp {
@@ -98,8 +142,13 @@ impl FiledCall for GiveUp {
 
     ghost operation = { λ index call answer room. Logged (GivesUpTurn call.turn call.now) };
 
+    fn is_filed(answer: &Self::Answer) -> bool {
+        let _ = answer;
+        true
+    }
+
     ghost right = { λ call before answer room after is does.
-        record { does = does; part = λ i. ShardPart (is.index i); job = refl; event = λ low. tt } };
+        record { does = does; part = λ i. ShardPart (is.index i); job = λ is. is; event = λ low. tt } };
 }
 
 impl FiledCall for Signal {
@@ -111,8 +160,13 @@ impl FiledCall for Signal {
 
     ghost operation = { λ index call answer room. Logged (HandsSignal index call.endpoint call.id call.reset) };
 
+    fn is_filed(answer: &Self::Answer) -> bool {
+        let _ = answer;
+        true
+    }
+
     ghost right = { λ call before answer room after is does.
-        record { does = does; part = refl; job = refl; event = λ low. low } };
+        record { does = does; part = refl; job = λ is. is; event = λ low. low } };
 }
 
 impl FiledCall for Tick {
@@ -124,6 +178,50 @@ impl FiledCall for Tick {
 
     ghost operation = { λ index call answer room. Logged (AdvancesShard index call.now answer) };
 
+    fn is_filed(answer: &Self::Answer) -> bool {
+        let _ = answer;
+        true
+    }
+
     ghost right = { λ call before answer room after is does.
-        record { does = does; part = refl; job = refl; event = λ low. low } };
+        record { does = does; part = refl; job = λ is. is; event = λ low. low } };
+}
+
+impl FiledCall for NextDue {
+    ghost use Rattle.fc_registry.specs.Turns.{written_if};
+    ghost use Rattle.fc_calls.specs.Logged.{GivesTurn};
+
+    ghost is_of = { λ call shard. ⊤ };
+
+    ghost of_job = { true };
+
+    ghost operation = { λ index call answer room. Logged (GivesTurn index call.now (written_if answer room)) };
+
+    fn is_filed(answer: &bool) -> bool {
+        let _ = answer;
+        true
+    }
+
+    ghost right = { λ call before answer room after is does.
+        record { does = does; part = refl; job = λ is. refl; event = λ low. low } };
+}
+
+/// It is filed only if the shard is idle; else the shard is unchanged.
+impl FiledCall for AdvanceIfIdle {
+    ghost use Rattle.fc_calls.specs.Logged.{AdvancesIdle};
+    ghost use Rattle.fc_filed.specs.Parts.{advance_filed};
+
+    ghost is_of = { λ call shard. ⊤ };
+
+    ghost of_job = { false };
+
+    ghost files = { λ answer. answer };
+
+    ghost operation = { λ index call answer room. Logged (AdvancesIdle index call.now) };
+
+    fn is_filed(answer: &bool) -> bool {
+        *answer
+    }
+
+    ghost right = { λ call before answer room after is does. advance_filed call.now before after answer does };
 }

@@ -5,39 +5,45 @@ ghost use Rattle.fc_registry.specs.Slots.{IsOwned, Shard as Seen};
 ghost use Rattle.fc_registry.specs.Turns.{written_if};
 ghost use Rattle.fc_registry.specs.Views.{taken_with};
 ghost use Rattle.fc_book.specs.Tracks.{part_view, with_part};
-ghost use Rattle.fc_calls.specs.Logged.{AdvancesIdle, GivesTurn, TakesForJob};
+ghost use Rattle.fc_calls.specs.Logged.{GivesTurn, TakesForJob};
 ghost use Rattle.fc_calls.specs.Kept.{HasEightSlots};
-ghost use Rattle.fc_calls.specs.Doings.{PassesIfIdle};
 ghost use Rattle.fc_linear.specs.Operations.{Logged, Operation, ShardDoes, is_words, part_of};
 ghost use Rattle.fc_linear.specs.Parts.{first_server};
 ghost use Rattle.fc_filed.specs.Entries.{OperationsLead, part_key};
-ghost use Rattle.fc_filed.specs.Parts.{CostsFrom, IsCheap, IsExpensiveIn, IsOperationOf};
-ghost use Rattle.fc_filed.specs.Threads.{HasJobFirst, HasOwnTrack, MayFile, begun_if, did_by, entry_by};
+ghost use Rattle.fc_filed.specs.Parts.{CostsFrom, IsCheap, IsExpensiveIn, IsFiledAs, KeepsShard};
+ghost use Rattle.fc_filed.specs.Threads.{HasJobFirst, HasOwnTrack, MayFile, begun_if, did_by, did_if, entry_by};
 
 use crate::book::{FiledTrack, ServerBook, ServerName, ServerTracks, file_as};
 use crate::view::FiledName;
 use fc_book::Part;
 use fc_calls::ShardCall;
-use fc_calls::calls::{AdvanceIfIdle, NextDue, Take};
+use fc_calls::calls::{NextDue, Take};
 use fc_help::Readings;
 use fc_registry::{Job, Shard, SlotSnapshot, Taken};
 use std::marker::{Brand, Model, PhantomData};
 
-/// A call of a shard that is filed with any answer.
+/// A call of a shard, and the operation that is filed for it.
 pub trait FiledCall: ShardCall {
     // The call belongs to this shard.
     ghost is_of: { Self → Seen → Type 0 };
 
-    // The call is for a job, or for none.
+    // The call may be for a job.
     ghost of_job: { Bool };
+
+    // Whether the call is filed, by its answer. A call that isn't leaves the shard unchanged.
+    ghost files: { Self.Answer → Bool } = { λ answer. true };
 
     // The operation that is filed, by the shard's index, the answer and the contents of the
     // caller's buffer.
     ghost operation: { ℕ → Self → Self.Answer → Self.Room → Operation };
 
-    // The operation is the call's effect on the shard.
+    /// Returns whether the call is filed, by its answer.
+    fn is_filed(answer: &Self::Answer) -> bool
+        ensures { result ≡ files answer.now };
+
+    // The operation is the call's effect on the shard, or the shard is unchanged.
     ghost right: { (call : Self) (before : Seen) (answer : Self.Answer) (room : Self.Room) (after : Seen) → is_of call before → Self.does call before answer room after
-        → IsOperationOf of_job (operation before.index call answer room) before after };
+        → IsFiledAs (files answer) of_job (operation before.index call answer room) before after };
 }
 
 /// The name of an operation, by an answer and the contents of a buffer.
@@ -107,9 +113,10 @@ impl<J: ServerName, P: Part> FiledShard<J, P> {
         }
     }
 
-    /// Makes a call of the shard, and files it.
+    /// Makes a call of the shard, and files it if its answer says so.
     ///
-    /// The entry has the result, and the contents of `room` after the call.
+    /// The entry has the result, and the contents of `room` after the call. A call of a job is for
+    /// the one whose track is first, and begins no track.
     pub fn ask<C: FiledCall>(
         &mut self,
         book: &ServerBook<J>,
@@ -123,9 +130,21 @@ impl<J: ServerName, P: Part> FiledShard<J, P> {
         requires may { C.may_ask call self.old.shard }
         requires thread { HasOwnTrack J.first_job who tracks.old }
         requires job { C.of_job ≡ true → HasJobFirst J.first_job tracks.old }
-        ensures filed { tracks.new ≡ did_by who (C.operation self.old.shard.index call result room.new) tracks.old }
+        ensures does { C.does call self.old.shard result room.new self.new.shard }
+        ensures kept { KeepsShard (C.changes result) self.old.shard self.new.shard }
+        ensures filed { tracks.new ≡ did_if (C.files result) who (C.operation self.old.shard.index call result room.new) tracks.old }
     {
         ask_as::<C, J, P, Brand>(self, book, tracks, who, call, room)
+    }
+
+    /// Makes a call that leaves the shard unchanged, and files nothing.
+    pub fn inspect<C: ShardCall>(&mut self, call: C, room: &mut C::Room) -> C::Answer
+        requires may { C.may_ask call self.old.shard }
+        requires unchanged { (before after : Seen) (answer : C.Answer) (room : C.Room) → C.does call before answer room after → after ≡ before }
+        ensures does { C.does call self.old.shard result room.new self.old.shard }
+        ensures unchanged { self.new ≡ self.old }
+    {
+        call.call(&mut self.shard, room)
     }
 
     /// Leases the first pending notification at `now` ms, and files that.
@@ -160,31 +179,6 @@ impl<J: ServerName, P: Part> FiledShard<J, P> {
             job,
         );
         is_due
-    }
-
-    /// Advances the shard to `now` ms if it is idle then, and files that.
-    ///
-    /// See [`Shard::advance_if_idle`]. Returns whether the shard was advanced. Otherwise it stays
-    /// as it is, and nothing is filed.
-    pub fn advance_if_idle(
-        &mut self,
-        book: &ServerBook<J>,
-        tracks: &mut ServerTracks<J>,
-        who: u64,
-        now: u64,
-    ) -> bool
-        requires same { P.table ≡ J.table }
-        requires thread { HasOwnTrack J.first_job who tracks.old }
-        ensures filed { MatchBool result
-            (tracks.new ≡ did_by who (Logged (AdvancesIdle self.old.shard.index now)) tracks.old)
-            ((tracks.new ≡ tracks.old) × (self.new ≡ self.old)) }
-        ensures busy { result ≡ false → PassesIfIdle now self.old.shard false self.new.shard }
-    {
-        let is_idle = AdvanceIfIdle { now }.call(&mut self.shard, &mut ());
-        if is_idle {
-            file_idle::<Brand, J, P>(book, tracks, &mut self.track, who, &self.shard, now);
-        }
-        is_idle
     }
 
     /// Takes a snapshot of a request's slot unless the slot's program is expensive.
@@ -262,17 +256,21 @@ fn ask_as<C: FiledCall, J: ServerName, P: Part, X: OperationName<C::Answer, C::R
     requires may { C.may_ask call this.old.shard }
     requires thread { HasOwnTrack J.first_job who tracks.old }
     requires job { C.of_job ≡ true → HasJobFirst J.first_job tracks.old }
-    ensures filed { tracks.new ≡ did_by who (C.operation this.old.shard.index call result room.new) tracks.old }
+    ensures does { C.does call this.old.shard result room.new this.new.shard }
+    ensures kept { KeepsShard (C.changes result) this.old.shard this.new.shard }
+    ensures filed { tracks.new ≡ did_if (C.files result) who (C.operation this.old.shard.index call result room.new) tracks.old }
 {
     let answer = call.call(&mut this.shard, room);
-    file_answer::<Brand, J, P, C::Answer, C::Room, X>(
-        book,
-        tracks,
-        &mut this.track,
-        who,
-        &answer,
-        room,
-    );
+    if C::is_filed(&answer) {
+        file_answer::<Brand, J, P, C::Answer, C::Room, X>(
+            book,
+            tracks,
+            &mut this.track,
+            who,
+            &answer,
+            room,
+        );
+    }
     answer
 }
 
@@ -344,29 +342,6 @@ fn file_due<X: FiledName, J: ServerName, P: Part>(
     let _ = now;
     let _ = is_due;
     let _ = job;
-    file_as::<X, J, P>(book, tracks, track, who);
-}
-
-/// Files that an idle shard was advanced, with the entry named by `X`.
-///
-/// See [`FiledShard::advance_if_idle`]. Only the clauses use the shard and the time.
-fn file_idle<X: FiledName, J: ServerName, P: Part>(
-    book: &ServerBook<J>,
-    tracks: &mut ServerTracks<J>,
-    track: &mut FiledTrack<P>,
-    who: u64,
-    shard: &Shard,
-    now: u64,
-)
-    requires entry { X.entry ≡ entry_by who tracks.old (Logged (AdvancesIdle shard.now.index now)) }
-    requires same { P.table ≡ J.table }
-    requires part { shard.now.index + 1 ≡ P.key }
-    requires may { MayFile J.first_job who tracks.old (Logged (AdvancesIdle shard.now.index now)) }
-    ensures track { track.new ≡ track.old ++ X.entry ∷ [] }
-    ensures filed { tracks.new ≡ did_by who X.entry.operation tracks.old }
-{
-    let _ = shard;
-    let _ = now;
     file_as::<X, J, P>(book, tracks, track, who);
 }
 

@@ -1,7 +1,6 @@
 -- Pools and their drivers.
 use Rattle.std.proofs.Common.{◌≡◌, ℕ, Bool, List, Option, Result, Ok, Err, OnOk}
 use Rattle.std.specs.Prelude.{⊤}
-use Rattle.fc_core.specs.Exchanges.{FrontState}
 use Rattle.fc_server.specs.declared.server.Begin.{Begin}
 use Rattle.fc_workers.specs.Fronts.{beginning}
 use Rattle.fc_server.specs.Ingresses.{IngressCalls}
@@ -9,15 +8,16 @@ use Rattle.fc_service.specs.Playing.{IsFedByLines, IsPlayedBeside}
 use Rattle.fc_service.specs.Pooled.{PooledIngress, IsFedBeside, offload_where, locked_view, pooled_calls}
 use Rattle.fc_service.specs.declared.replies.Replies.{Replies}
 use Rattle.fc_workers.specs.Called.{WorkerView}
+use Rattle.fc_workers.specs.declared.closed.ClosedServer.{ClosedServer}
 use Rattle.fc_workers.specs.declared.dispatcher.Offload.{Offload}
 use Rattle.fc_workers.specs.declared.dispatcher.Offload.TheVariants.{Every}
 
 -- the same for another driver and its result.
 pub fed_as : {T : Type 0} {F G X Y : Type 0} (s : WorkerView T) (Drives : IngressCalls (PooledIngress T) → F → PooledIngress T → PooledIngress T → X → Type 0) (Told : IngressCalls (PooledIngress T) → G → PooledIngress T → PooledIngress T → Y → Type 0)
-    (begin : Begin) (offload : Offload) (workers : ℕ) (driver : F) (given : X) (other : G) (told : Y) (replies : Replies) (front : FrontState)
+    (begin : Begin) (offload : Offload) (workers : ℕ) (driver : F) (given : X) (other : G) (told : Y) (replies : Replies) (closed : ClosedServer)
     → ((first last : PooledIngress T) → Drives (pooled_calls s) driver first last given → Told (pooled_calls s) other first last told)
-    → IsFedBeside s Drives begin offload workers driver given replies front → IsFedBeside s Told begin offload workers other told replies front
-fed_as s Drives Told begin offload workers driver given other told replies front lifts w =
+    → IsFedBeside s Drives begin offload workers driver given replies closed → IsFedBeside s Told begin offload workers other told replies closed
+fed_as s Drives Told begin offload workers driver given other told replies closed lifts w =
     let f = w.fed.fed in
     record {
       own = w.own;
@@ -33,9 +33,9 @@ fed_as s Drives Told begin offload workers driver given other told replies front
     }
 
 -- lines that a driver played with workers, if it played them to the end.
-pub played_beside : {F E : Type 0} (begin : Begin) (workers : ℕ) (lines : F → Option (List ℕ)) (driver : F) (r : Result (Unit {0}) E) (has_workers : Bool) (replies : Replies) (front : FrontState)
+pub played_beside : {F E : Type 0} (begin : Begin) (workers : ℕ) (lines : F → Option (List ℕ)) (driver : F) (r : Result (Unit {0}) E) (has_workers : Bool) (replies : Replies) (closed : ClosedServer)
     → IsFedBeside (locked_view (beginning begin.policy begin.id) (λ readings before after. ⊤) (λ now before after. ⊤) (λ random. ⊤) (λ call before after. ⊤) (λ change before after. after ≡ before))
-    (λ calls f first last given. OnOk given (IsFedByLines calls (lines f) first)) begin (offload_where has_workers Every) workers driver r replies front
+    (λ calls f first last given. OnOk given (IsFedByLines calls (lines f) first)) begin (offload_where has_workers Every) workers driver r replies closed
     → OnOk r ((workers_begun : Bool) × (counted : Replies) × IsPlayedBeside begin (offload_where workers_begun Every) workers (lines driver) counted)
-played_beside begin workers lines driver (Ok x) has_workers replies front w = (has_workers, replies, (front, fed_as _ _ _ begin _ workers driver (Ok x) (lines driver) (tt {0}) replies front (λ first last fed. fed) w))
-played_beside begin workers lines driver (Err e) has_workers replies front w = tt
+played_beside begin workers lines driver (Ok x) has_workers replies closed w = (has_workers, replies, (closed, fed_as _ _ _ begin _ workers driver (Ok x) (lines driver) (tt {0}) replies closed (λ first last fed. fed) w))
+played_beside begin workers lines driver (Err e) has_workers replies closed w = tt

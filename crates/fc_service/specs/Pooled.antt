@@ -5,7 +5,6 @@ use Rattle.std.specs.Borrow.{Bor}
 use Rattle.coap_msg.specs.declared.types.Emission.{Emission}
 use Rattle.coap_msg.specs.declared.types.Endpoint.{Endpoint}
 use Rattle.fc_core.specs.declared.front.Handled.{Handled}
-use Rattle.fc_core.specs.Exchanges.{FrontState}
 use Rattle.fc_observe.specs.declared.observers.Ticked.{Ticked}
 use Rattle.fc_server.specs.Notified.{Notified, is_given, notification_in}
 use Rattle.fc_workers.specs.Answers.{IsSomeIdle, IsSomeTick}
@@ -18,6 +17,7 @@ use Rattle.fc_workers.specs.Dispatch.{HasCalled, IsTakenIn, IsTurnAsked}
 use Rattle.fc_workers.specs.Shares.{AreSharesOf, new_share}
 use Rattle.fc_jobs.specs.Ends.{Channel, nothing_got, nothing_sent}
 use Rattle.fc_workers.specs.declared.call_log.CallLog.{CallLog}
+use Rattle.fc_workers.specs.declared.closed.ClosedServer.{ClosedServer}
 use Rattle.fc_workers.specs.Logs.{TrackedLog}
 use Rattle.fc_workers.specs.OneOrder.{HaveOneOrder, IsNewLog, logs_of}
 use Rattle.fc_workers.specs.Workers.{Dispatched, WorkerSeed, Share}
@@ -109,14 +109,15 @@ module _ {T : Type 0} (s : WorkerView T) where
 
   -- the driver fed the dispatcher in this way, with this number of workers. The replies are those
   -- of the dispatcher's own jobs and of the workers'. The calls that the workers and the dispatcher
-  -- filed have one order, and the front's led from the server's first front to this one.
-  pub record IsFedBeside {F X : Type 0} (Drives : IngressCalls (PooledIngress T) → F → PooledIngress T → PooledIngress T → X → Type 0) (begin : Begin) (offload : Offload) (workers : ℕ) (driver : F) (given : X) (replies : Replies) (front : FrontState) : Type 0 where
+  -- filed have one order. The front's, and each shard's, led from the first one of the server to the
+  -- closed server's.
+  pub record IsFedBeside {F X : Type 0} (Drives : IngressCalls (PooledIngress T) → F → PooledIngress T → PooledIngress T → X → Type 0) (begin : Begin) (offload : Offload) (workers : ℕ) (driver : F) (given : X) (replies : Replies) (closed : ClosedServer) : Type 0 where
     pub own : Share T
     pub shares : List (Share T)
     pub fed : IsFed Drives offload driver given own shares
     pub count : length shares ≡ workers
     pub counted : replies ≡ both_replies (replies_of shares) (replies_by own)
-    pub order : HaveOneOrder begin (logs_of shares own) front
+    pub order : HaveOneOrder begin (logs_of shares own) closed
 
 -- a worker context whose jobs are never delayed.
 abbrev pub open_view : {T : Type 0} → (T → ℕ → ℕ) → (T → ℕ) → (BenchCall → Type 0) → (LoggedCall → TrackedLog → TrackedLog → Type 0)

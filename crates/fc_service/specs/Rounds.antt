@@ -10,7 +10,7 @@ use Rattle.fc_workers.specs.declared.call_log.CallLog.{CallLog}
 use Rattle.fc_workers.specs.Called.{WorkerView}
 use Rattle.fc_workers.specs.Fronts.{Beginning, beginning}
 use Rattle.fc_workers.specs.OneOrder.{HaveOneOrder, logs_of}
-use Rattle.fc_core.specs.Exchanges.{FrontState}
+use Rattle.fc_workers.specs.declared.closed.ClosedServer.{ClosedServer}
 use Rattle.fc_server.specs.Ingresses.{IngressCalls}
 use Rattle.fc_server.specs.Serving.{Serves}
 use Rattle.fc_server.specs.Flushing.{AreIdleUntil, AreFlushed, AreStepsBy, FlushingStep, sent_in_steps}
@@ -198,8 +198,8 @@ served_view sensors e Recorded begin = locked_view begin (AreReadAt e.time senso
 -- this number of datagrams was received, each in a round of one dispatcher, which began new. Runs
 -- of 6,000 instructions and more may be sent to the workers, or no job if no worker was started.
 -- The replies are those of the rounds, of the jobs of this number of workers, and of the
--- dispatcher's jobs. The calls that the workers and the dispatcher filed have one order, and the
--- front's led from the server's first front to its last.
+-- dispatcher's jobs. The calls that the workers and the dispatcher filed have one order. The front's,
+-- and each shard's, led from the first one of the server to a closed server's.
 pub record HasServedPooled (every : Option ℕ) (Reported : Report → CallLog → CallLog → Type 0) (sensors : List ℕ → Type 0) (e : RoundCalls) (Recorded : Requested → CallLog → CallLog → Type 0) (workers limit : ℕ) (begin : Begin) (before after : Option (List Receive)) (replies : Replies) : Type 0 where
   pub channel : Channel
   pub first : PooledIngress Tallies
@@ -212,8 +212,8 @@ pub record HasServedPooled (every : Option ℕ) (Reported : Report → CallLog �
   pub worked : AreSharesAt (served_view sensors e Recorded (beginning begin.policy begin.id)) channel shares
   pub count : length shares ≡ workers
   pub all : replies ≡ both_replies at_once (both_replies (replies_of shares) (replies_by last.done.share))
-  pub front : FrontState
-  pub order : HaveOneOrder begin (logs_of shares last.done.share) front
+  pub closed : ClosedServer
+  pub order : HaveOneOrder begin (logs_of shares last.done.share) closed
 
 -- ---- a server with this number of workers: one is the receiving thread. Its slots begin at the
 -- serial of its start

@@ -242,7 +242,7 @@ pub fn run_pool<
     requires { CanBegin pool.now.begin }
     ensures counted { IfOk result (λ fed. HasCountedAll fed.closed) }
     ensures fed { let worker_view = locked_view (beginning pool.now.begin.policy pool.now.begin.id) D.are_readings M.is_time M.is_random W.called C.recorded in
-        IfOk result (λ fed. IsFedBeside worker_view (F.drives _) pool.now.begin (offload_where fed.has_workers pool.now.offload) pool.now.workers driver fed.given fed.replies fed.closed.front) }
+        IfOk result (λ fed. IsFedBeside worker_view (F.drives _) pool.now.begin (offload_where fed.has_workers pool.now.offload) pool.now.workers driver fed.given fed.replies fed.closed) }
 {
     let blanks = Blanks::new(u64::from(pool.workers) + 2);
     let book = NewServerBook::new(alloc, u16::from(pool.workers) + 1)?;
@@ -281,7 +281,7 @@ fn run_named<
     requires book_begin { B.begin ≡ pool.now.begin }
     ensures counted { IfOk result (λ fed. HasCountedAll fed.closed) }
     ensures fed { let worker_view = locked_view B.first D.are_readings M.is_time M.is_random W.called C.recorded in
-        IfOk result (λ fed. IsFedBeside worker_view (F.drives _) pool.now.begin (offload_where fed.has_workers pool.now.offload) pool.now.workers driver fed.given fed.replies fed.closed.front) }
+        IfOk result (λ fed. IsFedBeside worker_view (F.drives _) pool.now.begin (offload_where fed.has_workers pool.now.offload) pool.now.workers driver fed.given fed.replies fed.closed) }
 {
     let Begun {
         server,
@@ -351,7 +351,7 @@ fn close<B: Books, D: Device, X: Drop>(
     ensures given { result.given ≡ ended.given }
     ensures workers { result.has_workers ≡ ended.has_workers }
     ensures replies { result.replies ≡ both_replies (replies_of ended.shares.items) (replies_by ended.own) }
-    ensures order { 9 + (vec_len ended.shares + 1) ≡ B.first_job → HaveOneOrder B.begin (logs_of ended.shares.items ended.own) result.closed.front }
+    ensures order { 9 + (vec_len ended.shares + 1) ≡ B.first_job → HaveOneOrder B.begin (logs_of ended.shares.items ended.own) result.closed }
 {
     let Ended {
         given,

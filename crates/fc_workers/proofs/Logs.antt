@@ -1,5 +1,5 @@
 -- A worker keeps its tracks when a call is filed.
-use Rattle.std.proofs.Common.{◌≡◌, ℕ, ◌≤◌, List, [], ◌∷◌, subst, sym}
+use Rattle.std.proofs.Common.{◌≡◌, ℕ, ◌≤◌, Bool, true, false, List, [], ◌∷◌, subst, sym}
 use Rattle.fc_book.specs.declared.view.Track.{Track}
 use Rattle.fc_book.specs.declared.view.BookView.{BookView}
 use Rattle.fc_book.specs.Tracks.{with_entry}
@@ -7,7 +7,7 @@ use Rattle.fc_book.proofs.Keys.{keeps-key}
 use Rattle.fc_linear.specs.Operations.{Operation}
 use Rattle.fc_filed.specs.declared.entry.FiledEntry.{FiledEntry}
 use Rattle.fc_filed.specs.Entries.{entry_keys}
-use Rattle.fc_filed.specs.Threads.{did_by, entry_by, key_of_first}
+use Rattle.fc_filed.specs.Threads.{did_by, did_if, entry_by, key_of_first}
 use Rattle.fc_workers.specs.Logs.{MayFileAll}
 
 first_with : (first_job : ℕ) (e : FiledEntry) (ts : List (Track FiledEntry)) → first_job ≤ key_of_first ts → first_job ≤ key_of_first (with_entry entry_keys e ts)
@@ -24,3 +24,9 @@ keeps_tracks first_job who operation before is h =
       job = first_with first_job e before.own h.job;
       begins_none = h.begins_none;
     })
+
+-- the same after a call that is filed or isn't.
+pub keeps_tracks_if : (first_job who : ℕ) (files : Bool) (operation : Operation) (before : BookView FiledEntry) {after : BookView FiledEntry} → after ≡ did_if files who operation before
+    → MayFileAll first_job who before → MayFileAll first_job who after
+keeps_tracks_if first_job who true operation before is h = keeps_tracks first_job who operation before is h
+keeps_tracks_if first_job who false operation before is h = subst (λ (v : BookView FiledEntry). MayFileAll first_job who v) (sym is) h

@@ -1,29 +1,71 @@
 -- The tracks of all threads of a closed server are one order of their calls.
-use Rattle.std.proofs.Common.{◌≡◌, ◌≢◌, ℕ, zero, suc, ◌+◌, ◌<◌, List, [], ◌∷◌, length, map, refl, sym, ◌∙◌, subst, inl, inr, arith}
+use Rattle.std.proofs.Common.{◌≡◌, ◌≢◌, ℕ, zero, suc, ◌+◌, ◌<◌, List, [], ◌∷◌, add-zero, length, map, refl, sym, ◌∙◌, subst, inl, inr, arith, zero-add}
 use Rattle.std.specs.Prelude.{slice_index_or}
 use Rattle.std.specs.List.{All, Any}
 use Rattle.std.proofs.lemmas.List.{length-map}
 use Rattle.std.proofs.lemmas.List.Elements.{All-cons, All-head, All-nil, All-tail, All-weaker}
 use Rattle.fc_book.specs.declared.view.BookView.{BookView}
 use Rattle.fc_book.specs.declared.view.Track.{Track}
-use Rattle.fc_book.specs.Tracks.{AreOn, AreSingle, HasKey, on, part_view, with_part}
+use Rattle.fc_book.specs.Tracks.{AreOn, AreSingle, HasKey, on}
 use Rattle.fc_book.proofs.Numbers.{AreApart, AreBetween, HasNumber, all_among}
 use Rattle.fc_book.proofs.Owners.{entries_at_key, has_left, has_right, on_both, single_apart, single_rest}
-use Rattle.fc_core.specs.Exchanges.{FrontState}
+use Rattle.fc_registry.specs.Shards.{shard_at}
+use Rattle.fc_registry.specs.Slots.{Shard}
 use Rattle.fc_server.specs.declared.server.Begin.{Begin}
-use Rattle.fc_linear.specs.Operations.{FrontDoes}
+use Rattle.fc_linear.specs.Operations.{FrontDoes, Operation, ShardDoes}
 use Rattle.fc_linear.specs.Parts.{first_server}
 use Rattle.fc_filed.specs.declared.entry.FiledEntry.{FiledEntry}
 use Rattle.fc_filed.specs.Books.{HasServerHistory}
 use Rattle.fc_filed.specs.Entries.{AreKeyed, IsKeyed, OperationsLead, entries_by, entry_keys}
 use Rattle.fc_filed.specs.Threads.{HasOwnTrack}
-use Rattle.fc_filed.proofs.ByThread.{all_keyed, front_track, thread_track}
+use Rattle.fc_filed.specs.Tracked.{IsPartClosed}
+use Rattle.fc_filed.proofs.ByThread.{all_keyed, front_track, shard_track, thread_track}
+use Rattle.fc_workers.specs.declared.closed.ClosedServer.{ClosedServer}
 use Rattle.fc_workers.specs.Logs.{TrackedLog}
 use Rattle.fc_workers.specs.OneOrder.{HasTracksOf, HaveOneOrder, filed_in}
 use Rattle.fc_workers.proofs.Merged.{tracks_in}
 
 abbrev threads_of : List TrackedLog → List ℕ
 threads_of logs = map (λ (log : TrackedLog). log.who) logs
+
+-- ---- the parts
+
+-- a closed part's track is that of its entries in the list, which led the part.
+module _ (calls : List FiledEntry) where
+  part_led : {S : Type 0} (Does : Operation → S → S → Type 0) (k : ℕ) (x y : S) (v w : BookView FiledEntry) → IsPartClosed Does k x y v w → AreOn entry_keys calls w.own
+      → OperationsLead Does (on entry_keys k calls) x y × AreOn entry_keys calls v.own
+  part_led Does k x y v w c a =
+      let b = subst (λ (u : BookView FiledEntry). AreOn entry_keys calls u.own) c.closed a in
+      (subst (λ (es : List FiledEntry). OperationsLead Does es x y) b.0 c.led, b.1)
+
+part_apart : {S : Type 0} (Does : Operation → S → S → Type 0) (k : ℕ) (x y : S) (v w : BookView FiledEntry) → IsPartClosed Does k x y v w → AreSingle w.own → AreSingle v.own
+part_apart Does k x y v w c a = let b = subst (λ (u : BookView FiledEntry). AreSingle u.own) c.closed a in b.1
+
+-- shards are closed one after the other, from the one with this index on.
+module _ (firsts : List Shard) where
+  abbrev pub AreShardsClosed : ℕ → List Shard → BookView FiledEntry → BookView FiledEntry → Type 0
+  AreShardsClosed i [] v w = w ≡ v
+  AreShardsClosed i (s ∷ ss) v w = (m : BookView FiledEntry) × IsPartClosed ShardDoes (i + 1) (shard_at firsts i) s v m × AreShardsClosed (suc i) ss m w
+
+  shards_apart : (i : ℕ) (shards : List Shard) (v w : BookView FiledEntry) → AreShardsClosed i shards v w → AreSingle w.own → AreSingle v.own
+  shards_apart i [] v w is a = subst (λ (u : BookView FiledEntry). AreSingle u.own) is a
+  shards_apart i (s ∷ ss) v w (m, c, rest) a = part_apart ShardDoes (i + 1) (shard_at firsts i) s v m c (shards_apart (suc i) ss m w rest a)
+
+  module _ (calls : List FiledEntry) where
+    abbrev IsLed : ℕ → Shard → Type 0
+    IsLed i shard = OperationsLead ShardDoes (on entry_keys (i + 1) calls) (shard_at firsts i) shard
+
+    shards_led : (i : ℕ) (shards : List Shard) (v w : BookView FiledEntry) → AreShardsClosed i shards v w → AreOn entry_keys calls w.own
+        → AreOn entry_keys calls v.own × ((j : ℕ) → j < length shards → IsLed (i + j) (shard_at shards j))
+    shards_led i [] v w is a = (subst (λ (u : BookView FiledEntry). AreOn entry_keys calls u.own) is a, λ j lt. absurd (omega (arith, lt)))
+    shards_led i (s ∷ ss) v w (m, c, rest) a =
+        let later = shards_led (suc i) ss m w rest a in
+        let here = part_led calls ShardDoes (i + 1) (shard_at firsts i) s v m c later.0 in
+        (here.1, at here.0 later.1)
+      where
+        at : IsLed i s → ((j : ℕ) → j < length ss → IsLed (suc i + j) (shard_at ss j)) → (j : ℕ) → j < length (s ∷ ss) → IsLed (i + j) (shard_at (s ∷ ss) j)
+        at first others zero lt = subst (λ (k : ℕ). IsLed k s) (sym (add-zero i)) first
+        at first others (suc j) lt = subst (λ (k : ℕ). IsLed k (shard_at ss j)) (omega arith) (others j (omega (arith, lt)))
 
 -- ---- the threads
 
@@ -81,19 +123,24 @@ module _ (first_job : ℕ) where
       (λ e k. any_log e.who logs (all_among 9 first_job (threads_of logs) e.who (between logs own) single (omega (arith, count, length-map logs (λ (log : TrackedLog). log.who))) k.who.0 k.who.1))
       calls (all_keyed first_job calls keyed)
 
-  pub one_order : (begin : Begin) (logs : List TrackedLog) (v w : BookView FiledEntry) (entries : List FiledEntry) (front : FrontState) → HasTracksOf first_job logs v → 9 + length logs ≡ first_job
-      → OperationsLead FrontDoes entries (first_server begin).front front → w ≡ with_part v (part_view 0 entries) → HasServerHistory first_job w → HaveOneOrder begin logs front
-  one_order begin logs v w entries front has count leads is h =
-      let all : HasServerHistory first_job (with_part v (part_view 0 entries)) = subst (λ (u : BookView FiledEntry). HasServerHistory first_job u) is h in
-      let own = all.is.own in
-      let on_logs : AreOn entry_keys all.log (tracks_in logs) = subst (λ ts. AreOn entry_keys all.log ts) has.tracks own.1 in
-      let single : AreSingle (tracks_in logs) = subst (λ (ts : List (Track FiledEntry)). AreSingle ts) has.tracks all.is.single.1 in
+  pub one_order : (begin : Begin) (logs : List TrackedLog) (v m w : BookView FiledEntry) (closed : ClosedServer) → HasTracksOf first_job logs v → 9 + length logs ≡ first_job
+      → IsPartClosed FrontDoes 0 (first_server begin).front closed.front v m → AreShardsClosed (first_server begin).shards 0 closed.shards m w → length closed.shards ≡ 8
+      → HasServerHistory first_job w → HaveOneOrder begin logs closed
+  one_order begin logs v m w closed has count front shards eight h =
+      let firsts = (first_server begin).shards in
+      let each = shards_led firsts h.log 0 closed.shards m w shards h.is.own in
+      let first = part_led h.log FrontDoes 0 (first_server begin).front closed.front v m front each.0 in
+      let on_logs : AreOn entry_keys h.log (tracks_in logs) = subst (λ ts. AreOn entry_keys h.log ts) has.tracks first.1 in
+      let alone = part_apart FrontDoes 0 (first_server begin).front closed.front v m front (shards_apart firsts 0 closed.shards m w shards h.is.single) in
+      let single : AreSingle (tracks_in logs) = subst (λ (ts : List (Track FiledEntry)). AreSingle ts) has.tracks alone in
       let threads : AreApart (threads_of logs) = apart logs has.threads single in
       record {
-        calls = all.log;
+        calls = h.log;
         tracks = All-weaker HasOwn (λ (log : TrackedLog). HasKey log.who log.tracks.own) (λ log o. o.own) logs has.threads;
-        own = own_calls all.log logs all.keyed has.threads on_logs;
+        own = own_calls h.log logs h.keyed has.threads on_logs;
         apart = apart_at logs threads;
-        callers = by_threads all.log logs all.keyed has.threads threads count;
-        front_led = subst (λ (es : List FiledEntry). OperationsLead FrontDoes es (first_server begin).front front) (own.0 ∙ front_track first_job all.log all.keyed) leads;
+        callers = by_threads h.log logs h.keyed has.threads threads count;
+        front_led = subst (λ (es : List FiledEntry). OperationsLead FrontDoes es (first_server begin).front closed.front) (front_track first_job h.log h.keyed) first.0;
+        shards_led = λ i lt. subst (λ (es : List FiledEntry). OperationsLead ShardDoes es (shard_at firsts i) (shard_at closed.shards i)) (shard_track first_job i lt h.log h.keyed)
+            (subst (λ (k : ℕ). IsLed firsts h.log k (shard_at closed.shards i)) (zero-add i) (each.1 i (omega (arith, lt, eight))));
       }

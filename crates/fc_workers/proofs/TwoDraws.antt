@@ -1,6 +1,6 @@
 -- Two calls of two threads have one of two orders; two draws of message IDs have two IDs.
 use Rattle.std.proofs.Common.{◌≡◌, ◌≢◌, ◌⊎◌, ℕ, zero, suc, max, ◌+◌, ◌%◌, ◌<◌, Bool, true, false, List, [], ◌∷◌, Some, None, Option, refl, sym, ap, ◌∙◌, subst, ⊎_elim, inl, inr, arith}
-use Rattle.std.specs.Prelude.{◌==◌, slice_index_or, slice_set}
+use Rattle.std.specs.Prelude.{◌==◌, if◌then◌else◌, slice_index_or, slice_set}
 use Rattle.std.specs.List.{AllByRecursion, Any, filter}
 use Rattle.std.proofs.lemmas.Bool.Decides.{nat_tests}
 use Rattle.std.proofs.lemmas.List.{get_or-replicate, get_or-set_other}
@@ -11,9 +11,10 @@ use Rattle.fc_core.specs.declared.policy.Policy.{Policy}
 use Rattle.fc_calls.specs.Doings.{DrawsAt}
 use Rattle.fc_calls.specs.Logged.{DrawsId}
 use Rattle.fc_server.specs.declared.server.Begin.{Begin}
-use Rattle.fc_linear.specs.Operations.{FrontDoes, Logged}
+use Rattle.fc_linear.specs.Operations.{FrontDoes, Logged, is_front, part_of}
 use Rattle.fc_filed.specs.declared.entry.FiledEntry.{FiledEntry}
 use Rattle.fc_filed.specs.Entries.{OperationsLead, entries_by, front_entries}
+use Rattle.fc_workers.specs.declared.closed.ClosedServer.{ClosedServer}
 use Rattle.fc_workers.specs.Logs.{TrackedLog}
 use Rattle.fc_workers.specs.OneOrder.{HaveOneOrder, filed_in}
 
@@ -85,16 +86,46 @@ tests w v e not who = ⊎_elim
     (λ (is : v ≡ e.who). inr (differ w e.who (λ h. not (h ∙ sym is)), same v e.who is))
     who
 
-pub two_orders : (begin : Begin) (one other : TrackedLog) (front : FrontState) (x y : FiledEntry) (h : HaveOneOrder begin (one ∷ other ∷ []) front) → filed_in one ≡ x ∷ [] → filed_in other ≡ y ∷ []
-    → (h.calls ≡ x ∷ y ∷ []) ⊎ (h.calls ≡ y ∷ x ∷ [])
-two_orders begin one other front x y h is also =
-    let not : one.who ≢ other.who = h.apart 0 1 one (omega arith) (omega arith) in
-    let mine : filed_in one ≡ entries_by one.who h.calls = h.own 0 one (omega arith) in
-    let theirs : filed_in other ≡ entries_by other.who h.calls = h.own 1 one (omega arith) in
-    two_left (λ (e : FiledEntry). e.who == one.who) (λ (e : FiledEntry). e.who == other.who) x y h.calls
-    (recursion_from_All (PassesOne (λ (e : FiledEntry). e.who == one.who) (λ (e : FiledEntry). e.who == other.who)) h.calls
-    (λ k d lt. tests one.who other.who (slice_index_or h.calls k d) not (by_one one other (slice_index_or h.calls k d).who (h.callers k d lt))))
-    (sym mine ∙ is) (sym theirs ∙ also)
+-- ---- the calls that pass a test
+
+module _ (p : FiledEntry → Bool) where
+  filter_if : (b : Bool) (e : FiledEntry) (es : List FiledEntry) → filter p (if b then e ∷ es else es) ≡ (if b then (if p e then e ∷ filter p es else filter p es) else filter p es)
+  filter_if true e es = refl
+  filter_if false e es = refl
+
+  swapped_if : (a b : Bool) (e : FiledEntry) (xs ys : List FiledEntry) → xs ≡ ys → (if b then (if a then e ∷ xs else xs) else xs) ≡ (if a then (if b then e ∷ ys else ys) else ys)
+  swapped_if true true e xs ys is = λ i. e ∷ is i
+  swapped_if true false e xs ys is = is
+  swapped_if false true e xs ys is = is
+  swapped_if false false e xs ys is = is
+
+-- two tests, in either order.
+either_order : (p q : FiledEntry → Bool) (es : List FiledEntry) → filter p (filter q es) ≡ filter q (filter p es)
+either_order p q [] = refl
+either_order p q (e ∷ es) = filter_if p (q e) e (filter q es) ∙ (swapped_if p (p e) (q e) e (filter p (filter q es)) (filter q (filter p es)) (either_order p q es) ∙ sym (filter_if q (p e) e (filter p es)))
+
+module _ (p : FiledEntry → Bool) where
+  also_kept : (P : FiledEntry → Type 0) (e : FiledEntry) (es : List FiledEntry) (b : Bool) → P e → AllByRecursion P es → AllByRecursion P (if b then e ∷ es else es)
+  also_kept P e es true h rest = (h, rest)
+  also_kept P e es false h rest = rest
+
+  all_kept : (P : FiledEntry → Type 0) (es : List FiledEntry) → AllByRecursion P es → AllByRecursion P (filter p es)
+  all_kept P [] h = tt
+  all_kept P (e ∷ es) h = also_kept P e (filter p es) (p e) h.0 (all_kept P es h.1)
+
+  -- each thread has filed one call that passes the test: these are in one of two orders.
+  pub two_orders : (begin : Begin) (one other : TrackedLog) (closed : ClosedServer) (x y : FiledEntry) (h : HaveOneOrder begin (one ∷ other ∷ []) closed) → filter p (filed_in one) ≡ x ∷ [] → filter p (filed_in other) ≡ y ∷ []
+      → (filter p h.calls ≡ x ∷ y ∷ []) ⊎ (filter p h.calls ≡ y ∷ x ∷ [])
+  two_orders begin one other closed x y h is also =
+      let not : one.who ≢ other.who = h.apart 0 1 one (omega arith) (omega arith) in
+      let mine : filed_in one ≡ entries_by one.who h.calls = h.own 0 one (omega arith) in
+      let theirs : filed_in other ≡ entries_by other.who h.calls = h.own 1 one (omega arith) in
+      let by : ℕ → FiledEntry → Bool = λ who e. e.who == who in
+      two_left (by one.who) (by other.who) x y (filter p h.calls)
+      (all_kept (PassesOne (by one.who) (by other.who)) h.calls (recursion_from_All (PassesOne (by one.who) (by other.who)) h.calls
+      (λ k d lt. tests one.who other.who (slice_index_or h.calls k d) not (by_one one other (slice_index_or h.calls k d).who (h.callers k d lt)))))
+      (sym (either_order p (by one.who) h.calls) ∙ (ap (λ (es : List FiledEntry). filter p es) (sym mine) ∙ is))
+      (sym (either_order p (by other.who) h.calls) ∙ (ap (λ (es : List FiledEntry). filter p es) (sym theirs) ∙ also))
 
 -- ---- two draws
 
@@ -123,17 +154,17 @@ seven_and_eight policy a b front x y is also leads =
     (get_or-set_other no_draws 7 8 (Some 0) None (λ e. absurd (omega (arith, e))) ∙ not_drawn 8 (omega arith)) two in
     (first.0, second.0)
 
-pub two_ids : (policy : Policy) (serial : ℕ) (one other : TrackedLog) (j k a b : ℕ) (front : FrontState)
-    → HaveOneOrder (record { serial = serial; id = 7; policy = policy }) (one ∷ other ∷ []) front
-    → filed_in one ≡ record { who = one.who; job = j; operation = Logged (DrawsId 0 (Some a)) } ∷ []
-    → filed_in other ≡ record { who = other.who; job = k; operation = Logged (DrawsId 0 (Some b)) } ∷ []
+pub two_ids : (policy : Policy) (serial : ℕ) (one other : TrackedLog) (j k a b : ℕ) (closed : ClosedServer)
+    → HaveOneOrder (record { serial = serial; id = 7; policy = policy }) (one ∷ other ∷ []) closed
+    → front_entries (filed_in one) ≡ record { who = one.who; job = j; operation = Logged (DrawsId 0 (Some a)) } ∷ []
+    → front_entries (filed_in other) ≡ record { who = other.who; job = k; operation = Logged (DrawsId 0 (Some b)) } ∷ []
     → ((a ≡ 7) × (b ≡ 8)) ⊎ ((a ≡ 8) × (b ≡ 7))
-two_ids policy serial one other j k a b front h is also =
+two_ids policy serial one other j k a b closed h is also =
     let x : FiledEntry = record { who = one.who; job = j; operation = Logged (DrawsId 0 (Some a)) } in
     let y : FiledEntry = record { who = other.who; job = k; operation = Logged (DrawsId 0 (Some b)) } in
     ⊎_elim
-    (λ (e : h.calls ≡ x ∷ y ∷ []). inl (seven_and_eight policy a b front x y refl refl (subst (λ es. OperationsLead FrontDoes (front_entries es) (first_front policy 7) front) e h.front_led)))
-    (λ (e : h.calls ≡ y ∷ x ∷ []).
-    let r = seven_and_eight policy b a front y x refl refl (subst (λ es. OperationsLead FrontDoes (front_entries es) (first_front policy 7) front) e h.front_led) in
+    (λ (e : front_entries h.calls ≡ x ∷ y ∷ []). inl (seven_and_eight policy a b closed.front x y refl refl (subst (λ (es : List FiledEntry). OperationsLead FrontDoes es (first_front policy 7) closed.front) e h.front_led)))
+    (λ (e : front_entries h.calls ≡ y ∷ x ∷ []).
+    let r = seven_and_eight policy b a closed.front y x refl refl (subst (λ (es : List FiledEntry). OperationsLead FrontDoes es (first_front policy 7) closed.front) e h.front_led) in
     inr (r.1, r.0))
-    (two_orders (record { serial = serial; id = 7; policy = policy }) one other front x y h is also)
+    (two_orders (λ (e : FiledEntry). is_front (part_of e.operation)) (record { serial = serial; id = 7; policy = policy }) one other closed x y h is also)

@@ -1,7 +1,7 @@
 -- Contracts of the calls of a server with locks: the effect of each call, on the front or on the
 -- shard of an index. The state before a call isn't stated, since other threads change it between
 -- two calls.
-use Rattle.std.specs.Prelude.{◌≡◌, ℕ, ◌%◌, ◌<◌, true, false, List, replicate}
+use Rattle.std.specs.Prelude.{◌≡◌, ℕ, ◌%◌, ◌<◌, true, false, List, min, replicate}
 use Rattle.fc_core.specs.Exchanges.{FrontState}
 use Rattle.fc_workers.specs.Fronts.{BeganAt, Beginning}
 use Rattle.fc_workers.specs.declared.call_log.CallLog.{CallLog}
@@ -38,30 +38,35 @@ IsServerCall first (LooksAhead shard until) = IsAsked first shard (λ before aft
 abbrev pub IsFrontCall : FrontState → (FrontState → FrontState → Type 0) → LoggedCall → TrackedLog → TrackedLog → Type 0
 IsFrontCall first Does call before after = IsFrontAsked first Does × (after ≡ with_filed_call call before)
 
--- a call with this effect was made on the shard with this index. The log is unchanged.
-abbrev pub IsShardCall : Beginning → ℕ → (Shard → Shard → Type 0) → TrackedLog → TrackedLog → Type 0
-IsShardCall first index Does before after = IsAsked first index Does × (after ≡ before)
+-- a call with this effect was made on the shard with this index, and is filed: it is the last entry
+-- on the worker's own track.
+abbrev pub IsShardCall : Beginning → ℕ → (Shard → Shard → Type 0) → LoggedCall → TrackedLog → TrackedLog → Type 0
+IsShardCall first index Does call before after = IsAsked first index Does × (after ≡ with_filed_call call before)
+
+-- the index of the shard that is called: an index above 7 counts as 7.
+abbrev pub shard_called : ℕ → ℕ
+shard_called index = min index 7
 
 -- the meaning of a call in a worker's log: its readings are the device's, or the front or a shard
--- was called. The calls of the front are filed, and no others. The read of a head word and a raise
--- take no lock: their effects are stated of the worker's handle.
+-- was called. The calls of the front and of shards are filed, and no others. The read of a head word
+-- and a raise take no lock: their effects are stated of the worker's handle.
 abbrev pub IsLoggedCall : Beginning → (List ℕ → CallLog → CallLog → Type 0) → LoggedCall → TrackedLog → TrackedLog → Type 0
 IsLoggedCall first AreReadings (GivesReadings readings) before after = IsUnfiled (AreReadings readings) before after
-IsLoggedCall first AreReadings (TellsReceipt job receipt) before after = IsShardCall first (job.origin.slot % 8) (λ x y. DescribesTo job x receipt y) before after
+IsLoggedCall first AreReadings (TellsReceipt job receipt) before after = IsShardCall first (job.origin.slot % 8) (λ x y. DescribesTo job x receipt y) (TellsReceipt job receipt) before after
 IsLoggedCall first AreReadings (LooksAt slot word) before after = after ≡ before
 IsLoggedCall first AreReadings (HandlesDatagram now from bytes brings) before after = IsFrontCall first.front (HandlesAt now from bytes brings) (HandlesDatagram now from bytes brings) before after
 IsLoggedCall first AreReadings (AdvancesFront now) before after = IsFrontCall first.front (AdvancesTo now) (AdvancesFront now) before after
 IsLoggedCall first AreReadings (FiresTimer slot now) before after = IsFrontCall first.front (FiresAt now) (FiresTimer slot now) before after
 IsLoggedCall first AreReadings (DrawsId now drawn) before after = IsFrontCall first.front (DrawsAt now drawn) (DrawsId now drawn) before after
 IsLoggedCall first AreReadings (AnswersRequest now job content sent) before after = IsFrontCall first.front (AnswersAt now job content sent) (AnswersRequest now job content sent) before after
-IsLoggedCall first AreReadings (TakesForJob job readings taken) before after = IsShardCall first (job.origin.slot % 8) (λ x y. TakesTo job readings x taken y) before after
-IsLoggedCall first AreReadings (CommitsRun now ran ticket committed) before after = IsShardCall first (ticket.origin.slot % 8) (λ x y. CommitsAt now ran ticket x committed y) before after
-IsLoggedCall first AreReadings (InstallsProgram job program made) before after = IsShardCall first (job.origin.slot % 8) (λ x y. InstallsTo job program x made y) before after
-IsLoggedCall first AreReadings (RemovesProgram job removal) before after = IsShardCall first (job.origin.slot % 8) (λ x y. RemovesFrom job x removal y) before after
-IsLoggedCall first AreReadings (HandsSignal shard from message reset) before after = IsShardCall first shard (λ x y. HandsOn reset from message x y) before after
-IsLoggedCall first AreReadings (AdvancesIdle shard now) before after = IsShardCall first shard (λ x y. PassesIfIdle now x true y) before after
-IsLoggedCall first AreReadings (AdvancesShard shard now ticked) before after = IsShardCall first shard (λ x y. TicksAt now x ticked y) before after
-IsLoggedCall first AreReadings (GivesTurn shard now turn) before after = IsShardCall first shard (λ x y. GivesTurnAt now x turn y) before after
-IsLoggedCall first AreReadings (NotesTurn turn message now random told noted) before after = IsShardCall first (turn.slot % 8) (λ x y. NotesAt turn message now random told x noted y) before after
-IsLoggedCall first AreReadings (GivesUpTurn turn now) before after = IsShardCall first (turn.slot % 8) (λ x y. GivesUpAt now turn x y) before after
+IsLoggedCall first AreReadings (TakesForJob job readings taken) before after = IsShardCall first (job.origin.slot % 8) (λ x y. TakesTo job readings x taken y) (TakesForJob job readings taken) before after
+IsLoggedCall first AreReadings (CommitsRun now ran ticket committed) before after = IsShardCall first (ticket.origin.slot % 8) (λ x y. CommitsAt now ran ticket x committed y) (CommitsRun now ran ticket committed) before after
+IsLoggedCall first AreReadings (InstallsProgram job program made) before after = IsShardCall first (job.origin.slot % 8) (λ x y. InstallsTo job program x made y) (InstallsProgram job program made) before after
+IsLoggedCall first AreReadings (RemovesProgram job removal) before after = IsShardCall first (job.origin.slot % 8) (λ x y. RemovesFrom job x removal y) (RemovesProgram job removal) before after
+IsLoggedCall first AreReadings (HandsSignal shard from message reset) before after = IsShardCall first shard (λ x y. HandsOn reset from message x y) (HandsSignal (shard_called shard) from message reset) before after
+IsLoggedCall first AreReadings (AdvancesIdle shard now) before after = IsShardCall first shard (λ x y. PassesIfIdle now x true y) (AdvancesIdle (shard_called shard) now) before after
+IsLoggedCall first AreReadings (AdvancesShard shard now ticked) before after = IsShardCall first shard (λ x y. TicksAt now x ticked y) (AdvancesShard (shard_called shard) now ticked) before after
+IsLoggedCall first AreReadings (GivesTurn shard now turn) before after = IsShardCall first shard (λ x y. GivesTurnAt now x turn y) (GivesTurn (shard_called shard) now turn) before after
+IsLoggedCall first AreReadings (NotesTurn turn message now random told noted) before after = IsShardCall first (turn.slot % 8) (λ x y. NotesAt turn message now random told x noted y) (NotesTurn turn message now random told noted) before after
+IsLoggedCall first AreReadings (GivesUpTurn turn now) before after = IsShardCall first (turn.slot % 8) (λ x y. GivesUpAt now turn x y) (GivesUpTurn turn now) before after
 IsLoggedCall first AreReadings (RaisesWord slot word) before after = after ≡ before

@@ -1,10 +1,10 @@
 -- The log of a worker: that of its calls, and its tracks in the server's book.
-use Rattle.std.specs.Prelude.{◌≡◌, ℕ, false}
+use Rattle.std.specs.Prelude.{◌≡◌, ℕ, Bool, false}
 use Rattle.fc_book.specs.declared.view.BookView.{BookView}
 use Rattle.fc_calls.specs.Logged.{LoggedCall}
-use Rattle.fc_linear.specs.Operations.{Logged}
+use Rattle.fc_linear.specs.Operations.{Logged, Operation}
 use Rattle.fc_filed.specs.declared.entry.FiledEntry.{FiledEntry}
-use Rattle.fc_filed.specs.Threads.{HasJobFirst, HasOwnTrack, did_by}
+use Rattle.fc_filed.specs.Threads.{HasJobFirst, HasOwnTrack, did_by, did_if}
 use Rattle.fc_workers.specs.declared.call_log.CallLog.{CallLog}
 
 -- the log of its calls, the key of its own track, and its tracks.
@@ -13,7 +13,7 @@ pub record TrackedLog : Type 0 where
   pub who : ℕ
   pub tracks : BookView FiledEntry
 
--- a worker with these tracks may file each call of the front: the first track is that of the
+-- a worker with these tracks may file each call of the front and of a shard: the first track is that of the
 -- worker's jobs, and the worker's own track is among them. The worker begins no other track.
 pub record MayFileAll (first_job who : ℕ) (v : BookView FiledEntry) : Type 0 where
   pub thread : HasOwnTrack first_job who v
@@ -24,6 +24,10 @@ pub record MayFileAll (first_job who : ℕ) (v : BookView FiledEntry) : Type 0 w
 -- log of its calls is unchanged.
 abbrev pub with_filed_call : LoggedCall → TrackedLog → TrackedLog
 with_filed_call call log = record log { tracks = did_by log.who (Logged call) log.tracks }
+
+-- the log after a call that the worker has filed as this operation, or hasn't filed.
+abbrev pub with_filed_if : Bool → Operation → TrackedLog → TrackedLog
+with_filed_if files operation log = record log { tracks = did_if files log.who operation log.tracks }
 
 -- a call that led the log of the worker's calls from one state to the next, and is not filed.
 abbrev pub IsUnfiled : (CallLog → CallLog → Type 0) → TrackedLog → TrackedLog → Type 0

@@ -2,18 +2,18 @@
 //!
 //! [`Locked`](crate::server::Locked) calls it for the workers, under the front's lock. Times are in
 //! milliseconds.
-ghost use Rattle.std.specs.Prelude.{◌≡◌, ◌+◌, [], List, length};
+ghost use Rattle.std.specs.Prelude.{◌≡◌, []};
 ghost use Rattle.fc_core.specs.Answering.{emission_of, responded};
 ghost use Rattle.fc_core.specs.Contents.{IsOf};
 ghost use Rattle.fc_core.specs.Receiving.{handled};
 ghost use Rattle.fc_core.specs.Timers.{timer_job};
 ghost use Rattle.fc_calls.specs.Doings.{AdvancesTo, AnswersAt, DrawsAt, FiresAt, HandlesAt};
 ghost use Rattle.fc_calls.specs.Logged.{AdvancesFront, AnswersRequest, DrawsId, FiresTimer, HandlesDatagram};
+ghost use Rattle.fc_linear.specs.Operations.{FrontDoes};
 ghost use Rattle.fc_linear.specs.Parts.{first_server};
+ghost use Rattle.fc_filed.specs.Tracked.{IsPartClosed};
 ghost use Rattle.fc_workers.specs.Asked.{IsFrontCall};
 ghost use Rattle.fc_workers.specs.Fronts.{BeganAt};
-ghost use Rattle.fc_workers.specs.Logs.{TrackedLog};
-ghost use Rattle.fc_workers.specs.OneOrder.{HasTracksOf, HaveOneOrder};
 
 use crate::books::{Books, ServerOf};
 use crate::track_log::TrackLog;
@@ -134,18 +134,14 @@ impl<B: Books> BegunFront<B> {
             .respond(book, tracks, log.who, now, job, answer, reply)
     }
 
-    /// Closes the front. `tracks` has the tracks of all threads' logs.
-    ///
-    /// All calls that were filed have one order, and the front's led to this front.
+    /// Closes the front: its track becomes one of `tracks`. Returns the front.
     pub(crate) fn close(
         self,
         book: &ServerBook<ServerOf<B>>,
-        mut tracks: ServerTracks<ServerOf<B>>,
+        tracks: &mut ServerTracks<ServerOf<B>>,
     ) -> Front
-        ensures { (logs : List TrackedLog) → HasTracksOf B.first_job logs tracks → 9 + length logs ≡ B.first_job → HaveOneOrder B.begin logs result }
+        ensures { IsPartClosed FrontDoes 0 (first_server B.begin).front result tracks.old tracks.new }
     {
-        let front = self.filed.close(book, &mut tracks);
-        tracks.attest(book);
-        front
+        self.filed.close(book, tracks)
     }
 }

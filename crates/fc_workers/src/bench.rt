@@ -46,7 +46,7 @@ use std::sync::{Arc, Wait};
 /// the worker's calls report, and the jobs that the worker ended. A worker passes its log to each
 /// call that may change something, or whose result is soon out of date. So a clause can state which
 /// of these calls the worker made, and in which order. The log has the worker's tracks in the
-/// server's book, on which an implementation files the calls of its front.
+/// server's book, on which an implementation files the calls of its front and of its shards.
 pub trait Bench {
     /// The counts of one worker's changes, and of the jobs that it ended.
     type Tallies: Drop;

@@ -1,4 +1,4 @@
-//! The ledgers of a server's changes, and the book of its front's calls.
+//! The ledgers of a server's changes, and the book of its calls.
 ghost use Rattle.std.specs.Prelude.{ℕ};
 ghost use Rattle.atomic_table.specs.Seated.{TableId};
 ghost use Rattle.fc_book.specs.Tracks.{no_table};
@@ -14,7 +14,8 @@ use std::sync::ledger::Ledger;
 /// The names of a server's ledgers, their parts, and the server's initial state.
 ///
 /// A name is given by the index of the ledger's shard. Each ledger is divided into the same number
-/// of parts. The table is that of the book in which the front's calls are filed. The keys of its
+/// of parts. The table is that of the book in which the calls of the front and the shards are filed.
+/// The keys of its
 /// threads' tracks are below `first_job`.
 pub trait Books {
     ghost names: { ℕ → ℕ };
@@ -55,7 +56,7 @@ impl<B: Books, const INDEX: u8> Ledger for BookOf<B, INDEX> {
     ghost parts = { B.parts };
 }
 
-/// The name of the book in which the front's calls are filed.
+/// The name of the book in which the calls of the front and the shards are filed.
 pub struct ServerOf<B: Books> {
     of: PhantomData<B>,
 }

@@ -1,186 +1,171 @@
-//! Shards whose changes are counted.
+//! Filed shards whose changes are counted.
 //!
 //! A server with locks has one under each shard's lock.
-ghost use Rattle.std.specs.Prelude.{◌≡◌, ℕ, ◌+◌, ◌<◌};
-ghost use Rattle.fc_registry.specs.Slots.{IsOwned, slot_in, with_slot};
-ghost use Rattle.fc_registry.specs.Changes.{after_changes};
-ghost use Rattle.fc_registry.specs.Calls.{CommitsTo, install_in, remove_from, initial_vars_of};
-ghost use Rattle.fc_calls.specs.Kept.{HasEightSlots, commit_changes, confirm_times, install_changes, removal_changes, serials};
+ghost use Rattle.std.specs.Prelude.{◌≡◌, ℕ, ◌+◌, ◌<◌, [], replicate};
+ghost use Rattle.fc_registry.specs.Shards.{shard_at};
+ghost use Rattle.fc_registry.specs.Slots.{Shard as Called};
+ghost use Rattle.fc_calls.specs.Kept.{HasEightSlots, confirm_times, serials};
+ghost use Rattle.fc_linear.specs.Operations.{ShardDoes};
+ghost use Rattle.fc_linear.specs.Parts.{first_server};
+ghost use Rattle.fc_filed.specs.Tracked.{IsPartClosed};
 ghost use Rattle.fc_workers.specs.Counts.{counts};
+ghost use Rattle.fc_workers.specs.Logs.{with_filed_if};
 
+use crate::books::{Books, ServerOf};
 use crate::tally::Tally;
-use fc_calls::calls::{Commit, Install, Remove};
+use crate::track_log::TrackLog;
+use fc_book::Part;
 use fc_calls::{Change, ShardCall};
-use fc_machine::Outcome;
-use fc_registry::{Committed, Job, Made, Removal, SHARDS, Shard, SlotNumber, Ticket};
-use fc_verify::Verified;
+use fc_filed::{FiledCall, FiledShard, FiledTrack, ServerBook, ServerTracks};
+use fc_registry::{SHARDS, Shard, SlotNumber};
 use std::marker::Model;
-use std::sync::Arc;
 use std::sync::ledger::{Blank, Book, Ledger};
 
-/// A shard with the book of its changes.
+/// A filed shard, and the ledger of its changes.
 ///
-/// The sum of its serials has risen by the book's total since the book was opened. A clause sees
-/// the shard, and the sum of its serials at that time.
+/// The sum of its serials has risen by the ledger's total since the ledger was opened. The server's
+/// initial state determines when its notifications are confirmable. A clause sees the shard, and
+/// the sum of its serials when the ledger was opened.
 #[derive(Drop)]
-pub struct Counted<L: Ledger> {
-    shard: Shard,
-    book: Book<L>,
+pub(crate) struct Counted<B: Books, P: Part, L: Ledger> {
+    filed: FiledShard<ServerOf<B>, P>,
+    ledger: Book<L>,
     opened: u128,
 }
 
-impl<L: Ledger> Model for Counted<L> {
+impl<B: Books, P: Part, L: Ledger> Model for Counted<B, P, L> {
     ghost use Rattle.fc_workers.specs.Counts.{Counted as Seen};
 
     ghost Value = { Seen };
 
-    ghost use Rattle.std.specs.Prelude.{◌≡◌, ◌+◌};
-    ghost use Rattle.fc_calls.specs.Kept.{HasEightSlots, serials};
+    ghost use Rattle.std.specs.Prelude.{◌≡◌, ◌+◌, replicate};
+    ghost use Rattle.fc_calls.specs.Kept.{confirm_times, serials};
 
-    ghost view = { λ c. record { shard = c.shard; opened = c.opened } };
+    ghost view = { λ c. record { shard = c.filed.shard; opened = c.opened } };
 
-    ghost invariant = { λ c. HasEightSlots c.shard × (serials c.shard ≡ c.opened + c.book.total) };
+    ghost invariant = { λ c. (serials c.filed.shard ≡ c.opened + c.ledger.total) × (confirm_times c.filed.shard ≡ replicate 8 B.first.confirm_after) };
 }
 
-impl<L: Ledger> Counted<L> {
-    /// Opens the book of a shard.
+impl<B: Books, P: Part, L: Ledger> Counted<B, P, L> {
+    /// Opens the ledger of a server's first shard, whose track has no entry.
     ///
-    /// Returns the shard with its book, and the tally with all parts of the book. `blank` is the
-    /// unopened book.
-    pub fn open(shard: Shard, blank: Blank) -> (Counted<L>, Tally<L>)
+    /// Returns the shard with its ledger, and the tally with all parts of the ledger. `blank` is
+    /// the unopened ledger.
+    pub(crate) fn open(
+        shard: Shard,
+        track: FiledTrack<P>,
+        blank: Blank,
+    ) -> (Counted<B, P, L>, Tally<L>)
+        requires index { shard.index < 8 }
+        requires key { P.key ≡ shard.index + 1 }
         requires slots { HasEightSlots shard }
+        requires confirms { confirm_times shard ≡ replicate 8 B.first.confirm_after }
+        requires first { shard ≡ shard_at (first_server B.begin).shards shard.index }
+        requires track { track ≡ [] }
         requires name { blank.name ≡ L.name }
         requires parts { (blank.parts ≡ L.parts) × (0 < L.parts) }
         ensures shard { result.0 ≡ record { shard = shard; opened = serials shard } }
         ensures tally { result.1 ≡ record { parts = L.parts; changes = 0 } }
     {
-        let (book, share) = blank.open::<L>();
+        let (ledger, share) = blank.open::<L>();
         let opened = serials_of(&shard);
         let counted = Counted {
-            shard,
-            book,
+            filed: FiledShard::new(shard, track),
+            ledger,
             opened,
         };
         (counted, Tally::of(share))
     }
 
-    /// Runs a call that changes no slot. It may write its result to `room`.
+    /// Runs a call that leaves the shard unchanged, and files nothing.
+    pub(crate) fn inspect<C: ShardCall>(&mut self, call: C, room: &mut C::Room) -> C::Answer
+        requires may { C.may_ask call self.old.shard }
+        requires unchanged { (before after : Called) (answer : C.Answer) (room : C.Room) → C.does call before answer room after → after ≡ before }
+        ensures does { C.does call self.old.shard result room.new self.old.shard }
+        ensures confirms { confirm_times self.old.shard ≡ replicate 8 B.first.confirm_after }
+        ensures unchanged { self.new ≡ self.old }
+    {
+        self.filed.inspect(call, room)
+    }
+
+    /// Runs a call that changes no slot, and files it if its answer says so.
     ///
-    /// The shard's clock, observers and leases may change.
-    pub fn ask<C: ShardCall>(&mut self, call: C, room: &mut C::Room) -> C::Answer
+    /// The call may write its result to `room`. The shard's clock, observers and leases may change.
+    pub(crate) fn ask<C: FiledCall>(
+        &mut self,
+        book: &ServerBook<ServerOf<B>>,
+        log: &mut TrackLog<ServerOf<B>>,
+        call: C,
+        room: &mut C::Room,
+    ) -> C::Answer
+        requires same { P.table ≡ B.table }
+        requires is_of { C.is_of call self.old.shard }
         requires may { C.may_ask call self.old.shard }
         requires none { (answer : C.Answer) → C.changes answer ≡ 0 }
         ensures does { C.does call self.old.shard result room.new self.new.shard }
         ensures slots { self.new.shard.slots ≡ self.old.shard.slots }
         ensures index { self.new.shard.index ≡ self.old.shard.index }
-        ensures confirms { confirm_times self.new.shard ≡ confirm_times self.old.shard }
+        ensures confirms { confirm_times self.old.shard ≡ replicate 8 B.first.confirm_after }
         ensures opened { self.new.opened ≡ self.old.opened }
+        ensures filed { log.new ≡ with_filed_if (C.files result) (C.operation self.old.shard.index call result room.new) log.old }
     {
-        call.call(&mut self.shard, room)
+        let tracks = &mut log.tracks;
+        self.filed.ask(book, tracks, log.who, call, room)
     }
 
-    /// Runs a call that may change a slot.
+    /// Runs a call that may change a slot, and files it if its answer says so.
     ///
     /// The tally counts the changes that the result reports.
-    pub(crate) fn change<C: Change>(
+    pub(crate) fn change<C: Change + FiledCall>(
         &mut self,
+        book: &ServerBook<ServerOf<B>>,
+        log: &mut TrackLog<ServerOf<B>>,
         call: C,
         room: &mut C::Room,
         tally: &mut Tally<L>,
     ) -> C::Answer
-        requires { C.may_ask call self.old.shard }
+        requires same { P.table ≡ B.table }
+        requires is_of { C.is_of call self.old.shard }
+        requires may { C.may_ask call self.old.shard }
         ensures does { C.does call self.old.shard result room.new self.new.shard }
         ensures index { self.new.shard.index ≡ self.old.shard.index }
-        ensures confirms { confirm_times self.new.shard ≡ confirm_times self.old.shard }
+        ensures confirms { confirm_times self.old.shard ≡ replicate 8 B.first.confirm_after }
         ensures opened { self.new.opened ≡ self.old.opened }
+        ensures filed { log.new ≡ with_filed_if (C.files result) (C.operation self.old.shard.index call result room.new) log.old }
         ensures tally { tally.new ≡ counts tally.old (C.changes result) }
     {
-        let answer = call.call(&mut self.shard, room);
+        let tracks = &mut log.tracks;
+        let answer = self.filed.ask(book, tracks, log.who, call, room);
         if C::has_changed(&answer) {
-            tally.count(&mut self.book);
+            tally.count(&mut self.ledger);
         }
         answer
     }
 
-    /// Commits a run, at a time in milliseconds. The tally counts a commit that writes.
+    /// Closes the shard and its ledger, with the tally `all` of all the ledger's parts.
     ///
-    /// See [`Shard::commit`].
-    pub fn commit(
-        &mut self,
-        now: u64,
-        outcome: &Outcome<'_>,
-        ticket: &Ticket<'_>,
-        tally: &mut Tally<L>,
-    ) -> Committed
-        requires { IsOwned self.old.shard ticket.now.origin.slot }
-        ensures committed { CommitsTo outcome.now ticket.now self.old.shard now result self.new.shard }
-        ensures index { self.new.shard.index ≡ self.old.shard.index }
-        ensures opened { self.new.opened ≡ self.old.opened }
-        ensures tally { tally.new ≡ counts tally.old (commit_changes result) }
-    {
-        let commit = Commit {
-            now,
-            outcome,
-            ticket,
-        };
-        self.change(commit, &mut (), tally)
-    }
-
-    /// Installs a program in `job`'s slot. See [`Shard::install`].
-    ///
-    /// The tally counts the install, except at the slot's last serial.
-    pub fn install(&mut self, job: &Job, program: Arc<Verified>, tally: &mut Tally<L>) -> Made
-        requires { IsOwned self.old.shard job.now.origin.slot }
-        ensures answer { let slot = slot_in self.old.shard job.now.origin.slot in
-            result ≡ (install_in slot program.value (initial_vars_of job.now.ask)).answer }
-        ensures slots { let slot = slot_in self.old.shard job.now.origin.slot in
-            let called = install_in slot program.value (initial_vars_of job.now.ask) in
-            self.new.shard ≡ with_slot self.old.shard job.now.origin.slot (after_changes slot called.changes) }
-        ensures index { self.new.shard.index ≡ self.old.shard.index }
-        ensures opened { self.new.opened ≡ self.old.opened }
-        ensures tally { tally.new ≡ counts tally.old (install_changes result) }
-    {
-        self.change(Install { job, program }, &mut (), tally)
-    }
-
-    /// Removes the program in `job`'s slot. See [`Shard::remove`].
-    ///
-    /// The tally counts the removal if there was a program, except at the slot's last serial.
-    pub fn remove(&mut self, job: &Job, tally: &mut Tally<L>) -> Removal
-        requires { IsOwned self.old.shard job.now.origin.slot }
-        ensures answer { result ≡ (remove_from (slot_in self.old.shard job.now.origin.slot)).answer }
-        ensures slots { let slot = slot_in self.old.shard job.now.origin.slot in
-            self.new.shard ≡ with_slot self.old.shard job.now.origin.slot (after_changes slot (remove_from slot).changes) }
-        ensures index { self.new.shard.index ≡ self.old.shard.index }
-        ensures opened { self.new.opened ≡ self.old.opened }
-        ensures tally { tally.new ≡ counts tally.old (removal_changes result) }
-    {
-        self.change(Remove { job }, &mut (), tally)
-    }
-
-    /// Returns the shard, unchanged.
-    pub fn shard(&self) -> &Shard
-        ensures { result.now ≡ self.now.shard }
-    {
-        &self.shard
-    }
-
-    /// Closes the book, with the tally `all` of all its parts, and returns the shard.
-    ///
-    /// The sum of the shard's serials has risen by the tally's changes since the book was opened.
-    pub fn close(self, all: &mut Tally<L>) -> Shard
-        requires { all.old.parts ≡ L.parts }
+    /// Moves the shard's track to `tracks`, and returns the shard. The sum of the shard's serials
+    /// has risen by the tally's changes since the ledger was opened.
+    pub(crate) fn close(
+        self,
+        book: &ServerBook<ServerOf<B>>,
+        tracks: &mut ServerTracks<ServerOf<B>>,
+        all: &mut Tally<L>,
+    ) -> Shard
+        requires same { P.table ≡ B.table }
+        requires parts { all.old.parts ≡ L.parts }
         ensures shard { result ≡ self.shard }
         ensures risen { serials result ≡ self.opened + all.old.changes }
         ensures tally { all.new ≡ all.old }
+        ensures closed { IsPartClosed ShardDoes P.key (shard_at (first_server B.begin).shards result.index) result tracks.old tracks.new }
     {
         let Counted {
-            shard,
-            mut book,
+            filed,
+            mut ledger,
             ..
         } = self;
-        all.audit(&mut book);
-        shard
+        all.audit(&mut ledger);
+        filed.close(book, tracks)
     }
 }
 

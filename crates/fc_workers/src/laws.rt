@@ -4,14 +4,17 @@
 ghost use Rattle.std.specs.Prelude.{◌≡◌, ◌<◌, ◌≤◌, ◌⊎◌, ℕ, Bool, Some, [], ◌∷◌};
 ghost use Rattle.coap_msg.specs.declared.types.Endpoint.{Endpoint};
 ghost use Rattle.fc_core.specs.declared.front.Delivered.TheVariants.{Signal};
-ghost use Rattle.fc_calls.specs.Logged.{DrawsId, HandsSignal, NotesTurn};
-ghost use Rattle.fc_core.specs.Exchanges.{FrontState};
+ghost use Rattle.fc_calls.specs.Logged.{DrawsId, HandsSignal, InstallsProgram, NotesTurn};
 ghost use Rattle.fc_core.specs.declared.policy.Policy.{Policy};
+ghost use Rattle.fc_filed.specs.Entries.{front_entries, shard_entries};
+ghost use Rattle.fc_kinds.specs.Meaning.{Program};
 ghost use Rattle.fc_linear.specs.Operations.{Logged};
 ghost use Rattle.fc_core.specs.Policies.{default_policy};
 ghost use Rattle.fc_observe.specs.Observers.{ObserverList};
 ghost use Rattle.fc_observe.specs.declared.entry.Turn.{Turn};
 ghost use Rattle.fc_registry.specs.Notes.{IsNoted};
+ghost use Rattle.fc_registry.specs.declared.job.Job.{Job};
+ghost use Rattle.fc_registry.specs.declared.shard.Made.TheVariants.{Raised};
 ghost use Rattle.fc_registry.specs.declared.note.Noted.{Noted};
 ghost use Rattle.fc_registry.specs.declared.note.Notification.{Notification};
 ghost use Rattle.fc_workers.specs.Asked.{IsLoggedCall};
@@ -21,6 +24,7 @@ ghost use Rattle.fc_workers.specs.Dispatch.{IsDone};
 ghost use Rattle.fc_workers.specs.Logs.{TrackedLog as Log};
 ghost use Rattle.fc_workers.specs.OneOrder.{HaveOneOrder, filed_in};
 ghost use Rattle.fc_workers.specs.Workers.{Dispatched};
+ghost use Rattle.fc_workers.specs.declared.closed.ClosedServer.{ClosedServer};
 ghost use Rattle.fc_workers.specs.declared.dispatcher.Offload.{Offload};
 
 use crate::bench::Bench;
@@ -57,9 +61,22 @@ pub fn locked_shards_confirm_in_time<B: Books, D: Device>()
 /// They call its front for nothing else. If the server draws 7 first, one of them gets 7, and the
 /// other gets 8.
 pub fn two_threads_draw_two_ids()
-    ensures { (policy : Policy) (serial : ℕ) (one other : Log) (j k a b : ℕ) (front : FrontState)
-        → HaveOneOrder (record { serial = serial; id = 7; policy = policy }) (one ∷ other ∷ []) front
-        → filed_in one ≡ record { who = one.who; job = j; operation = Logged (DrawsId 0 (Some a)) } ∷ []
-        → filed_in other ≡ record { who = other.who; job = k; operation = Logged (DrawsId 0 (Some b)) } ∷ []
+    ensures { (policy : Policy) (serial : ℕ) (one other : Log) (j k a b : ℕ) (closed : ClosedServer)
+        → HaveOneOrder (record { serial = serial; id = 7; policy = policy }) (one ∷ other ∷ []) closed
+        → front_entries (filed_in one) ≡ record { who = one.who; job = j; operation = Logged (DrawsId 0 (Some a)) } ∷ []
+        → front_entries (filed_in other) ≡ record { who = other.who; job = k; operation = Logged (DrawsId 0 (Some b)) } ∷ []
         → ((a ≡ 7) × (b ≡ 8)) ⊎ ((a ≡ 8) × (b ≡ 7)) }
+{}
+
+/// Two threads of a server that install a program each in slot 13 get two serials.
+///
+/// They call its shard, shard 5, for nothing else. If the slots begin at serial 7, one of the
+/// installs gets serial 8, and the other gets 9.
+pub fn two_threads_install_at_two_serials()
+    ensures { (policy : Policy) (id : ℕ) (one other : Log) (job also : Job) (p q : Program) (j k a b : ℕ) (c d : Bool) (closed : ClosedServer)
+        → job.origin.slot ≡ 13 → also.origin.slot ≡ 13
+        → HaveOneOrder (record { serial = 7; id = id; policy = policy }) (one ∷ other ∷ []) closed
+        → shard_entries 5 (filed_in one) ≡ record { who = one.who; job = j; operation = Logged (InstallsProgram job p (Raised a c)) } ∷ []
+        → shard_entries 5 (filed_in other) ≡ record { who = other.who; job = k; operation = Logged (InstallsProgram also q (Raised b d)) } ∷ []
+        → ((a ≡ 8) × (b ≡ 9)) ⊎ ((a ≡ 9) × (b ≡ 8)) }
 {}

@@ -13,7 +13,8 @@
 //! report. Each call that may change something, or whose result is soon out of date, gets the
 //! worker's log. So contracts state that these calls were made in this order, and no others with
 //! this log. A [`TrackLog`] also has the worker's tracks in the server's book, on which the server
-//! files the calls of its front. Gates, transmitters and clocks get its [`CallLog`] alone.
+//! files the calls of its front and of its shards. Gates, transmitters and clocks get its
+//! [`CallLog`] alone.
 //!
 //! The contracts don't say which slot a call meets: a backend's implementation has to take the
 //! snapshot of the job's own slot. Nor do they say that a call returns, or when.
@@ -105,24 +106,27 @@
 //!   result of some front or shard. The time of the result is the given one or a later one. Each
 //!   change of a slot is counted on the worker's tally. Once the server is closed, the serials of
 //!   each shard have risen by exactly what was counted.
-//! - Each call of the front is filed in the server's book, once, by its caller, with its arguments
-//!   and its result. It is then the last entry on the tracks of the front and of the caller, and the
-//!   front's entries lead from the server's first front to the one under the lock. No other call is
-//!   filed. So two calls are of one front, the server's own, in one order.
+//! - Each call of the front, and each call that may change a shard, is filed in the server's book,
+//!   once, by its caller, with its arguments and its result. It is then the last entry on the tracks
+//!   of its part and of the caller. The part's entries lead from the server's first front, or first
+//!   shard of the index, to the one under the lock. No other call is filed. So two calls of a part
+//!   are of one part, the server's own, in one order.
 //! - **One order**: at the end of a server there is one list of all filed calls. Each thread has
 //!   filed exactly the calls in the list with its key, in that order, and no call is of another
-//!   thread. The calls of the front lead from the server's first front to its last
-//!   (`HaveOneOrder`). So two threads that draw a message ID each draw two (`laws`).
+//!   thread. The calls of the front lead from the server's first front to its last, and those of
+//!   each of the eight shards from the server's first shard to its last (`HaveOneOrder`). So two
+//!   threads that draw a message ID each draw two, and two that install a program each in one slot
+//!   get two serials (`laws`).
 //! - The readings that a server returns are those of some call of its device
 //!   (`Device::are_readings`).
 //! - A head word that a worker reads is no less than the worker has seen of that slot. After a raise
 //!   the worker has seen no less than the given word. Neither takes a lock.
-//! - Not claimed: which state of a slot a call meets; that a call holds one lock; which readings a
-//!   server returns; which random word its shard gets; that it releases the given lease; that the
-//!   entries of one job have a track of their own; and that a call returns.
+//! - Not claimed: that a call holds one lock; which readings a server returns; that the entries of
+//!   one job have a track of their own; that the reads and raises of head words are in the order;
+//!   and that a call returns.
 //!
 //! By the contracts of `Context::work_off`, `Context::work`, `worker`, `run_workers`,
-//! `drive_workers`, `Dispatcher::handle`, `Dispatcher::notify`, the clauses of `Bench`, `Counted`,
+//! `drive_workers`, `Dispatcher::handle`, `Dispatcher::notify`, the clauses of `Bench`,
 //! `Locked::new`, `close`, `laws`.
 #![tactic(auto)]
 
@@ -133,12 +137,13 @@ pub mod books;
 pub mod call_log;
 pub mod closed;
 pub mod context;
-pub mod counted_shard;
+mod counted_shard;
 pub mod device;
 pub mod dispatcher;
 pub mod laws;
 mod locked_shard;
 pub mod notify;
+mod opening;
 pub mod pool;
 pub mod scratch;
 pub mod server;
@@ -156,7 +161,6 @@ pub use books::{BookOf, Books, ServerOf};
 pub use call_log::CallLog;
 pub use closed::ClosedServer;
 pub use context::{Context, Gate, TimeSource, Wire};
-pub use counted_shard::Counted;
 pub use device::Device;
 pub use dispatcher::{Dispatched, Dispatcher, Offload};
 pub use pool::{drive_workers, make_seats, run_workers};

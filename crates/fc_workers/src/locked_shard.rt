@@ -1,67 +1,68 @@
 //! A shard guarded by a lock, as [`Locked`](crate::server::Locked) has eight.
-ghost use Rattle.std.specs.Prelude.{◌≡◌, ℕ, ◌+◌, ◌*◌, ◌<◌, replicate};
+ghost use Rattle.std.specs.Prelude.{◌≡◌, ℕ, ◌+◌, ◌*◌, ◌<◌, [], true, replicate};
+ghost use Rattle.fc_book.specs.Tracks.{with_next};
+ghost use Rattle.fc_registry.specs.Shards.{shard_at};
 ghost use Rattle.fc_registry.specs.Slots.{Shard as Seen};
-ghost use Rattle.fc_workers.specs.Asked.{IsAsked};
 ghost use Rattle.fc_calls.specs.Kept.{HasEightSlots, confirm_times, serials};
+ghost use Rattle.fc_linear.specs.Operations.{ShardDoes};
+ghost use Rattle.fc_linear.specs.Parts.{first_server};
+ghost use Rattle.fc_filed.specs.Tracked.{IsPartClosed};
+ghost use Rattle.fc_workers.specs.Asked.{IsAsked};
 ghost use Rattle.fc_workers.specs.Counts.{counts};
+ghost use Rattle.fc_workers.specs.Logs.{with_filed_if};
 
-use crate::books::{BookOf, Books};
+use crate::books::{BookOf, Books, ServerOf};
 use crate::counted_shard::Counted;
+use crate::opening::Opening;
 use crate::tally::Tally;
+use crate::track_log::TrackLog;
 use fc_calls::{Change, ShardCall};
+use fc_filed::{FiledCall, ServerBook, ServerTracks, ShardOf};
 use fc_registry::Shard;
-use std::marker::PhantomData;
-use std::sync::ledger::{Blank, Ledger};
+use std::sync::ledger::Blank;
 use std::sync::{Mutex, Wait};
-
-// A shard with its book. The server's initial state determines when its notifications are
-// confirmable.
-#[derive(Drop)]
-struct BegunShard<B: Books, L: Ledger> {
-    counted: Counted<L>,
-    of: PhantomData<B>,
-    ghost confirms: { confirm_times counted.shard ≡ replicate 8 B.first.confirm_after },
-}
 
 // The shard of an index, and the serial that each of its slots began with.
 #[derive(Drop)]
 struct ShardState<const INDEX: u8, B: Books> {
-    begun: BegunShard<B, BookOf<B, INDEX>>,
+    counted: Counted<B, ShardOf<ServerOf<B>, INDEX>, BookOf<B, INDEX>>,
     first_serial: u64,
-    ghost index: { begun.counted.shard.index ≡ INDEX },
-    ghost opened: { begun.counted.opened ≡ 8 * first_serial },
+    ghost index: { counted.shard.index ≡ INDEX },
+    ghost opened: { counted.opened ≡ 8 * first_serial },
 }
 
-/// The shard with this index, 0 to 7, and its book, guarded by a lock.
+/// The shard with this index, 0 to 7, its track and its ledger, guarded by a lock.
 #[derive(Drop)]
 pub(crate) struct LockedShard<const INDEX: u8, B: Books> {
     state: Mutex<ShardState<INDEX, B>>,
 }
 
 impl<const INDEX: u8, B: Books> LockedShard<INDEX, B> {
-    /// Opens the book of a shard with slots at `first_serial`, and adds a lock.
+    /// Opens the ledger of a server's first shard, begins its track, and adds a lock.
     ///
-    /// Returns the locked shard, and the tally with all parts of the book.
+    /// The track is the next one of the server's book. Returns the locked shard, and the tally with
+    /// all parts of the ledger.
     pub(crate) fn new(
         shard: Shard,
-        first_serial: u64,
         blank: Blank,
+        opening: &mut Opening<B>,
     ) -> (LockedShard<INDEX, B>, Tally<BookOf<B, INDEX>>)
-        requires index { shard.index ≡ INDEX }
+        requires index { (shard.index ≡ INDEX) × (INDEX < 8) }
         requires slots { HasEightSlots shard }
-        requires serials { serials shard ≡ 8 * first_serial }
+        requires serials { serials shard ≡ 8 * opening.old.first_serial }
         requires confirms { confirm_times shard ≡ replicate 8 B.first.confirm_after }
-        requires book { (blank.name ≡ B.names INDEX) × (blank.parts ≡ B.parts) × (0 < blank.parts) }
-        ensures { result.1 ≡ record { parts = blank.parts; changes = 0 } }
+        requires first { shard ≡ shard_at (first_server B.begin).shards INDEX }
+        requires ledger { (blank.name ≡ B.names INDEX) × (blank.parts ≡ B.parts) × (0 < blank.parts) }
+        requires may_begin { opening.old.first.may_begin ≡ true }
+        requires next { opening.old.first.next ≡ INDEX + 1 }
+        ensures tally { result.1 ≡ record { parts = blank.parts; changes = 0 } }
+        ensures begun { opening.new ≡ record opening.old { first = with_next opening.old.first } }
     {
-        let (counted, tally) = Counted::open(shard, blank);
-        let begun = BegunShard {
-            counted,
-            of: PhantomData,
-        };
+        let track = opening.first.begin_part(&opening.book);
+        let (counted, tally) = Counted::open(shard, track, blank);
         let state = ShardState {
-            begun,
-            first_serial,
+            counted,
+            first_serial: opening.first_serial,
         };
         let locked = LockedShard {
             state: Mutex::new(state),
@@ -69,52 +70,82 @@ impl<const INDEX: u8, B: Books> LockedShard<INDEX, B> {
         (locked, tally)
     }
 
-    /// Runs a call that changes no slot, under the shard's lock.
-    ///
-    /// The call may write its result to `room`.
-    pub(crate) fn ask<C: ShardCall, R: Wait>(
+    /// Runs a call that leaves the shard unchanged, under the shard's lock. Nothing is filed.
+    pub(crate) fn inspect<C: ShardCall, R: Wait>(
         &self,
         rt: &R,
         call: C,
         room: &mut C::Room,
     ) -> C::Answer
         requires may { (shard : Seen) → shard.index ≡ INDEX → C.may_ask call shard }
-        requires none { (answer : C.Answer) → C.changes answer ≡ 0 }
+        requires unchanged { (before after : Seen) (answer : C.Answer) (room : C.Room) → C.does call before answer room after → after ≡ before }
         ensures { IsAsked B.first INDEX (λ before after. C.does call before result room.new after) }
     {
-        self.state.lock(rt).begun.counted.ask(call, room)
+        self.state.lock(rt).counted.inspect(call, room)
     }
 
-    /// Runs a call that may change a slot, under the shard's lock.
+    /// Runs a call that changes no slot, under the shard's lock, and files it.
     ///
-    /// The tally counts the changes that the result reports. The call may write to `room`.
-    pub(crate) fn change<C: Change, R: Wait>(
+    /// A call isn't filed if its answer says so; then the shard is unchanged. The call may write
+    /// its result to `room`.
+    pub(crate) fn ask<C: FiledCall, R: Wait>(
         &self,
         rt: &R,
+        book: &ServerBook<ServerOf<B>>,
+        log: &mut TrackLog<ServerOf<B>>,
+        call: C,
+        room: &mut C::Room,
+    ) -> C::Answer
+        requires may { (shard : Seen) → shard.index ≡ INDEX → C.may_ask call shard }
+        requires is_of { (shard : Seen) → shard.index ≡ INDEX → C.is_of call shard }
+        requires none { (answer : C.Answer) → C.changes answer ≡ 0 }
+        ensures does { IsAsked B.first INDEX (λ before after. C.does call before result room.new after) }
+        ensures filed { log.new ≡ with_filed_if (C.files result) (C.operation INDEX call result room.new) log.old }
+    {
+        self.state.lock(rt).counted.ask(book, log, call, room)
+    }
+
+    /// Runs a call that may change a slot, under the shard's lock, and files it.
+    ///
+    /// The tally counts the changes that the result reports. The call may write to `room`.
+    pub(crate) fn change<C: Change + FiledCall, R: Wait>(
+        &self,
+        rt: &R,
+        book: &ServerBook<ServerOf<B>>,
+        log: &mut TrackLog<ServerOf<B>>,
         call: C,
         room: &mut C::Room,
         tally: &mut Tally<BookOf<B, INDEX>>,
     ) -> C::Answer
-        requires { (shard : Seen) → shard.index ≡ INDEX → C.may_ask call shard }
+        requires may { (shard : Seen) → shard.index ≡ INDEX → C.may_ask call shard }
+        requires is_of { (shard : Seen) → shard.index ≡ INDEX → C.is_of call shard }
         ensures does { IsAsked B.first INDEX (λ before after. C.does call before result room.new after) }
+        ensures filed { log.new ≡ with_filed_if (C.files result) (C.operation INDEX call result room.new) log.old }
         ensures tally { tally.new ≡ counts tally.old (C.changes result) }
     {
-        self.state.lock(rt).begun.counted.change(call, room, tally)
+        let mut state = self.state.lock(rt);
+        state.counted.change(book, log, call, room, tally)
     }
 
-    /// Closes the book, with the tally `all` of all its parts.
+    /// Closes the shard and its ledger, with the tally `all` of all the ledger's parts.
     ///
-    /// Returns the shard and the serial that its slots began with. The sum of the shard's serials
-    /// has risen by the changes that were counted.
-    pub(crate) fn close(self, all: &mut Tally<BookOf<B, INDEX>>) -> (Shard, u64)
+    /// Moves the shard's track to `tracks`. Returns the shard and the serial that its slots began
+    /// with. The sum of the shard's serials has risen by the changes that were counted.
+    pub(crate) fn close(
+        self,
+        book: &ServerBook<ServerOf<B>>,
+        tracks: &mut ServerTracks<ServerOf<B>>,
+        all: &mut Tally<BookOf<B, INDEX>>,
+    ) -> (Shard, u64)
         requires { all.old.parts ≡ B.parts }
         ensures risen { serials result.0 ≡ 8 * result.1 + all.old.changes }
         ensures tally { all.new ≡ all.old }
+        ensures closed { IsPartClosed ShardDoes (INDEX + 1) (shard_at (first_server B.begin).shards INDEX) result.0 tracks.old tracks.new }
     {
         let ShardState {
-            begun,
+            counted,
             first_serial,
         } = self.state.into_inner();
-        (begun.counted.close(all), first_serial)
+        (counted.close(book, tracks, all), first_serial)
     }
 }

@@ -29,9 +29,9 @@ ghost use Rattle.fc_registry.specs.Shards.{shard_at};
 ghost use Rattle.fc_registry.specs.Slots.{IsOwned, Shard as Seen, last_serial};
 ghost use Rattle.fc_registry.specs.Turns.{written_if};
 ghost use Rattle.fc_registry.specs.Views.{HasSize, taken_with};
-ghost use Rattle.fc_workers.specs.Asked.{IsAsked, IsLoggedCall, IsServerCall};
+ghost use Rattle.fc_workers.specs.Asked.{IsAsked, IsLoggedCall, IsServerCall, shard_called};
 ghost use Rattle.fc_workers.specs.Fronts.{beginning};
-ghost use Rattle.fc_workers.specs.Logs.{TrackedLog};
+ghost use Rattle.fc_workers.specs.Logs.{TrackedLog, with_filed_if};
 ghost use Rattle.fc_workers.specs.Naming.{AreNamed};
 ghost use Rattle.fc_workers.specs.OneOrder.{HasTracksOf, HaveOneOrder, IsNewLog, logs_of};
 ghost use Rattle.fc_workers.specs.Counts.{no_changes, sums};
@@ -46,6 +46,7 @@ use crate::books::{BookOf, Books, ServerOf};
 use crate::closed::ClosedServer;
 use crate::device::Device;
 use crate::locked_shard::LockedShard;
+use crate::opening::Opening;
 use crate::share::Share;
 use crate::tallies::Tallies;
 use crate::tally::Tally;
@@ -58,7 +59,7 @@ use fc_calls::calls::{
 };
 use fc_calls::{Change, ShardCall};
 use fc_core::{Answer, Front, Handled, Policy, Responded};
-use fc_filed::{NewServerBook, ServerBook, ServerTracks};
+use fc_filed::{FiledCall, NewServerBook, ServerBook, ServerTracks};
 use fc_heads::{HeadSeat, Heads};
 use fc_help::Readings;
 use fc_machine::Outcome;
@@ -118,47 +119,31 @@ fn unassigned_of<B: Books>(
     }
 }
 
-// A front, the book in which its calls are filed, and a log for each thread of the book.
-#[derive(Drop)]
-struct FrontParts<B: Books> {
-    book: ServerBook<ServerOf<B>>,
-    front: BegunFront<B>,
-    logs: Vec<TrackLog<ServerOf<B>>>,
-}
-
-// Makes a front with this policy, and begins the tracks of its book. They are those of the front
-// and the shards, and those of each thread, which become the thread's log.
+// Makes a front with this policy, and begins its track in the book. Returns the front, and what the
+// server's shards begin with.
 fn begin_front<B: Books>(
     alloc: Global,
-    policy: &Policy,
+    first_serial: u64,
     first_id: u16,
+    policy: &Policy,
     book: NewServerBook,
-) -> Result<FrontParts<B>, AllocError>
+) -> Result<(BegunFront<B>, Opening<B>), AllocError>
     requires table { book.table ≡ B.table }
     requires threads { book.first_job ≡ B.first_job }
     requires first { B.first ≡ beginning policy.now first_id }
     requires begin { (first_server B.begin).front ≡ B.first.front }
-    ensures count { IfOk result (λ p. 9 + vec_len p.logs ≡ B.first_job) }
-    ensures new_logs { IfOk result (λ p. All IsNewLog p.logs.items) }
+    ensures serial { IfOk result (λ r. r.1.first_serial ≡ first_serial) }
+    ensures first { IfOk result (λ r. (r.1.first.may_begin ≡ true) × (r.1.first.next ≡ 1)) }
 {
-    let threads = book.threads();
     let (book, mut first) = book.with_name::<ServerOf<B>>();
     let front = Front::new(alloc, policy, first_id)?;
     let front = BegunFront::new(front, first.begin_part(&book));
-    begin_shards(&book, &mut first);
-    let logs = begin_logs(alloc, &book, &mut first, threads)?;
-    Ok(FrontParts { book, front, logs })
-}
-
-// Begins the tracks of eight shards, on which nothing is filed. They have the keys between that of
-// the front's track and those of the threads'.
-fn begin_shards<B: Books>(book: &ServerBook<ServerOf<B>>, first: &mut ServerTracks<ServerOf<B>>)
-    requires { first.old.may_begin ≡ true }
-    ensures { first.new ≡ record first.old { next = first.old.next + 8 } }
-{
-    for shard in 0..SHARDS {
-        let _track = first.begin_tracks(book);
-    }
+    let opening = Opening {
+        book,
+        first,
+        first_serial,
+    };
+    Ok((front, opening))
 }
 
 // Returns the index of the shard that owns a slot.
@@ -193,7 +178,7 @@ impl<'a, B: Books, D: Device> Locked<'a, B, D> {
     ///
     /// It has this policy, and draws `first_id` first. Its programs get the readings of `device`.
     /// It opens the ledgers, and the unassigned shares are all their parts. The calls of its front
-    /// are filed in `book`. Returns the server, the unassigned shares, and a log for each thread of
+    /// and of its shards are filed in `book`. Returns the server, the unassigned shares, and a log for each thread of
     /// the book, in which nothing is filed yet.
     ///
     /// # Errors
@@ -219,7 +204,8 @@ impl<'a, B: Books, D: Device> Locked<'a, B, D> {
         ensures new_logs { IfOk result (λ r. All IsNewLog r.2.items) }
     {
         let (heads, _seat) = Heads::new(alloc)?;
-        let FrontParts { book, front, logs } = begin_front::<B>(alloc, policy, first_id, book)?;
+        let threads = book.threads();
+        let (front, mut opening) = begin_front::<B>(alloc, first_serial, first_id, policy, book)?;
         let mut shards = make_shards(alloc, first_serial, policy.confirm_after)?;
         let shard7 = last_of(&mut shards);
         let shard6 = last_of(&mut shards);
@@ -229,14 +215,20 @@ impl<'a, B: Books, D: Device> Locked<'a, B, D> {
         let shard2 = last_of(&mut shards);
         let shard1 = last_of(&mut shards);
         let shard0 = last_of(&mut shards);
-        let (shard0, tally0) = LockedShard::new(shard0, first_serial, blanks.blank0);
-        let (shard1, tally1) = LockedShard::new(shard1, first_serial, blanks.blank1);
-        let (shard2, tally2) = LockedShard::new(shard2, first_serial, blanks.blank2);
-        let (shard3, tally3) = LockedShard::new(shard3, first_serial, blanks.blank3);
-        let (shard4, tally4) = LockedShard::new(shard4, first_serial, blanks.blank4);
-        let (shard5, tally5) = LockedShard::new(shard5, first_serial, blanks.blank5);
-        let (shard6, tally6) = LockedShard::new(shard6, first_serial, blanks.blank6);
-        let (shard7, tally7) = LockedShard::new(shard7, first_serial, blanks.blank7);
+        let (shard0, tally0) = LockedShard::new(shard0, blanks.blank0, &mut opening);
+        let (shard1, tally1) = LockedShard::new(shard1, blanks.blank1, &mut opening);
+        let (shard2, tally2) = LockedShard::new(shard2, blanks.blank2, &mut opening);
+        let (shard3, tally3) = LockedShard::new(shard3, blanks.blank3, &mut opening);
+        let (shard4, tally4) = LockedShard::new(shard4, blanks.blank4, &mut opening);
+        let (shard5, tally5) = LockedShard::new(shard5, blanks.blank5, &mut opening);
+        let (shard6, tally6) = LockedShard::new(shard6, blanks.blank6, &mut opening);
+        let (shard7, tally7) = LockedShard::new(shard7, blanks.blank7, &mut opening);
+        let Opening {
+            book,
+            mut first,
+            ..
+        } = opening;
+        let logs = begin_logs(alloc, &book, &mut first, threads)?;
         let server = Locked {
             device,
             heads,
@@ -257,11 +249,11 @@ impl<'a, B: Books, D: Device> Locked<'a, B, D> {
         Ok((server, unassigned, logs))
     }
 
-    /// Runs a call that changes no slot, at the shard with this index, 0 to 7.
+    /// Runs a call that leaves a shard unchanged, at the shard with this index, 0 to 7.
     ///
     /// It holds that shard's lock, and no other. The call may write its result to `room`. An index
-    /// above 7 is treated as 7.
-    pub fn ask<C: ShardCall, R: Wait>(
+    /// above 7 is treated as 7. Nothing is filed.
+    pub fn inspect<C: ShardCall, R: Wait>(
         &self,
         rt: &R,
         index: u8,
@@ -269,46 +261,96 @@ impl<'a, B: Books, D: Device> Locked<'a, B, D> {
         room: &mut C::Room,
     ) -> C::Answer
         requires may { (shard : Seen) → (index < 8 → shard.index ≡ index) → C.may_ask call shard }
-        requires none { (answer : C.Answer) → C.changes answer ≡ 0 }
+        requires unchanged { (before after : Seen) (answer : C.Answer) (room : C.Room) → C.does call before answer room after → after ≡ before }
         ensures { IsAsked B.first index (λ before after. C.does call before result room.new after) }
     {
         match index {
-            0 => self.shard0.ask(rt, call, room),
-            1 => self.shard1.ask(rt, call, room),
-            2 => self.shard2.ask(rt, call, room),
-            3 => self.shard3.ask(rt, call, room),
-            4 => self.shard4.ask(rt, call, room),
-            5 => self.shard5.ask(rt, call, room),
-            6 => self.shard6.ask(rt, call, room),
-            _ => self.shard7.ask(rt, call, room),
+            0 => self.shard0.inspect(rt, call, room),
+            1 => self.shard1.inspect(rt, call, room),
+            2 => self.shard2.inspect(rt, call, room),
+            3 => self.shard3.inspect(rt, call, room),
+            4 => self.shard4.inspect(rt, call, room),
+            5 => self.shard5.inspect(rt, call, room),
+            6 => self.shard6.inspect(rt, call, room),
+            _ => self.shard7.inspect(rt, call, room),
         }
     }
 
-    // Runs a call that may change `slot`, at the shard that owns it. It holds that shard's lock,
-    // and no other. The tallies count the change.
-    fn change<C: Change, R: Wait>(
+    // Runs a call that changes no slot, at the shard with this index, 0 to 7, and files it in
+    // `log`. It holds that shard's lock, and no other. The call may write its result to `room`. An
+    // index above 7 is treated as 7.
+    fn ask<C: FiledCall, R: Wait>(
+        &self,
+        rt: &R,
+        index: u8,
+        call: C,
+        room: &mut C::Room,
+        log: &mut TrackLog<ServerOf<B>>,
+    ) -> C::Answer
+        requires may { (shard : Seen) → (index < 8 → shard.index ≡ index) → C.may_ask call shard }
+        requires is_of { (shard : Seen) → (index < 8 → shard.index ≡ index) → C.is_of call shard }
+        requires none { (answer : C.Answer) → C.changes answer ≡ 0 }
+        ensures does { IsAsked B.first index (λ before after. C.does call before result room.new after) }
+        ensures filed { log.new ≡ with_filed_if (C.files result) (C.operation (shard_called index) call result room.new) log.old }
+    {
+        let book = &self.book;
+        match index {
+            0 => self.shard0.ask(rt, book, log, call, room),
+            1 => self.shard1.ask(rt, book, log, call, room),
+            2 => self.shard2.ask(rt, book, log, call, room),
+            3 => self.shard3.ask(rt, book, log, call, room),
+            4 => self.shard4.ask(rt, book, log, call, room),
+            5 => self.shard5.ask(rt, book, log, call, room),
+            6 => self.shard6.ask(rt, book, log, call, room),
+            _ => self.shard7.ask(rt, book, log, call, room),
+        }
+    }
+
+    // Runs a call that may change `slot`, at the shard that owns it, and files it in `log`. It
+    // holds that shard's lock, and no other. The tallies count the change.
+    fn change<C: Change + FiledCall, R: Wait>(
         &self,
         rt: &R,
         slot: SlotNumber,
         call: C,
         room: &mut C::Room,
         tallies: &mut Tallies<B>,
+        log: &mut TrackLog<ServerOf<B>>,
     ) -> C::Answer
-        requires { (shard : Seen) → IsOwned shard slot → C.may_ask call shard }
+        requires may { (shard : Seen) → IsOwned shard slot → C.may_ask call shard }
+        requires is_of { (shard : Seen) → IsOwned shard slot → C.is_of call shard }
         ensures does { IsAsked B.first (slot % 8) (λ before after. C.does call before result room.new after) }
+        ensures filed { log.new ≡ with_filed_if (C.files result) (C.operation (slot % 8) call result room.new) log.old }
         ensures changes { AreTallied (slice_index tallies.old.changes) (slice_index tallies.new.changes)
             slot (C.changes result) }
         ensures ended { tallies.new.ended ≡ tallies.old.ended }
     {
+        let book = &self.book;
         match shard_of(slot) {
-            0 => self.shard0.change(rt, call, room, &mut tallies.tally0),
-            1 => self.shard1.change(rt, call, room, &mut tallies.tally1),
-            2 => self.shard2.change(rt, call, room, &mut tallies.tally2),
-            3 => self.shard3.change(rt, call, room, &mut tallies.tally3),
-            4 => self.shard4.change(rt, call, room, &mut tallies.tally4),
-            5 => self.shard5.change(rt, call, room, &mut tallies.tally5),
-            6 => self.shard6.change(rt, call, room, &mut tallies.tally6),
-            _ => self.shard7.change(rt, call, room, &mut tallies.tally7),
+            0 => self
+                .shard0
+                .change(rt, book, log, call, room, &mut tallies.tally0),
+            1 => self
+                .shard1
+                .change(rt, book, log, call, room, &mut tallies.tally1),
+            2 => self
+                .shard2
+                .change(rt, book, log, call, room, &mut tallies.tally2),
+            3 => self
+                .shard3
+                .change(rt, book, log, call, room, &mut tallies.tally3),
+            4 => self
+                .shard4
+                .change(rt, book, log, call, room, &mut tallies.tally4),
+            5 => self
+                .shard5
+                .change(rt, book, log, call, room, &mut tallies.tally5),
+            6 => self
+                .shard6
+                .change(rt, book, log, call, room, &mut tallies.tally6),
+            _ => self
+                .shard7
+                .change(rt, book, log, call, room, &mut tallies.tally7),
         }
     }
 
@@ -337,26 +379,44 @@ impl<'a, B: Books, D: Device> Locked<'a, B, D> {
     ///
     /// The serials of each shard have risen by the changes that were counted. The result has these
     /// counts. If `tracks` has the tracks of all threads' logs, the filed calls have one order.
-    /// Each thread's calls are in its order, and the front's led from the first front to the result's.
+    /// Each thread's calls are in its order. Those of the front, and those of each shard, lead from
+    /// the first one to the result's.
     pub fn close(
         self,
         unassigned: &mut Unassigned<B>,
-        tracks: ServerTracks<ServerOf<B>>,
+        mut tracks: ServerTracks<ServerOf<B>>,
     ) -> ClosedServer
         requires { unassigned.old.parts ≡ B.parts }
         ensures risen { map serials result.shards ≡ sums (map (λ n. 8 * n) result.first_serials) unassigned.old.changes }
         ensures shown { result.changes ≡ map saturated unassigned.old.changes }
-        ensures order { (logs : List TrackedLog) → HasTracksOf B.first_job logs tracks → 9 + length logs ≡ B.first_job → HaveOneOrder B.begin logs result.front }
+        ensures order { (logs : List TrackedLog) → HasTracksOf B.first_job logs tracks → 9 + length logs ≡ B.first_job → HaveOneOrder B.begin logs result }
     {
-        let front = self.front.into_inner().close(&self.book, tracks);
-        let (shard0, first0) = self.shard0.close(&mut unassigned.tally0);
-        let (shard1, first1) = self.shard1.close(&mut unassigned.tally1);
-        let (shard2, first2) = self.shard2.close(&mut unassigned.tally2);
-        let (shard3, first3) = self.shard3.close(&mut unassigned.tally3);
-        let (shard4, first4) = self.shard4.close(&mut unassigned.tally4);
-        let (shard5, first5) = self.shard5.close(&mut unassigned.tally5);
-        let (shard6, first6) = self.shard6.close(&mut unassigned.tally6);
-        let (shard7, first7) = self.shard7.close(&mut unassigned.tally7);
+        let front = self.front.into_inner().close(&self.book, &mut tracks);
+        let (shard0, first0) = self
+            .shard0
+            .close(&self.book, &mut tracks, &mut unassigned.tally0);
+        let (shard1, first1) = self
+            .shard1
+            .close(&self.book, &mut tracks, &mut unassigned.tally1);
+        let (shard2, first2) = self
+            .shard2
+            .close(&self.book, &mut tracks, &mut unassigned.tally2);
+        let (shard3, first3) = self
+            .shard3
+            .close(&self.book, &mut tracks, &mut unassigned.tally3);
+        let (shard4, first4) = self
+            .shard4
+            .close(&self.book, &mut tracks, &mut unassigned.tally4);
+        let (shard5, first5) = self
+            .shard5
+            .close(&self.book, &mut tracks, &mut unassigned.tally5);
+        let (shard6, first6) = self
+            .shard6
+            .close(&self.book, &mut tracks, &mut unassigned.tally6);
+        let (shard7, first7) = self
+            .shard7
+            .close(&self.book, &mut tracks, &mut unassigned.tally7);
+        tracks.attest(&self.book);
         ClosedServer {
             front,
             shards: [
@@ -437,8 +497,8 @@ impl<'a, B: Books, D: Device> Bench for Locked<'a, B, D> {
         tallies: &mut Tallies<B>,
         log: &mut TrackLog<ServerOf<B>>,
     ) -> Taken {
-        let _ = log;
-        let taken = self.ask(rt, shard_of(job.origin.slot), Take { job, readings }, found);
+        let shard = shard_of(job.origin.slot);
+        let taken = self.ask(rt, shard, Take { job, readings }, found, log);
         tallies.end_snapshot(&taken);
         taken
     }
@@ -452,13 +512,12 @@ impl<'a, B: Books, D: Device> Bench for Locked<'a, B, D> {
         reset: bool,
         log: &mut TrackLog<ServerOf<B>>,
     ) {
-        let _ = log;
         let signal = Signal {
             endpoint,
             id,
             reset,
         };
-        self.ask(rt, shard, signal, &mut ());
+        self.ask(rt, shard, signal, &mut (), log);
     }
 
     fn tick_shard<R: Wait>(
@@ -468,8 +527,7 @@ impl<'a, B: Books, D: Device> Bench for Locked<'a, B, D> {
         now: u64,
         log: &mut TrackLog<ServerOf<B>>,
     ) -> Ticked {
-        let _ = log;
-        self.ask(rt, shard, Tick { now }, &mut ())
+        self.ask(rt, shard, Tick { now }, &mut (), log)
     }
 
     fn advance_if_idle<R: Wait>(
@@ -479,12 +537,11 @@ impl<'a, B: Books, D: Device> Bench for Locked<'a, B, D> {
         now: u64,
         log: &mut TrackLog<ServerOf<B>>,
     ) -> bool {
-        let _ = log;
-        self.ask(rt, shard, AdvanceIfIdle { now }, &mut ())
+        self.ask(rt, shard, AdvanceIfIdle { now }, &mut (), log)
     }
 
     fn idle_until<R: Wait>(&self, rt: &R, shard: u8) -> u64 {
-        self.ask(rt, shard, IdleUntil, &mut ())
+        self.inspect(rt, shard, IdleUntil, &mut ())
     }
 
     fn next_due<R: Wait>(
@@ -495,8 +552,7 @@ impl<'a, B: Books, D: Device> Bench for Locked<'a, B, D> {
         job: &mut Job,
         log: &mut TrackLog<ServerOf<B>>,
     ) -> bool {
-        let _ = log;
-        self.ask(rt, shard, NextDue { now }, job)
+        self.ask(rt, shard, NextDue { now }, job, log)
     }
 
     fn note<R: Wait>(
@@ -511,7 +567,6 @@ impl<'a, B: Books, D: Device> Bench for Locked<'a, B, D> {
         tallies: &mut Tallies<B>,
         log: &mut TrackLog<ServerOf<B>>,
     ) -> NoteOutcome {
-        let _ = log;
         tallies.end_job();
         let note = Note {
             turn,
@@ -520,7 +575,7 @@ impl<'a, B: Books, D: Device> Bench for Locked<'a, B, D> {
             random,
             told,
         };
-        self.ask(rt, turn.slot % SHARDS, note, emission)
+        self.ask(rt, turn.slot % SHARDS, note, emission, log)
     }
 
     fn give_up<R: Wait>(
@@ -531,9 +586,8 @@ impl<'a, B: Books, D: Device> Bench for Locked<'a, B, D> {
         tallies: &mut Tallies<B>,
         log: &mut TrackLog<ServerOf<B>>,
     ) {
-        let _ = log;
         tallies.end_job();
-        self.ask(rt, turn.slot % SHARDS, GiveUp { turn, now }, &mut ());
+        self.ask(rt, turn.slot % SHARDS, GiveUp { turn, now }, &mut (), log);
     }
 
     fn commit<R: Wait>(
@@ -545,13 +599,12 @@ impl<'a, B: Books, D: Device> Bench for Locked<'a, B, D> {
         tallies: &mut Tallies<B>,
         log: &mut TrackLog<ServerOf<B>>,
     ) -> Committed {
-        let _ = log;
         let commit = Commit {
             now,
             outcome,
             ticket,
         };
-        self.change(rt, ticket.origin().slot, commit, &mut (), tallies)
+        self.change(rt, ticket.origin().slot, commit, &mut (), tallies, log)
     }
 
     fn install<R: Wait>(
@@ -562,14 +615,8 @@ impl<'a, B: Books, D: Device> Bench for Locked<'a, B, D> {
         tallies: &mut Tallies<B>,
         log: &mut TrackLog<ServerOf<B>>,
     ) -> Made {
-        let _ = log;
-        self.change(
-            rt,
-            job.origin.slot,
-            Install { job, program },
-            &mut (),
-            tallies,
-        )
+        let install = Install { job, program };
+        self.change(rt, job.origin.slot, install, &mut (), tallies, log)
     }
 
     fn remove<R: Wait>(
@@ -579,8 +626,7 @@ impl<'a, B: Books, D: Device> Bench for Locked<'a, B, D> {
         tallies: &mut Tallies<B>,
         log: &mut TrackLog<ServerOf<B>>,
     ) -> Removal {
-        let _ = log;
-        self.change(rt, job.origin.slot, Remove { job }, &mut (), tallies)
+        self.change(rt, job.origin.slot, Remove { job }, &mut (), tallies, log)
     }
 
     fn receipt<R: Wait>(
@@ -589,8 +635,8 @@ impl<'a, B: Books, D: Device> Bench for Locked<'a, B, D> {
         job: &Job,
         log: &mut TrackLog<ServerOf<B>>,
     ) -> Option<Receipt> {
-        let _ = log;
-        self.ask(rt, shard_of(job.origin.slot), Describe { job }, &mut ())
+        let shard = shard_of(job.origin.slot);
+        self.ask(rt, shard, Describe { job }, &mut (), log)
     }
 
     fn head_seat(&self) -> HeadSeat {

@@ -17,9 +17,10 @@ const FIRST_THREAD: u64 = 9;
 
 /// A worker's log: that of its calls, and its tracks in the server's book.
 ///
-/// Each call of the server's front that gets the log becomes the last entry on the worker's own
-/// track, and on the track of its jobs. The other calls leave the tracks unchanged. A clause sees
-/// the log of the calls, the key of the worker's own track, and the tracks.
+/// Each call of the server's front or of a shard that gets the log becomes the last entry on the
+/// worker's own track. A call for a job is the last entry on the track of the worker's jobs, too.
+/// The other calls leave the tracks unchanged. A clause sees the log of the calls, the key of the
+/// worker's own track, and the tracks.
 #[derive(Drop)]
 pub struct TrackLog<J: ServerName> {
     pub calls: CallLog,

@@ -1,25 +1,25 @@
-//! A shard with a ledger, which counts the changes that calls make.
-ghost use Rattle.std.specs.Prelude.{◌≡◌, ◌<◌};
+//! A shard under its lock: the changes that its calls count.
+ghost use Rattle.std.specs.Prelude.{◌≡◌, ◌+◌};
+ghost use Rattle.fc_core.specs.Policies.{default_policy};
+ghost use Rattle.fc_workers.specs.Fronts.{beginning};
+ghost use Rattle.fc_workers.specs.Naming.{AreNamed};
 
 use crate::job_tests::job;
-use crate::overtaking_tests::COUNTER;
-use fc_calls::calls::Take;
+use crate::overtaking_tests::{Bare, COUNTER};
+use fc_core::DEFAULT_POLICY;
+use fc_filed::NewServerBook;
 use fc_help::{Method, NO_READINGS, Request};
 use fc_machine::{Frame, run};
-use fc_observe::CONFIRM_AFTER;
-use fc_registry::{Ask, Committed, Job, Shard, SlotNumber, SlotSnapshot, Taken, Ticket};
+use fc_registry::{Ask, Committed, Job, Removal, SlotNumber, SlotSnapshot, Taken, Ticket};
 use fc_verify::verify;
-use fc_workers::{Counted, Tally};
+use fc_workers::{Bench, Blanks, Books, Locked, TrackLog};
 use std::alloc::Global;
 use std::marker::Brand;
-use std::sync::Arc;
-use std::sync::ledger::{Blank, Ledger};
+use std::sync::{Arc, Wait};
 use std::test::Fail;
 
 // Returns the job of a POST to slot 3, which shard 3 owns.
-fn post() -> Job
-    ensures { result.origin.slot ≡ 3 }
-{
+fn post() -> Job {
     let mut post = job(0);
     post.origin.slot = SlotNumber::new(3);
     post.ask = Ask::Run(Request::new(Method::Post, 3, None, &[], &[]));
@@ -28,19 +28,17 @@ fn post() -> Job
 
 // Takes a snapshot for the job, runs the program, and commits the outcome. Returns whether the mark
 // of the commit has serial 8; `false` if there was no snapshot or no commit.
-fn commit<L: Ledger>(
+fn commit<B: Bench, R: Wait>(
+    rt: &R,
     alloc: Global,
-    counted: &mut Counted<L>,
-    tally: &mut Tally<L>,
+    bench: &B,
+    tallies: &mut B::Tallies,
+    log: &mut TrackLog<B::Book>,
     job: &Job,
-) -> Result<bool, Fail>
-    requires index { counted.old.shard.index ≡ 3 }
-    requires slot { job.now.origin.slot ≡ 3 }
-    ensures { counted.new.shard.index ≡ 3 }
-{
+) -> Result<bool, Fail> {
     let readings = &NO_READINGS;
     let mut found = SlotSnapshot::blank();
-    let taken = counted.ask(Take { job, readings }, &mut found);
+    let taken = bench.take(rt, job, readings, &mut found, tallies, log);
     let Taken::Given(given) = &taken else {
         return Ok(false);
     };
@@ -48,38 +46,61 @@ fn commit<L: Ledger>(
     let mut frame = Frame::new(alloc)?;
     let (program, request) = (ticket.program(), ticket.request());
     let outcome = run(&mut frame, program, request, ticket.vars(), readings);
-    if ticket.origin().slot == SlotNumber::new(3) {
-        match counted.commit(0, &outcome, &ticket, tally) {
-            Committed::Done(mark) => return Ok(mark.into_serial() == 8),
-            Committed::Overtaken | Committed::Ended | Committed::Stranger => {}
-        }
+    match bench.commit(rt, 0, &outcome, &ticket, tallies, log) {
+        Committed::Done(mark) => Ok(mark.into_serial() == 8),
+        Committed::Overtaken | Committed::Ended | Committed::Stranger => Ok(false),
     }
-    Ok(false)
 }
 
-// Installs a program, commits a run, removes the program, and removes it again, which changes
-// nothing. Returns the slot's serial and the number of changes in the tally. That number is 0 if
-// the commit failed.
-fn change<L: Ledger>(alloc: Global, blank: Blank) -> Result<(u64, u64), Fail>
-    requires name { blank.name ≡ L.name }
-    requires parts { (blank.parts ≡ L.parts) × (0 < blank.parts) }
+// Installs, commits, removes, and removes nothing, in a slot of a new server that begins at serial
+// 7. Returns the slot's serial after the removal, and the number of changes in the tally of its
+// shard.
+fn change<B: Books, R: Wait>(
+    rt: &R,
+    alloc: Global,
+    blanks: Blanks,
+    book: NewServerBook,
+) -> Result<(u64, u64), Fail>
+    requires parts { blanks.parts ≡ 2 }
+    requires names { AreNamed blanks B.names }
+    requires books { blanks.parts ≡ B.parts }
+    requires first { B.first ≡ beginning default_policy 0 }
+    requires table { book.table ≡ B.table }
+    requires book_threads { book.first_job ≡ 10 }
+    requires threads { book.first_job ≡ B.first_job }
+    requires begin { B.begin ≡ record { serial = 7; id = 0; policy = default_policy } }
 {
-    let shard = Shard::new(alloc, 3, 7, CONFIRM_AFTER)?;
-    let (mut counted, mut tally) = Counted::<L>::open(shard, blank);
+    let device = Bare::new();
+    let (server, mut unassigned, mut logs) = Locked::<B, Bare>::new(
+        alloc,
+        7,
+        0,
+        &DEFAULT_POLICY,
+        &device,
+        blanks,
+        book,
+    )?;
+    let Some(mut log) = logs.pop() else {
+        unreachable!();
+    };
+    let mut tallies = unassigned.split();
     let job = post();
     let program = Arc::new(alloc, verify(alloc, COUNTER).map_err(|_| "accepted")?)?;
-    let _made = counted.install(&job, program, &mut tally);
-    let has_run = commit(alloc, &mut counted, &mut tally, &job)?;
-    let _removal = counted.remove(&job, &mut tally);
-    let _removal = counted.remove(&job, &mut tally);
-    let shown = if has_run { tally.shown() } else { 0 };
-    Ok((counted.shard().serial(SlotNumber::new(3)), shown))
+    let _made = server.install(rt, &job, program, &mut tallies, &mut log);
+    let has_run = commit(rt, alloc, &server, &mut tallies, &mut log, &job)?;
+    let removal = server.remove(rt, &job, &mut tallies, &mut log);
+    let _absent = server.remove(rt, &job, &mut tallies, &mut log);
+    let shown = if has_run { tallies.shown(3) } else { 0 };
+    match removal {
+        Removal::Removed { serial } => Ok((serial, shown)),
+        Removal::Absent | Removal::AtEnd => Ok((0, shown)),
+    }
 }
 
-// An install, a commit and a removal are counted once each; a removal from an empty slot isn't.
 #[test]
 fn each_change_is_counted_once(rt: HostRuntime) -> Result<(), Fail> {
-    let blank = Blank::new(1);
-    assert!(rt; change::<Brand>(rt.alloc(), blank)? == (10, 3));
+    let blanks = Blanks::new(2);
+    let book = NewServerBook::new(rt.alloc(), 1)?;
+    assert!(rt; change::<Brand, HostRuntime>(&rt, rt.alloc(), blanks, book)? == (10, 3));
     Ok(())
 }

@@ -52,7 +52,7 @@ pub(crate) trait Locks: Bench {
 
 impl<'a, B: Books, D: Device> Locks for Locked<'a, B, D> {
     fn hold<X, F: FnOnce() -> X + Drop, R: Wait>(&self, rt: &R, shard: u8, call: F) -> X {
-        self.ask(rt, shard, WhileHeld { call }, &mut ())
+        self.inspect(rt, shard, WhileHeld { call }, &mut ())
     }
 }
 

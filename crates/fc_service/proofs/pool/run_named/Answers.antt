@@ -19,5 +19,5 @@ returns-clause-fed g c =
       fed = subst (λ x. IsFed worker_view Drives offload c.args.driver x ended.own ended.shares.items) (sym c.close.ensures.given) has;
       count = omega (arith, c.in_ok-ended.ensures.shares, c.in_ok-server.ensures.count);
       counted = c.close.ensures.replies;
-      order = subst (λ (b : Begin). HaveOneOrder b (logs_of ended.shares.items ended.own) c.close.result.closed.front) c.requires.book_begin (c.close.ensures.order threads);
+      order = subst (λ (b : Begin). HaveOneOrder b (logs_of ended.shares.items ended.own) c.close.result.closed) c.requires.book_begin (c.close.ensures.order threads);
     }

@@ -22,9 +22,9 @@ returns g c =
         shares = w.shares;
         worked = w.fed.shares_are;
         count = w.count;
-        front = c.in_ok-fed.fed.closed.front;
-        order = subst (λ (n : ℕ). HaveOneOrder (record { serial = n; id = c.args.extent.first_id; policy = c.args.extent.policy }) (logs_of w.shares fed.last.done.share) c.in_ok-fed.fed.closed.front) c.serial_of_start.ensures.value
-            (subst (λ (s : Share _). HaveOneOrder (record { serial = c.serial_of_start.result; id = c.args.extent.first_id; policy = c.args.extent.policy }) (logs_of w.shares s) c.in_ok-fed.fed.closed.front) fed.own_is w.order);
+        closed = c.in_ok-fed.fed.closed;
+        order = subst (λ (n : ℕ). HaveOneOrder (record { serial = n; id = c.args.extent.first_id; policy = c.args.extent.policy }) (logs_of w.shares fed.last.done.share) c.in_ok-fed.fed.closed) c.serial_of_start.ensures.value
+            (subst (λ (s : Share _). HaveOneOrder (record { serial = c.serial_of_start.result; id = c.args.extent.first_id; policy = c.args.extent.policy }) (logs_of w.shares s) c.in_ok-fed.fed.closed) fed.own_is w.order);
         all = c.plus.ensures ∙ ap (both_replies at_once) (w.counted ∙ ap (λ own. both_replies (replies_of w.shares) (replies_by own)) fed.own_is);
       },
     )
