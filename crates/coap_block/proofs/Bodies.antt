@@ -10,7 +10,7 @@ use Rattle.coap_opts.specs.Values.{Place, block_size}
 use Rattle.coap_block.specs.Uploads.{Add, Continues, IsWhole, add_of, before_by, before_of, body_among, body_behind, body_with, checked_by, has_length, is_full, is_transfer_of, live, others, unless_more, IsTooLarge, IsFull}
 use Rattle.coap_block.specs.UnderWay.{Begins, Fits, HasLength}
 
--- the bytes of a found transfer
+-- the bytes of a transfer that a search found, if it found one
 abbrev pub found_bytes : Option Transfer → Option (List ℕ)
 found_bytes u = option_map (λ t. t.body.items) u
 
@@ -29,7 +29,7 @@ extends : (over : Bool) (sum body : List ℕ) → (if over then IsTooLarge else 
 extends true sum body e = absurd (cc)
 extends false sum body e = (refl, cc)
 
--- ---- lengths
+-- ---- the length of a payload
 
 pub long_from : (more : Bool) (size bytes : ℕ) → has_length more size bytes ≡ true → HasLength more size bytes
 long_from true size bytes e = eqb-true bytes size e
@@ -61,7 +61,7 @@ behind_to before b bytes body h =
     let w : nat_lt 8208 (length before + length bytes) ≡ false = le-ltb 8208 (length before + length bytes) (omega (arith, le, length-append before bytes)) in
     (λ i. checked_by (h.starts i) (l i) (if w i then IsTooLarge else IsWhole (before ++ bytes))) ∙ ap IsWhole (sym h.joined)
 
--- ---- the payloads before it
+-- ---- the payloads before a block
 
 record HasBefore (first : Bool) (u : Option Transfer) (b : Place) (bytes body : List ℕ) : Type 0 where
   before : List ℕ
@@ -90,7 +90,7 @@ begins_from : (U : List ℕ → Type 0) (rest : ℕ) (b : Place) (u : Option Tra
 begins_from U rest b u before true z under room is starts = inl (eqb-true b.number 0 z, room_from b.number rest z room, sym (some_inner [] before is))
 begins_from U rest b u before false z under room is starts = inr (eqb-false b.number 0 z, under before (under_from u before is), eqb-true (b.number * block_size b.szx) (length before) starts)
 
--- a whole body results from a fitting block
+-- if a block results in a whole body, the block fits
 pub fits_from : (U : List ℕ → Type 0) (held : List Transfer) (to : Endpoint) (n : ℕ) (b : Place) (bytes body : List ℕ) → ((w : List ℕ) → found_bytes (find (is_transfer_of to n) held) ≡ Some w → U w) → body_among held to n b bytes ≡ IsWhole body → Fits U (length (others to n held)) b bytes body
 fits_from U held to n b bytes body under e =
     let u = find (is_transfer_of to n) held in
@@ -98,9 +98,9 @@ fits_from U held to n b bytes body under e =
     let w = before_from (before_of b.number u) (b.number == 0) u b bytes body refl f.1 in
     record { before = w.before; begins = begins_from U (length (others to n held)) b u w.before (b.number == 0) refl under f.0 w.is w.behind.starts; long = w.behind.long; joined = w.behind.joined; within = w.behind.within }
 
--- ---- the converse
+-- ---- a fitting block gives a whole body
 
--- the checks that a beginning passes
+-- the block begins at the end of `before`, and there is room for its transfer
 pub record BeginsBy (rest : ℕ) (b : Place) (u : Option Transfer) (before : List ℕ) : Type 0 where
   pub room : is_full b.number rest ≡ false
   pub is : before_of b.number u ≡ Some before
@@ -116,14 +116,14 @@ begins_to U rest b u before under (inr w) =
     let z = ne_eqb b.number 0 w.0 in
     record { room = and_left (b.number == 0) (not (nat_lt rest 16)) z; is = ap (λ (first : Bool). before_by first u) z ∙ under_to u before (under before w.1); starts = eq-eqb (b.number * block_size b.szx) (length before) w.2 }
 
--- a fitting block results in a whole body
+-- if a block fits, it results in a whole body (before the M bit is checked)
 pub fits_to : (U : List ℕ → Type 0) (held : List Transfer) (to : Endpoint) (n : ℕ) (b : Place) (bytes body : List ℕ) → ((w : List ℕ) → U w → found_bytes (find (is_transfer_of to n) held) ≡ Some w) → Fits U (length (others to n held)) b bytes body → body_among held to n b bytes ≡ IsWhole body
 fits_to U held to n b bytes body under fits =
     let u = find (is_transfer_of to n) held in
     let w = begins_to U (length (others to n held)) b u fits.before under fits.begins in
     (λ i. (if w.room i then IsFull else body_behind (w.is i) b bytes)) ∙ behind_to fits.before b bytes body (record { starts = w.starts; long = fits.long; joined = fits.joined; within = fits.within })
 
--- ---- the result
+-- ---- the result after the M bit is checked
 
 pub whole_from : (more : Bool) (x : Add) (body : List ℕ) → unless_more more x ≡ IsWhole body → (more ≡ false) × (x ≡ IsWhole body)
 whole_from true (IsWhole w) body e = absurd (cc)
@@ -147,11 +147,11 @@ never_behind true o b bytes e = cc
 never_behind false None b bytes e = cc
 never_behind false (Some before) b bytes e = never_checked (b.number * block_size b.szx == length before) (has_length b.more (block_size b.szx) (length bytes)) (nat_lt 8208 (length before + length bytes)) (before ++ bytes) e
 
--- before the M bit is checked, the result is never that a body continues
+-- the result before the M bit is checked is never `Continues`
 pub never_continues : (held : List Transfer) (to : Endpoint) (n : ℕ) (b : Place) (bytes : List ℕ) → body_among held to n b bytes ≡ Continues → ⊥
 never_continues held to n b bytes e = never_behind (is_full b.number (length (others to n held))) (before_of b.number (find (is_transfer_of to n) held)) b bytes e
 
--- ---- at most 8,208 bytes
+-- ---- a whole body has at most 8,208 bytes
 
 pub most_bytes : (held : List Transfer) (now : ℕ) (to : Endpoint) (n : ℕ) (block : Option Place) (bytes body : List ℕ) → add_of held now to n block bytes ≡ IsWhole body → length body ≤ 8208
 most_bytes held now to n None bytes body e =

@@ -11,7 +11,7 @@ use Rattle.coap_block.proofs.Bodies.{long_from, long_to, some_inner}
 use Rattle.coap_block.proofs.Refusals.{out_of_place, too_large, too_many, wrong_length}
 use Rattle.coap_block.proofs.UnderWay.{added_continues, added_whole, held_from, held_to}
 
--- the cause of a result
+-- the result for a block has its cause; `Continues` and `IsWhole` need none
 abbrev HasCause : List Addition → Addition → Place → Add → Type 0
 HasCause h a b IsFull = FindsNoRoom h a b
 HasCause h a b IsIncomplete = IsOutOfPlace h a b
@@ -35,7 +35,7 @@ bad_length h a b r w = wrong_length h a b w.before r w.begins w.wrong
 large : (h : List Addition) (a : Addition) (b : Place) → RisesTo a.at h → HasLargeSum h a b → added h a b ≡ IsTooLarge
 large h a b r w = too_large h a b w.before r w.begins w.long w.large
 
--- ---- a block that begins at the end of those before it
+-- ---- a block that begins at the end of the payloads before it
 
 fits_cause : (h : List Addition) (a : Addition) (b : Place) (body : List ℕ) → RisesTo a.at h → FitsBehind h a b body → (more : Bool) → b.more ≡ more → HasCause h a b (added h a b)
 fits_cause h a b body r fits true is = subst (HasCause h a b) (sym ((added_continues h a b r).1 (is, (body, fits)))) tt
@@ -59,12 +59,12 @@ length_cause h a b before r begins false is =
 begun_cause : (h : List Addition) (a : Addition) (b : Place) (before : List ℕ) → RisesTo a.at h → BeginsBehind h a b before → HasCause h a b (added h a b)
 begun_cause h a b before r begins = length_cause h a b before r begins (has_length b.more (block_size b.szx) (length a.payload)) refl
 
--- ---- the place at which it begins
+-- ---- the place at which a block begins
 
 apart_cause : (h : List Addition) (a : Addition) (b : Place) → RisesTo a.at h → IsOutOfPlace h a b → HasCause h a b (added h a b)
 apart_cause h a b r w = subst (HasCause h a b) (sym (apart h a b r w)) w
 
--- a later block begins after the stored bytes, or nowhere
+-- if a block other than number 0 begins at the end of some payloads, these are the stored bytes
 held_or_none : (h : List Addition) (a : Addition) (b : Place) (held : Option (List ℕ)) → RisesTo a.at h → bytes_held a.at a.endpoint a.slot (transfers h) ≡ held → b.number ≢ 0 → (before : List ℕ) → BeginsBehind h a b before → held ≡ Some before
 held_or_none h a b held r is later before (inl w) = absurd (later w.0)
 held_or_none h a b held r is later before (inr w) = sym is ∙ held_to h a.at a.endpoint a.slot before r w.1
@@ -99,7 +99,7 @@ number_cause h a b r false is = later_cause h a b r (eqb-false b.number 0 is) (b
 cause : (h : List Addition) (a : Addition) (b : Place) → RisesTo a.at h → HasCause h a b (added h a b)
 cause h a b r = number_cause h a b r (b.number == 0) refl
 
--- ---- each result by its own cause
+-- ---- each refusal occurs exactly if its cause holds
 
 pub full_by : (h : List Addition) (a : Addition) (b : Place) → RisesTo a.at h → (added h a b ≡ IsFull) ↔ FindsNoRoom h a b
 full_by h a b r = (λ e. subst (HasCause h a b) e (cause h a b r), no_room h a b)

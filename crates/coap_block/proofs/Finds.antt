@@ -1,4 +1,4 @@
--- Searches in a list that was filtered or appended to.
+-- Searches in a filtered list, and in two joined lists.
 use Rattle.std.proofs.Common.{◌≡◌, List, [], ◌∷◌, ◌++◌, Bool, true, false, cond, Some, None, refl, sym, ap, ◌∙◌}
 use Rattle.std.specs.Prelude.{filter, find, ◌&&◌}
 
@@ -6,12 +6,12 @@ filtered_by : {X : Type 0} (p q : X → Bool) (x : X) (xs : List X) (b : Bool) �
 filtered_by p q x xs true e rest = ap (λ (b : Bool). find p (cond b (x ∷ filter q xs) (filter q xs))) e ∙ (ap (λ o. cond (p x) (Some x) o) rest ∙ sym (ap (λ (b : Bool). cond (b && p x) (Some x) (find (λ y. q y && p y) xs)) e))
 filtered_by p q x xs false e rest = ap (λ (b : Bool). find p (cond b (x ∷ filter q xs) (filter q xs))) e ∙ (rest ∙ sym (ap (λ (b : Bool). cond (b && p x) (Some x) (find (λ y. q y && p y) xs)) e))
 
--- the first that passes, of those that pass the filter
+-- a search in a filtered list finds the first element that passes both the filter and the test
 pub find-filter : {X : Type 0} (p q : X → Bool) (xs : List X) → find p (filter q xs) ≡ find (λ y. q y && p y) xs
 find-filter p q [] = refl
 find-filter p q (x ∷ xs) = filtered_by p q x xs (q x) refl (find-filter p q xs)
 
--- two tests that agree find the same
+-- if two tests agree on every element, searches with them find the same element
 pub find_agree : {X : Type 0} (p q : X → Bool) → ((x : X) → p x ≡ q x) → (xs : List X) → find p xs ≡ find q xs
 find_agree p q e xs = λ i. find (λ x. e x i) xs
 
@@ -24,12 +24,12 @@ behind_by : {X : Type 0} (p : X → Bool) (x : X) (xs ys : List X) (b : Bool) �
 behind_by p x xs ys true e none rest = absurd (cc)
 behind_by p x xs ys false e none rest = rest none
 
--- a search that finds nothing in the first part
+-- if a search finds nothing in the first list, it finds the same in both joined as in the second
 pub find_behind : {X : Type 0} (p : X → Bool) (xs ys : List X) → find p xs ≡ None → find p (xs ++ ys) ≡ find p ys
 find_behind p [] ys none = refl
 find_behind p (x ∷ xs) ys none = behind_by p x xs ys (p x) refl none (find_behind p xs ys)
 
--- a search that finds nothing in the second part
+-- if a search finds nothing in the second list, it finds the same in both joined as in the first
 pub find_before : {X : Type 0} (p : X → Bool) (xs ys : List X) → find p ys ≡ None → find p (xs ++ ys) ≡ find p xs
 find_before p [] ys none = none
 find_before p (x ∷ xs) ys none = ap (λ o. cond (p x) (Some x) o) (find_before p xs ys none)

@@ -1,4 +1,4 @@
--- The blocks of a body with one size are its bytes.
+-- The blocks of one size of a body, joined, are the body's bytes.
 use Rattle.std.proofs.Common.{◌≡◌, ℕ, zero, suc, ◌+◌, ◌*◌, ◌≤◌, List, [], ◌++◌, length, take, drop, Bool, true, false, None, Some, refl, sym, ap, ◌∙◌, subst, ⊎_elim, arith, length-drop, if◌then◌else◌}
 use Rattle.std.specs.Prelude.{nat_lt, not}
 use Rattle.std.proofs.lemmas.Bool.{and_parts, and_cases, ltb-true, ltb-false, not-true, not-false}
@@ -10,7 +10,7 @@ use Rattle.coap_opts.specs.Values.{block_size}
 use Rattle.coap_block.specs.Cuts.{Part, block_at, cut_at, is_past, part_bytes}
 use Rattle.coap_block.specs.Pieces.{EndsBy, IsBlockOf, joined_cuts}
 
--- ---- joined
+-- ---- the first blocks, joined
 
 nothing_left : (body : List ℕ) (k szx : ℕ) → is_past body k szx ≡ true → drop (k * block_size szx) body ≡ []
 nothing_left body k szx e =
@@ -27,7 +27,7 @@ cuts_joined body szx (suc k) =
     (λ i. cuts_joined body szx k i ++ cut_bytes body k szx (is_past body k szx) refl i)
     ∙ (sym (take-add (k * block_size szx) (block_size szx) body) ∙ sym (ap (λ (n : ℕ). take n body) (suc-mul k (block_size szx))))
 
--- ---- each
+-- ---- each block
 
 starts_within : (body : List ℕ) (k szx : ℕ) → is_past body k szx ≡ false → k * block_size szx ≤ length body
 starts_within body k szx e = ⊎_elim

@@ -10,7 +10,7 @@ use Rattle.coap_block.specs.UnderWay.{BeginsBehind, HasLength, IsUnderWay, Rises
 use Rattle.coap_block.proofs.Bodies.{BeginsBy, begins_to, found_bytes, long_from, long_to}
 use Rattle.coap_block.proofs.UnderWay.{held_from, held_to}
 
--- a refusal is the same whether or not more blocks follow
+-- a result other than a whole body is the same whether or not more blocks follow
 stays : (more : Bool) (x : Add) → ((body : List ℕ) → x ≡ IsWhole body → ⊥) → unless_more more x ≡ x
 stays true (IsWhole body) never = absurd (never body refl)
 stays true Continues never = refl
@@ -20,11 +20,11 @@ stays true IsTooLarge never = refl
 stays true IsFull never = refl
 stays false x never = refl
 
--- a refusal before the M bit is checked is the result
+-- if the result before the M bit is checked isn't a whole body, it is the result for the block
 refused : (h : List Addition) (a : Addition) (b : Place) (x : Add) → ((body : List ℕ) → x ≡ IsWhole body → ⊥) → body_among (live a.at (transfers h)) a.endpoint a.slot b a.payload ≡ x → block_added (transfers h) a.at a.endpoint a.slot b a.payload ≡ x
 refused h a b x never e = ap (unless_more b.more) e ∙ stays b.more x never
 
--- the transfer of a block's own key
+-- the transfer in progress with the addition's endpoint and slot, if there is one
 abbrev own : List Addition → Addition → Option Transfer
 own h a = find (is_transfer_of a.endpoint a.slot) (live a.at (transfers h))
 
@@ -34,7 +34,7 @@ too_many h a b first many =
     let r = le-ltb (others_at a h) 16 many in
     refused h a b IsFull (λ body e. cc e) (λ i. (if z i && not (r i) then IsFull else body_behind (before_of b.number (own h a)) b a.payload))
 
--- ---- a block that begins at the end of those before it
+-- ---- a block that begins at the end of the payloads before it
 
 begun : (h : List Addition) (a : Addition) (b : Place) (before : List ℕ) → RisesTo a.at h → BeginsBehind h a b before → BeginsBy (others_at a h) b (own h a) before
 begun h a b before r w = begins_to (IsUnderWay a.at a.endpoint a.slot h) (others_at a h) b (own h a) before (λ body. held_to h a.at a.endpoint a.slot body r) w
@@ -56,7 +56,7 @@ too_large h a b before r w long over =
     let o = lt-ltb 8208 (length before + length a.payload) over in
     refused h a b IsTooLarge (λ body e. cc e) ((λ i. (if x.room i then IsFull else body_behind (x.is i) b a.payload)) ∙ (λ i. checked_by (x.starts i) (l i) (if o i then IsTooLarge else IsWhole (before ++ a.payload))))
 
--- ---- a block that doesn't
+-- ---- a block that doesn't begin at the end of the payloads before it
 
 found_at : (u : Option Transfer) (b : Place) (bytes : List ℕ) → ((body : List ℕ) → found_bytes u ≡ Some body → (b.number * block_size b.szx == length body) ≡ false) → body_behind (before_by false u) b bytes ≡ IsIncomplete
 found_at None b bytes never = refl

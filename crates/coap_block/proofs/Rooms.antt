@@ -1,4 +1,4 @@
--- There is room for a transfer that continues.
+-- There is room for the transfer of a fitting block.
 use Rattle.std.proofs.Common.{◌≡◌, ℕ, ◌<◌, ◌≤◌, List, length, Bool, true, false, Option, Some, None, refl, arith}
 use Rattle.std.specs.Prelude.{find, not, nat_lt, ◌==◌, ◌&&◌}
 use borrow.Author.Tests.{ltb-true}
@@ -17,6 +17,6 @@ room_by held to n b bytes body true t found le room whole = ltb-true (length (ot
 room_by held to n b bytes body false None found le room whole = absurd (cc)
 room_by held to n b bytes body false (Some t) found le room whole = let lt = others_fewer (is_transfer_of to n) t held found in omega (arith, lt, le)
 
--- a fitting block starts a transfer if there is room, or continues a stored one
+-- if a block fits, fewer than 16 transfers of other endpoints and slots are stored
 pub has_room : (held : List Transfer) (to : Endpoint) (n : ℕ) (b : Place) (bytes body : List ℕ) → length held ≤ 16 → is_full b.number (length (others to n held)) ≡ false → body_behind (before_of b.number (find (is_transfer_of to n) held)) b bytes ≡ IsWhole body → length (others to n held) < 16
 has_room held to n b bytes body le room whole = room_by held to n b bytes body (b.number == 0) (find (is_transfer_of to n) held) refl le room whole

@@ -8,7 +8,7 @@ use Rattle.coap_block.specs.Uploads.{Add, IsWhole, after_add, body_among, is_tra
 use Rattle.coap_block.specs.Transfers.{Addition, transfers}
 use Rattle.coap_block.proofs.Keys.{own_key}
 
--- the number of elements that pass the test
+-- the number of transfers that pass the test
 abbrev count : (Transfer → Bool) → List Transfer → ℕ
 count p held = length (filter p held)
 
@@ -20,7 +20,7 @@ count_joined : (p : Transfer → Bool) (xs ys : List Transfer) → count p (xs +
 count_joined p [] ys = omega arith
 count_joined p (x ∷ xs) ys = joined_by (p x) x (filter p (xs ++ ys)) (filter p xs) (filter p ys) (count_joined p xs ys)
 
--- a filtered list has fewer that pass
+-- a filtered list has at most as many transfers that pass the test as the list
 left_by : (keeps is : Bool) (t : Transfer) (few all : List Transfer) (p : Transfer → Bool) → p t ≡ is → count p few ≤ length all → count p (cond keeps (t ∷ few) few) ≤ length (cond is (t ∷ all) all)
 left_by true is t few all p e le = subst (λ (b : Bool). length (cond b (t ∷ filter p few) (filter p few)) ≤ length (cond is (t ∷ all) all)) (sym e) (longer is)
   where
@@ -34,7 +34,7 @@ count_left : (p q : Transfer → Bool) (ts : List Transfer) → count p (filter 
 count_left p q [] = omega arith
 count_left p q (t ∷ ts) = left_by (q t) (p t) t (filter q ts) (filter p ts) p refl (count_left p q ts)
 
--- once the transfer of a key is removed, none of the key is left
+-- if the transfers that have a key are removed, no transfer with that key is left
 gone_by : (p q : Transfer → Bool) (t : Transfer) (few : List Transfer) (b : Bool) → q t ≡ b → p t ≡ q t → count p few ≡ 0 → count p (cond (not b) (t ∷ few) few) ≡ 0
 gone_by p q t few true e same none = none
 gone_by p q t few false e same none = ap (λ (b : Bool). length (cond b (t ∷ filter p few) (filter p few))) (same ∙ e) ∙ none
@@ -43,7 +43,7 @@ count_gone : (p q : Transfer → Bool) (ts : List Transfer) → ((t : Transfer) 
 count_gone p q [] same = refl
 count_gone p q (t ∷ ts) same = gone_by p q t (filter (λ t. not (q t)) ts) (q t) refl (same t) (count_gone p q ts same)
 
--- at most one transfer is stored for a block, and none of another key
+-- at most one transfer is stored for a block, and none with another key than the block's
 kept_count : (p : Transfer → Bool) (more : Bool) (at : ℕ) (from : Endpoint) (m : ℕ) (x : Add) → length (kept_transfer more at from m x) ≤ 1
 kept_count p true at from m (IsWhole body) = omega arith
 kept_count p more at from m x = omega arith
@@ -63,7 +63,7 @@ kept_none true at from to m n (IsWhole body) e =
     ap (λ (b : Bool). length (cond b (t ∷ []) [])) e
 kept_none more at from to m n x e = refl
 
--- ---- an addition
+-- ---- the transfers with one key after an addition
 
 one_after : (held : List Transfer) (at : ℕ) (from to : Endpoint) (m n : ℕ) (more : Bool) (x : Add) (same : Bool) → same_key from m to n ≡ same → count (is_transfer_of to n) held ≤ 1 → count (is_transfer_of to n) (others from m (live at held) ++ kept_transfer more at from m x) ≤ 1
 one_after held at from to m n more x true e le =

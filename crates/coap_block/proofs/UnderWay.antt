@@ -14,14 +14,14 @@ use Rattle.coap_block.proofs.Rooms.{has_room}
 use Rattle.coap_block.proofs.Keys.{after_other, after_own, is_found, own_key}
 use Rattle.coap_block.proofs.Bodies.{fits_from, fits_to, found_bytes, goes_on_from, never_continues, some_inner, unfull, whole_from}
 
--- ---- the stored result of a block
+-- ---- the transfer stored for a block
 
 one_from : (recent key : Bool) (t : Transfer) (body : List ℕ) → found_bytes (cond (recent && key) (Some t) None) ≡ Some body → (recent ≡ true) × (t.body.items ≡ body)
 one_from true true t body e = (refl, some_inner t.body.items body e)
 one_from true false t body e = absurd (cc)
 one_from false key t body e = absurd (cc)
 
--- it is a whole body with more blocks to follow
+-- the transfer stored for a block has the body up to that block, and more blocks follow
 kept_from : (now at : ℕ) (from to : Endpoint) (m n : ℕ) (body : List ℕ) (more : Bool) (x : Add) → found_bytes (find (is_found now to n) (kept_transfer more at from m x)) ≡ Some body → (now < at + 247000) × (more ≡ true) × (x ≡ IsWhole body)
 kept_from now at from to m n body true (IsWhole w) e =
     let t : Transfer = record { endpoint = from; slot = m; at = at; body = record { items = w } } in
@@ -32,9 +32,9 @@ kept_from now at from to m n body more x e = absurd (cc)
 kept_to : (now at : ℕ) (from to : Endpoint) (m n : ℕ) (body : List ℕ) → now < at + 247000 → same_key from m to n ≡ true → found_bytes (find (is_found now to n) (kept_transfer true at from m (IsWhole body))) ≡ Some body
 kept_to now at from to m n body lt key = λ i. found_bytes (cond (lt-ltb now (at + 247000) lt i && key i) (Some (record { endpoint = from; slot = m; at = at; body = record { items = body } })) None)
 
--- ---- one addition
+-- ---- the stored bytes after one addition
 
--- the transfer before a block, by either of two equal keys
+-- if two keys are equal, searches for the transfers with them find the same bytes
 same_found : (from to : Endpoint) (m n : ℕ) → same_key from m to n ≡ true → (held : List Transfer) → found_bytes (find (is_transfer_of from m) held) ≡ found_bytes (find (is_transfer_of to n) held)
 same_found from to m n key held = ap found_bytes (find_agree (is_transfer_of from m) (is_transfer_of to n) (own_key from to m n key) held)
 
@@ -54,7 +54,7 @@ step_to held now at from to m n payload body Before Left le before left true (So
     let w = fits_to Before (live at held) from m b payload body (λ v f. same_found from to m n key (live at held) ∙ before v f) u.fits in
     ap found_bytes (after_own held at now from to m n b payload key) ∙ ((λ i. found_bytes (find (is_found now to n) (kept_transfer (u.more i) at from m (w i)))) ∙ kept_to now at from to m n body u.recent key)
 
--- ---- all additions
+-- ---- the stored bytes after all additions
 
 rises_on : (before now : ℕ) (h : List Addition) → before ≤ now → RisesTo before h → RisesTo now h
 rises_on before now [] le r = tt
@@ -68,7 +68,7 @@ pub held_to : (h : List Addition) (now : ℕ) (to : Endpoint) (n : ℕ) (body : 
 held_to [] now to n body r u = absurd u
 held_to (a ∷ h) now to n body r u = step_to (transfers h) now a.at a.endpoint to a.slot n a.payload body (IsUnderWay a.at to n h) (IsUnderWay now to n h) r.0 (λ w. held_to h a.at to n w r.1) (λ w. held_to h now to n w (rises_on a.at now h r.0 r.1)) (same_key a.endpoint a.slot to n) a.block refl u
 
--- ---- the result
+-- ---- the result for a block
 
 pub added_whole : (h : List Addition) (a : Addition) (b : Place) (body : List ℕ) → RisesTo a.at h → (block_added (transfers h) a.at a.endpoint a.slot b a.payload ≡ IsWhole body) ↔ ((b.more ≡ false) × FitsBehind h a b body)
 added_whole h a b body r = (
@@ -84,7 +84,7 @@ added_continues h a b r = (
   λ w. let e = fits_to (IsUnderWay a.at a.endpoint a.slot h) (live a.at (transfers h)) a.endpoint a.slot b a.payload w.1.0 (λ v. held_to h a.at a.endpoint a.slot v r) w.1.1 in λ i. unless_more (w.0 i) (e i),
 )
 
--- ---- at most 16
+-- ---- at most 16 transfers are stored
 
 few_by : (rest : List Transfer) (at : ℕ) (from : Endpoint) (m : ℕ) (more : Bool) (x : Add) → length rest ≤ 16 → ((body : List ℕ) → x ≡ IsWhole body → length rest < 16) → length (rest ++ kept_transfer more at from m x) ≤ 16
 few_by rest at from m true (IsWhole w) le room = let lt = room w refl in omega (arith, lt, length-append rest (kept_transfer true at from m (IsWhole w)))

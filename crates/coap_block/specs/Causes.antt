@@ -14,14 +14,15 @@ pub record IsOutOfPlace (h : List Addition) (a : Addition) (b : Place) : Type 0 
   pub later : b.number ≢ 0
   pub nowhere : (before : List ℕ) → BeginsBehind h a b before → ⊥
 
--- the block begins at the end of the payloads before it, and its payload has a wrong length.
+-- the block begins at the end of the payloads before it, but its payload doesn't have the length of
+-- the block.
 pub record HasWrongLength (h : List Addition) (a : Addition) (b : Place) : Type 0 where
   pub before : List ℕ
   pub begins : BeginsBehind h a b before
   pub wrong : HasLength b.more (block_size b.szx) (length a.payload) → ⊥
 
--- the block begins at the end of the payloads before it, its payload has the right length, and the
--- sum is above 8,208 bytes.
+-- the block begins at the end of the payloads before it, and its payload has the right length. All
+-- payloads together have more than 8,208 bytes.
 pub record HasLargeSum (h : List Addition) (a : Addition) (b : Place) : Type 0 where
   pub before : List ℕ
   pub begins : BeginsBehind h a b before

@@ -2,17 +2,17 @@
 use Rattle.std.specs.Prelude.{ℕ, ◌+◌, ◌*◌, ◌&&◌, Bool, nat_lt, not, List, [], length, take, drop, Option, Some, None, if◌then◌else◌}
 use Rattle.coap_opts.specs.Values.{Place, block_size}
 
--- a part of a body: its bytes, and its place if it isn't the whole.
+-- a part of a body: the part's bytes, and its place, or no place if the part is the whole body.
 pub record Part : Type 0 where
   pub bytes : List ℕ
   pub place : Option Place
 
--- the bytes of a part, if there is one.
+-- the bytes of a part, or no bytes if there is no part.
 abbrev pub part_bytes : Option Part → List ℕ
 part_bytes None = []
 part_bytes (Some part) = part.bytes
 
--- the block isn't the first, and begins at or past the end.
+-- the block isn't the first, and begins at or past the end of the body.
 abbrev pub is_past : List ℕ → ℕ → ℕ → Bool
 is_past bytes number szx = nat_lt 0 number && not (nat_lt (number * block_size szx) (length bytes))
 
@@ -26,9 +26,9 @@ block_at bytes number szx = record {
 abbrev pub cut_at : List ℕ → ℕ → ℕ → Option Part
 cut_at bytes number szx = if is_past bytes number szx then None else Some (block_at bytes number szx)
 
--- the requested block, by its number and size alone; `None` if it isn't the first and begins at or
--- past the end. If no block is requested, the result is the whole body if it has at most 1,024
--- bytes, and else its first 1,024 bytes (SZX 6).
+-- the requested block, by its number and size alone. `None` if the block isn't the first, and
+-- begins at or past the end of the body. If no block is requested, the result is the whole body, or
+-- its first 1,024 bytes (SZX 6) if the body is longer than that.
 abbrev pub cut_of : List ℕ → Option Place → Option Part
 cut_of bytes None = if nat_lt 1024 (length bytes) then cut_at bytes 0 6 else Some (record { bytes = bytes; place = None })
 cut_of bytes (Some place) = cut_at bytes place.number place.szx

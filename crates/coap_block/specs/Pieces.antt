@@ -3,17 +3,19 @@ use Rattle.std.specs.Prelude.{◌≡◌, ℕ, zero, suc, ◌+◌, ◌*◌, ◌<�
 use Rattle.coap_opts.specs.Values.{block_size}
 use Rattle.coap_block.specs.Cuts.{Part, cut_at, part_bytes}
 
--- the first `k` blocks, joined.
+-- the first `k` blocks of a body, joined.
 abbrev pub joined_cuts : List ℕ → ℕ → ℕ → List ℕ
 joined_cuts bytes szx zero = []
 joined_cuts bytes szx (suc k) = joined_cuts bytes szx k ++ part_bytes (cut_at bytes k szx)
 
--- a block with more to follow has just the block size, and the last has the rest of the body.
+-- a block of `bytes` bytes from `start` on: if more blocks follow, it has exactly the block size
+-- and ends before the end of the body. The last block has at most the block size, and ends where
+-- the body ends.
 abbrev pub EndsBy : Bool → ℕ → ℕ → ℕ → ℕ → Type 0
 EndsBy true size start bytes body = (bytes ≡ size) × (start + bytes < body)
 EndsBy false size start bytes body = (bytes ≤ size) × (start + bytes ≡ body)
 
--- the part is the block with this number and size.
+-- the part is the block with number `k` and size exponent `szx`.
 pub record IsBlockOf (body : List ℕ) (k szx : ℕ) (part : Part) : Type 0 where
   pub more : Bool
   pub place : part.place ≡ Some (record { number = k; more = more; szx = szx })

@@ -5,7 +5,7 @@ use Rattle.coap_block.specs.declared.transfer.Transfer.{Transfer}
 use Rattle.coap_opts.specs.Values.{Place}
 use Rattle.coap_block.specs.Uploads.{after_add}
 
--- an added payload: its time, its endpoint and slot, and its block, if it has one.
+-- an addition: a payload with its time, its endpoint and slot, and its block, if it has one.
 pub record Addition : Type 0 where
   pub at : ℕ
   pub endpoint : Endpoint

@@ -10,7 +10,7 @@ use Rattle.coap_opts.specs.Values.{Place, block_size}
 abbrev pub is_under_way : ℕ → Transfer → Bool
 is_under_way now t = within_window now t.at
 
--- the key of a transfer: an endpoint and a slot.
+-- two keys are equal; the key of a transfer is its endpoint and its slot.
 abbrev pub same_key : Endpoint → ℕ → Endpoint → ℕ → Bool
 same_key from m to n = same_endpoint from to && (m == n)
 
@@ -18,7 +18,7 @@ same_key from m to n = same_endpoint from to && (m == n)
 abbrev pub is_transfer_of : Endpoint → ℕ → Transfer → Bool
 is_transfer_of to n t = same_key t.endpoint t.slot to n
 
--- the transfers that weren't idle for EXCHANGE_LIFETIME.
+-- the transfers whose latest block arrived less than EXCHANGE_LIFETIME before `now`.
 abbrev pub live : ℕ → List Transfer → List Transfer
 live now held = filter (is_under_way now) held
 
@@ -26,9 +26,10 @@ live now held = filter (is_under_way now) held
 abbrev pub others : Endpoint → ℕ → List Transfer → List Transfer
 others to n held = filter (λ t. not (is_transfer_of to n t)) held
 
--- the result for a block: more blocks are expected; the body is whole; the block doesn't begin at
--- the sum of those before it (4.08); its payload has a wrong length (4.00); the body is too large
--- (4.13); or there is no room for another transfer (5.03).
+-- the result for a block, in the order of the variants: more blocks are expected; the body is
+-- whole; the block doesn't begin at the end of the payloads before it (4.08); the block's payload
+-- has a wrong length (4.00); the body is too large (4.13); there is no room for another transfer
+-- (5.03).
 pub data Add : Type 0 where
   Continues : Add
   IsWhole : (body : List ℕ) → Add
@@ -37,8 +38,8 @@ pub data Add : Type 0 where
   IsTooLarge : Add
   IsFull : Add
 
--- the payloads before a block, joined: none before number 0, else those of the transfer in
--- progress.
+-- the payloads before a block, joined: no bytes before number 0, and else those of the transfer in
+-- progress. `None` if no transfer is in progress.
 abbrev pub before_by : Bool → Option Transfer → Option (List ℕ)
 before_by true under_way = Some []
 before_by false None = None
@@ -53,26 +54,27 @@ abbrev pub has_length : Bool → ℕ → ℕ → Bool
 has_length true size bytes = bytes == size
 has_length false size bytes = not (nat_lt size bytes)
 
--- a body with more bytes appended, of at most 8,208 in all.
+-- the body with more bytes appended, or `IsTooLarge` if it then has more than 8,208 bytes.
 abbrev pub body_with : List ℕ → List ℕ → Add
 body_with before bytes = if nat_lt 8208 (length before + length bytes) then IsTooLarge else IsWhole (before ++ bytes)
 
--- the checks of the block's beginning and of its length, in this order, and then of the sum.
+-- the result of two checks, in this order: of the block's beginning, and of the payload's length.
+-- If both pass, the result is `extended`.
 abbrev pub checked_by : Bool → Bool → Add → Add
 checked_by true true extended = extended
 checked_by true false extended = IsBadLength
 checked_by false length extended = IsIncomplete
 
--- a block appended to the payloads before it.
+-- the body with a block appended to the payloads before it, or the reason for the block's refusal.
 abbrev pub body_behind : Option (List ℕ) → Place → List ℕ → Add
 body_behind None b bytes = IsIncomplete
 body_behind (Some before) b bytes = checked_by (b.number * block_size b.szx == length before) (has_length b.more (block_size b.szx) (length bytes)) (body_with before bytes)
 
--- a transfer starts while 16 others are in progress; this is the first check.
+-- the block starts a transfer while 16 or more others are in progress. This is the first check.
 abbrev pub is_full : ℕ → ℕ → Bool
 is_full number others = (number == 0) && not (nat_lt others 16)
 
--- the body with a block, among the transfers in progress.
+-- the body with a block, or the reason for the block's refusal, given the transfers in progress.
 abbrev pub body_among : List Transfer → Endpoint → ℕ → Place → List ℕ → Add
 body_among held to n b bytes = if is_full b.number (length (others to n held)) then IsFull else body_behind (before_of b.number (find (is_transfer_of to n) held)) b bytes
 
@@ -81,13 +83,14 @@ abbrev pub unless_more : Bool → Add → Add
 unless_more true (IsWhole body) = Continues
 unless_more more other = other
 
--- the transfer that is stored, if its block fits and more blocks follow.
+-- the transfer that is stored for a block; none if the block doesn't fit or is the last one.
 abbrev pub kept_transfer : Bool → ℕ → Endpoint → ℕ → Add → List Transfer
 kept_transfer true now to n (IsWhole body) = record { endpoint = to; slot = n; at = now; body = record { items = body } } ∷ []
 kept_transfer more now to n other = []
 
--- the result for a block, and the transfers after it: those idle for EXCHANGE_LIFETIME are removed,
--- and the block's own transfer is extended and becomes the last in order, or is removed.
+-- the result for a block (`block_added`), and the transfers after the block (`after_block`). The
+-- transfers idle for EXCHANGE_LIFETIME are removed. The block's own transfer is extended and
+-- becomes the last in order, or is removed.
 abbrev pub block_added : List Transfer → ℕ → Endpoint → ℕ → Place → List ℕ → Add
 block_added held now to n b bytes = unless_more b.more (body_among (live now held) to n b bytes)
 

@@ -1,4 +1,4 @@
--- The result for a block, and a part of a body, as contracts see them.
+-- The result for a block and a part of a body, as contracts see both.
 use Rattle.coap_block.specs.declared.uploads.Added.{Added}
 use Rattle.coap_block.specs.declared.uploads.Added.TheVariants as said
 use Rattle.coap_block.specs.Uploads.{Add, Continues, IsWhole, IsIncomplete, IsBadLength, IsTooLarge, IsFull}

@@ -16,9 +16,9 @@ const WHOLE_SZX: u8 = 6;
 /// A part of a body.
 #[derive(Drop)]
 pub struct Cut<'a> {
-    /// Its bytes.
+    /// The bytes of the part.
     pub bytes: &'a [u8],
-    /// Its place in the body, for the Block2 option; `None` if the body is whole.
+    /// The part's place, for the Block2 option; `None` if the part is the whole body.
     pub block: Option<Block>,
 }
 
@@ -28,8 +28,8 @@ pub struct PastEnd;
 
 /// Returns the requested block of a body, by its number and size alone.
 ///
-/// The requested M bit is ignored. If no block is requested, returns the whole body if it has at
-/// most 1,024 bytes, and else its first 1,024 bytes.
+/// The requested M bit is ignored. If no block is requested, returns the whole body, or its first
+/// 1,024 bytes if the body is longer than that.
 ///
 /// # Errors
 /// Returns [`PastEnd`] if the block isn't the first, and begins at or past the body's end.

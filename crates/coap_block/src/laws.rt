@@ -10,10 +10,11 @@ ghost use Rattle.coap_block.specs.Causes.{FindsNoRoom, HasLargeSum, HasWrongLeng
 ghost use Rattle.coap_block.specs.Cuts.{Part, cut_at};
 ghost use Rattle.coap_block.specs.Pieces.{IsBlockOf, joined_cuts};
 
-/// The stored bytes of an endpoint and slot are those of its transfer.
+/// The stored bytes of an endpoint and slot are those of its transfer in progress.
 ///
-/// They are the payloads since its last block number 0, joined, while its blocks fit and arrive
-/// less than EXCHANGE_LIFETIME apart. At most 16 transfers are stored.
+/// The bytes are the payloads since the transfer's last block number 0, joined. The transfer is in
+/// progress while its blocks fit and each arrives less than EXCHANGE_LIFETIME after the one before.
+/// At most 16 transfers are stored.
 pub fn transfers_are_payloads_joined()
     ensures held { (h : List Addition) (now : ℕ) (to : Endpoint) (n : ℕ) (body : List ℕ) →
         RisesTo now h →
@@ -23,8 +24,8 @@ pub fn transfers_are_payloads_joined()
 
 /// A fitting block is joined to the payloads before it.
 ///
-/// If the block is the last, the result is the whole body. If more blocks follow, the transfer
-/// continues.
+/// The result is the whole body exactly if the block fits and is the last one. The transfer
+/// continues exactly if the block fits and more blocks follow.
 pub fn blocks_that_fit_are_joined()
     ensures whole { (h : List Addition) (a : Addition) (b : Place) (body : List ℕ) → RisesTo a.at h →
         ((block_added (transfers h) a.at a.endpoint a.slot b a.payload ≡ IsWhole body)
@@ -34,12 +35,12 @@ pub fn blocks_that_fit_are_joined()
         ↔ ((b.more ≡ true) × ((body : List ℕ) × FitsBehind h a b body))) }
 {}
 
-/// Each refusal has its cause; the causes are checked in this order.
+/// A block is refused if one of these causes holds, checked in this order:
 ///
-/// 1. A transfer starts while 16 others are in progress.
-/// 2. A block doesn't begin at the end of the blocks before it.
-/// 3. A payload doesn't have the length of its block.
-/// 4. The sum is above 8,208 bytes.
+/// 1. `IsFull`: the block starts a transfer while 16 or more others are in progress.
+/// 2. `IsIncomplete`: the block doesn't begin at the end of the payloads before it.
+/// 3. `IsBadLength`: the payload doesn't have the length of the block.
+/// 4. `IsTooLarge`: all payloads together have more than 8,208 bytes.
 pub fn refusals_have_causes()
     ensures full { (h : List Addition) (a : Addition) (b : Place) → b.number ≡ 0 → 16 ≤ others_at a h →
         block_added (transfers h) a.at a.endpoint a.slot b a.payload ≡ IsFull }
@@ -55,7 +56,9 @@ pub fn refusals_have_causes()
         block_added (transfers h) a.at a.endpoint a.slot b a.payload ≡ IsTooLarge }
 {}
 
-/// A refusal has no other cause: each refusal occurs exactly if its cause holds.
+/// A block is refused for a reason exactly if the cause of that reason holds.
+///
+/// The causes are those of [`refusals_have_causes`].
 pub fn refusals_have_only_their_causes()
     ensures full { (h : List Addition) (a : Addition) (b : Place) → RisesTo a.at h →
         ((block_added (transfers h) a.at a.endpoint a.slot b a.payload ≡ IsFull) ↔ FindsNoRoom h a b) }
@@ -72,9 +75,9 @@ pub fn transfers_have_one_key()
     ensures { (h : List Addition) (to : Endpoint) (n : ℕ) → length (filter (is_transfer_of to n) (transfers h)) ≤ 1 }
 {}
 
-/// A body has at most 8,208 bytes.
+/// A whole body has at most 8,208 bytes.
 ///
-/// A payload without a block option is a whole body up to that length.
+/// A payload without a block option is a whole body exactly if it has at most 8,208 bytes.
 pub fn bodies_are_bounded()
     ensures most { (held : List Transfer) (now : ℕ) (to : Endpoint) (n : ℕ) (block : Option Place)
         (bytes body : List ℕ) →
@@ -95,8 +98,9 @@ pub fn blocks_leave_other_transfers()
 
 /// The blocks of one size, numbered from 0 and joined, are the body.
 ///
-/// Each block but the last has exactly the block size, and has the M bit. The last block doesn't
-/// have the M bit. No block other than the first begins at or past the end.
+/// Each block except the last has exactly the block size, and its M bit is set. The last block's M
+/// bit isn't set. There is no block exactly if it isn't the first and would begin at or past the
+/// end.
 pub fn cuts_joined_are_the_body()
     ensures joined { (body : List ℕ) (szx k : ℕ) →
         joined_cuts body szx k ≡ take (k * block_size szx) body }

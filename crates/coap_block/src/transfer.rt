@@ -13,7 +13,7 @@ pub type Body = ArrayVec<u8, BODY>;
 
 /// A transfer: an upload in blocks (RFC 7959, section 2.5).
 ///
-/// It has its client's endpoint, its slot, the time of its latest block in milliseconds, and the
+/// It has the client's endpoint, the slot, the time of the latest block in milliseconds, and the
 /// payloads so far, joined.
 #[derive(Drop)]
 pub struct Transfer {

@@ -16,7 +16,7 @@ use Rattle.coap_client.specs.Transmissions.{IsTransmission, MakesCalls}
 use Rattle.coap_client.specs.Fetching.{State, Out, Outdated, AnswersInState, AreReplies, ArePartRequests, IsAnswerToPart, IsStepOf, IsFetching, RepliesLeadTo, RepliesLeadToAgain, after_reply, state_after, taken_ids, with_taken_id}
 use Rattle.coap_client.proofs.Transmitting.{both, does_both, does_nothing, some_of}
 
--- the request of a part was transmitted, and the message is its response.
+-- the request of a part was transmitted, and the message is the response to it.
 pub record IsExchanged (went came : List ℕ → Type 0) (between after : List PeerCall → Type 0) (e : ClientRequest) (id : ℕ) (earlier : List ℕ) (part : Part) (m : Message) : Type 0 where
   pub answers : IsAnswerToPart went came e id earlier part m
   pub own : IsPartOf e part
@@ -24,7 +24,8 @@ pub record IsExchanged (went came : List ℕ → Type 0) (between after : List P
   pub read_is : reading_of bytes ≡ Ok m
   pub called : MakesCalls between after (IsTransmission e.confirmable (Tells e.confirmable id earlier) (message_bytes (part_request e part id)) (Some bytes))
 
--- the message that arrived is a response to the request of a part.
+-- if a response to a sent request arrived, and that request is the one for a part, the response is
+-- one to the request for the part.
 answers_part : (went came : List ℕ → Type 0) (e : ClientRequest) (part : Part) (id : ℕ) (earlier : List ℕ) (r : SentRequest) (bytes : List ℕ) (m : Message) →
     HasTakenResponse went came r bytes → reading_of bytes ≡ Ok m →
     r.confirmable ≡ e.confirmable → r.id ≡ id → r.earlier.now ≡ earlier → r.datagram.now.items ≡ message_bytes (part_request e part id) →
@@ -40,7 +41,8 @@ answers_part went came e part id earlier r bytes m a read c i k d =
           (subst (λ x. IsTakenResponse went came x r.id r.earlier.now r.datagram.now.items bytes a.message) c a.is))));
     }
 
--- the request of that part was transmitted.
+-- if a request was transmitted, and it is the one for a part, the request for the part was
+-- transmitted.
 transmits_part : (between after : List PeerCall → Type 0) (e : ClientRequest) (part : Part) (id : ℕ) (earlier : List ℕ) (r : SentRequest) (answer : List ℕ) →
     MakesCalls between after (IsTransmission r.confirmable (TellsSent r) r.datagram.now.items (Some answer)) →
     r.confirmable ≡ e.confirmable → r.id ≡ id → r.earlier.now ≡ earlier → r.datagram.now.items ≡ message_bytes (part_request e part id) →
@@ -79,7 +81,8 @@ begins went came now e first known part body etag below p b t = record {
   called = does_nothing now (ArePartRequests e first known []) refl;
 }
 
--- one more request.
+-- if the requests for the earlier replies were made, and the next one was exchanged for `m`, the
+-- requests for all of them were made.
 requested : (went came : List ℕ → Type 0) (before between after : List PeerCall → Type 0) (e : ClientRequest) (first : ℕ) (known : List ℕ) (id : ℕ) (earlier : List ℕ) (part : Part) (body etag : List ℕ)
     (m : Message) (ms : List Message) → state_after e ms ≡ Out part body etag → id ≡ (first + length ms) % 65536 → earlier ≡ taken_ids known ms →
     MakesCalls before between (ArePartRequests e first known ms) → IsExchanged went came between after e id earlier part m → MakesCalls before after (ArePartRequests e first known (m ∷ ms))
@@ -127,7 +130,8 @@ pub leads_to : (went came : List ℕ → Type 0) (before after : List PeerCall �
     IsFetching went came before after e first known id earlier state → RepliesLeadTo went came e first known (λ replies. MakesCalls before after (ArePartRequests e first known replies)) state
 leads_to went came before after e first known id earlier state u = record { replies = u.replies; are = u.are; leads = u.leads; called = u.called }
 
--- the state after the response.
+-- if the outstanding request of a fetch was exchanged for a response, the fetch is in the state
+-- after that response.
 pub leads_on : (went came : List ℕ → Type 0) (before between after : List PeerCall → Type 0) (e : ClientRequest) (first : ℕ) (known : List ℕ) (old new : FetchState) (m : Message) (step : Step) (state : State) →
     IsFetching went came before between e first known old.id old.earlier.items (Out old.part old.body.items old.etag.items) →
     IsExchanged went came between after e old.id old.earlier.items old.part m → IsStepOf (length e.payload.now) m old new step →
@@ -136,7 +140,7 @@ pub leads_on : (went came : List ℕ → Type 0) (before between after : List Pe
 leads_on went came before between after e first known old new m step state u a s is =
     one_more went came before between after e first known old.id old.earlier.items old.part old.body.items old.etag.items m new.id new.earlier.items state u a is s.id s.earlier
 
--- the same, with the number of replies.
+-- a fetch is in a state, as in `IsFetching`, after at least `n` replies.
 abbrev pub HasCounted : (List ℕ → Type 0) → (List ℕ → Type 0) → (List PeerCall → Type 0) → (List PeerCall → Type 0) → ClientRequest → ℕ → List ℕ → ℕ → List ℕ → State → ℕ → Type 0
 HasCounted went came before now e first known id earlier state n = (u : IsFetching went came before now e first known id earlier state) × (n ≤ length u.replies)
 
@@ -163,7 +167,8 @@ pub begins_counted : (went came : List ℕ → Type 0) (now : List PeerCall → 
     HasCounted went came now now e first known first known (Out part body etag) 0
 begins_counted went came now e first known part body etag below p b t = (begins went came now e first known part body etag below p b t, omega arith)
 
--- replies after those that ended in `Outdated`.
+-- if a first attempt ended in `Outdated`, and the replies of a second result in a state, the fetch
+-- results in that state.
 pub leads_again : (went came : List ℕ → Type 0) (before between after : List PeerCall → Type 0) (e : ClientRequest) (first next : ℕ) (known : List ℕ) (state : State) → e.method ≡ Get →
     IsFetching went came before between e first [] next known Outdated →
     RepliesLeadTo went came e next known (λ replies. MakesCalls between after (ArePartRequests e next known replies)) state → RepliesLeadToAgain went came before after e first state

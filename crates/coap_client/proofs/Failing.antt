@@ -1,4 +1,4 @@
--- The errors of a client, call after call.
+-- The errors of a client, from the errors of its calls.
 use Rattle.std.proofs.Common.{◌≡◌, ℕ, ◌<◌, max, inl, inr, Bool, true, false, List, [], ◌∷◌, ◌++◌, Some, refl, sym, subst, append_assoc, Result, Ok, Err, IfErr, IsErrAnd, Option, None, ◌∙◌, if◌then◌else◌}
 use Rattle.coap_msg.specs.Reading.{reading_of}
 use Rattle.coap_msg.specs.Wire.{Message}
@@ -24,12 +24,13 @@ use Rattle.coap_client.proofs.Transmitting.{Calls, again, does_of, last_sending,
 abbrev Told : Type 1
 Told = List ℕ → ReplyClass → Type 0
 
--- an error that `?` returns.
+-- if `?` returns the error `f`, and `f` has the property `P`, so has the error of the result.
 pub raised : {A B : Type 0} (r : Result A B) (f : B) (P : B → Type 0) → IsErrAnd r (λ y. y ≡ f) → P f → IfErr r P
 raised (Ok x) f P is h = tt
 raised (Err y) f P is h = subst P (sym is) h
 
--- the same error with another kind of rejection.
+-- if the peer is the cause of an error, and `P` implies `Q`, it is so with `Q` as the rejection in
+-- place of `P`.
 pub of_peer : (is_error : PeerError → Type 0) (P Q : Type 0) (f : FetchFault) → (P → Q) → IsOfPeer is_error P f → IsOfPeer is_error Q f
 of_peer is_error P Q fault.Silence turns h = absurd h
 of_peer is_error P Q fault.Rejected turns h = turns h
@@ -39,7 +40,7 @@ of_peer is_error P Q fault.Part turns h = absurd h
 of_peer is_error P Q (fault.Socket error) turns h = h
 of_peer is_error P Q (fault.Memory error) turns h = absurd h
 
--- no rejection: it is an error of the peer.
+-- if the peer returned an error, it is the cause of that error, whatever a rejection is.
 pub of_socket : (is_error : PeerError → Type 0) (Q : Type 0) (f : FetchFault) → IsOfPeer is_error ⊥ f → IsOfPeer is_error Q f
 of_socket is_error Q f h = of_peer is_error ⊥ Q f (λ x. absurd x) h
 
@@ -47,13 +48,14 @@ pub of_peer_result : {A : Type 0} (is_error : PeerError → Type 0) (P Q : Type 
 of_peer_result is_error P Q (Ok x) turns h = h
 of_peer_result is_error P Q (Err f) turns h = of_peer is_error P Q f turns h
 
--- a Reset ended the wait.
+-- if a wait ended on a datagram of the class `Rejected`, the request was rejected by it.
 pub rejection_came : (tells : Told) (awaited : Bool) (bytes : List ℕ) (handled : ReplyClass) (before after : Calls) → tells bytes handled → handled ≡ Rejected
     → MakesCalls before after (EndsOn (IsPassedOver tells awaited) bytes) → MakesCalls before after (IsRejectedBy tells awaited)
 rejection_came tells awaited bytes handled before after told is one =
     does_of before after (EndsOn (IsPassedOver tells awaited) bytes) (IsRejectedBy tells awaited) one (λ calls h. (bytes, subst (tells bytes) is told, h))
 
--- a confirmable request is rejected.
+-- if a confirmable request is sent after n transmissions in vain, and the wait ends by a rejection,
+-- the request is rejected.
 pub rejected : (tells : Told) (request : List ℕ) (n seconds : ℕ) (before between sent after : Calls) → n < most_sendings
     → MakesCalls before between (AreInVain (IsPassedOver tells false) request n) → seconds ≡ ack_timeout n → Adds between sent (Waits seconds ∷ Sends request ∷ [])
     → MakesCalls sent after (IsRejectedBy tells false) → MakesCalls before after (IsRejection true tells request)
@@ -62,7 +64,8 @@ rejected tells request n seconds before between sent after few one twice adds ca
     (again request n seconds between sent after (EndsRejected tells) twice adds
     (does_of sent after (IsRejectedBy tells false) (EndsRejected tells) came (λ calls h. inl h)))
 
--- the request was acknowledged, and then rejected.
+-- if a request was acknowledged, and the wait for the separate response ends by a rejection, the
+-- request was rejected later.
 later : (tells : Told) (before between begun after : Calls) → MakesCalls before between (IsAcknowledgedBy tells) → Adds between begun (Waits separate_wait ∷ [])
     → MakesCalls begun after (IsRejectedBy tells true) → MakesCalls before after (IsRejectedLater tells)
 later tells before between begun after one adds other calls h =
@@ -85,12 +88,12 @@ rejected_later tells request n seconds before between sent handled begun after f
     (later tells sent handled begun after (does_of sent handled (λ calls. (false ≡ false) × IsAcknowledgedBy tells calls) (IsAcknowledgedBy tells) came (λ calls h. h.1)) waits other)
     (λ calls h. inr h)))
 
--- a non-confirmable request is rejected.
+-- if a non-confirmable request is sent, and the wait ends by a rejection, the request is rejected.
 pub rejected_once : (tells : Told) (request : List ℕ) (before between after : Calls) → Adds before between (Waits non_wait ∷ Sends request ∷ [])
     → MakesCalls between after (IsRejectedBy tells true) → MakesCalls before after (IsRejection false tells request)
 rejected_once tells request before between after adds one = sending request non_wait before between after (IsRejectedBy tells true) adds one
 
--- ---- an observer
+-- ---- the errors of an observer
 
 pub registration_fault : (is_error : PeerError → Type 0) (Makes : Calls → Type 0) (o : Observer) (f : FetchFault)
     → IsOfPeer is_error (Makes (IsRejection true (TellsObserver o.token o.id) (registration_of o))) f → IsRegistrationFault is_error Makes o f
@@ -102,7 +105,7 @@ registration_fault is_error Makes o fault.Part h = absurd h
 registration_fault is_error Makes o (fault.Socket error) h = h
 registration_fault is_error Makes o (fault.Memory error) h = absurd h
 
--- a Reset with the deregistration's message ID arrived.
+-- if a wait ended on a Reset with the deregistration's message ID, the deregistration was rejected.
 pub reset_came : (token : List ℕ) (id : ℕ) (bytes : List ℕ) (before after : Calls) → IsReadAs bytes (IsReset id) → MakesCalls before after (EndsOn (IsPassedOverLeaving token id) bytes)
     → MakesCalls before after (IsRejectedLeaving token id)
 reset_came token id bytes before after rejects one =
@@ -144,7 +147,7 @@ leaving_fault is_error Makes o (Err fault.Part) h = h
 leaving_fault is_error Makes o (Err (fault.Socket error)) h = h
 leaving_fault is_error Makes o (Err (fault.Memory error)) h = absurd h
 
--- a success is a state or the last response, and is shown.
+-- a success is classified as a state or as the last response, never as `Malformed`.
 shown_sequence : (o : Option ℕ) → by_sequence o ≡ notice.Malformed → ⊥
 shown_sequence None h = cc h
 shown_sequence (Some v) h = cc h
@@ -155,7 +158,7 @@ shown m h = elim (is_success m.code) as (λ b. (if b then by_sequence (sequence_
   | false ↦ λ x. cc x
 ] h
 
--- neither its age nor a duplicate makes a response one that can't be shown.
+-- if the class of a response is `Malformed` with its age, it is `Malformed` without its age.
 unfit_by_age : (w : Observation) (at : ℕ) (n : NotificationClass) → by_age w at n ≡ notice.Malformed → n ≡ notice.Malformed
 unfit_by_age w at (notice.State v) h = absurd (elim (is_newer w.sequence w.at v at) as (λ b. (if b then notice.State v else notice.Older) ≡ notice.Malformed → ⊥) [
   | true ↦ λ x. cc x
@@ -174,7 +177,7 @@ unfit_after w at m h = elim (is_shown_again w.marks.items m.id at) as (λ b. (if
 spelled : (bytes : List ℕ) (x m : Message) → reading_of bytes ≡ Ok x → reading_of bytes ≡ Ok m → x ≡ m
 spelled bytes x m a b = cc (a, b)
 
--- `Malformed` means that the message can't be shown.
+-- if a message is classified as `Malformed`, it can't be shown.
 pub unfit_notice : (m : Message) → notice_of m ≡ notice.Malformed → can_be_shown m ≡ false
 unfit_notice m is = elim (can_be_shown m) as (λ b. (if b then by_success m else notice.Malformed) ≡ notice.Malformed → b ≡ false) [
   | true ↦ λ h. absurd (shown m h)
@@ -192,7 +195,8 @@ unfit_came went came token bytes now m at n id own read is so = record {
   unfit = unfit_notice m (unfit_after now at m (sym is ∙ so));
 }
 
--- a notification ends the wait.
+-- if a notification ends a wait, and its class has the property `P`, the wait ends on a
+-- notification with that property.
 pub ends_on : (went came : List ℕ → Type 0) (told : ℕ → Type 0) (token bytes : List ℕ) (w now : Observation) (m : Message) (time at : ℕ) (n : NotificationClass) (P : NotificationClass → Type 0) (before after : Calls)
     → HasOwnResponse went came token bytes → reading_of bytes ≡ Ok m → told time → now ≡ w → at ≡ max now.at time → n ≡ notice_after now at m → P n
     → MakesCalls before after (AwaitsNotification token (IsPassedOverWatching told token w) (Some (bytes, time))) → MakesCalls before after (EndsOnNotification told token w P)

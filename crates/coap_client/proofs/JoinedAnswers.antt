@@ -21,7 +21,7 @@ use Rattle.coap_client.specs.Representations.{joined}
 use Rattle.coap_client.specs.Representations.{begun as begun_by}
 use Rattle.coap_client.proofs.NextParts.{either, place_is}
 
--- the response so far: these bytes, of this version, from the latest replies.
+-- the response so far has the bytes `body` from the latest of these replies, with the ETag `etag`.
 pub record IsJoined (body etag : List ℕ) (ms : List Message) : Type 0 where
   pub blocks : List Message
   pub before : List Message
@@ -30,14 +30,14 @@ pub record IsJoined (body etag : List ℕ) (ms : List Message) : Type 0 where
   pub in_order : AreBlocksInOrder blocks
   pub version : All (λ m. etag_of m ≡ etag) blocks
 
--- the response so far in a state.
+-- in this state, the response so far is joined from the latest replies, or has no bytes.
 abbrev pub HasJoined : List Message → State → Type 0
 HasJoined ms (Out (Answer n szx) body etag) = IsJoined body etag ms × (block_size szx * n ≡ length body)
 HasJoined ms (Out other body etag) = body ≡ []
 HasJoined ms other = Unit {0}
 
--- the possible next steps after a response of this length, whose Block2 has this value, if the
--- response so far has this length.
+-- the next step is possible after a reply of `count` bytes, whose Block2 has the value `value`, if
+-- the response so far has `offset` bytes.
 abbrev pub JoinsAt : ℕ → ℕ → Option (List ℕ) → Next → Type 0
 JoinsAt offset count value (next.Ask (Answer n szx)) = BeginsAt offset value × (block_size szx * n ≡ offset + count)
 JoinsAt offset count value next.Last = BeginsAt offset value × IsLastBlock value
@@ -94,7 +94,8 @@ more m ms body etag j begins same = record {
   version = All-cons (λ x. etag_of x ≡ etag_of m) m j.blocks refl (subst (λ t. All (λ x. etag_of x ≡ t) j.blocks) (sym same) j.version);
 }
 
--- the last block ends the response.
+-- if a reply is the last block, and begins at the end of the blocks before it with the same ETag,
+-- the response is whole.
 answer_of : (m : Message) (ms : List Message) (answer body etag : List ℕ) (j : IsJoined body etag ms) → answer ≡ body ++ m.payload → BeginsAt (length body) (block2_of m) → IsLastBlock (block2_of m) → etag_of m ≡ etag →
     IsOneAnswer answer m ms
 answer_of m ms answer body etag j is begins last same = record {
@@ -118,12 +119,13 @@ answer_alone m ms answer is begins last = record {
   version = All-nil (λ x. etag_of x ≡ etag_of m);
 }
 
--- the response so far after a reply, and the whole response if the fetch ends by a success.
+-- after the reply `m`, the response so far is joined; if the fetch ends by a success, the whole
+-- response is.
 abbrev pub Joins : Message → List Message → State → Type 0
 Joins m ms (Ended code body) = is_success code ≡ true → IsOneAnswer body m ms
 Joins m ms other = HasJoined (m ∷ ms) other
 
--- a response begins.
+-- if a reply begins a response, the response so far is that reply's payload.
 begun : (m : Message) (ms : List Message) (body etag : List ℕ) (n : Next) → body ≡ [] → JoinsAt 0 (length m.payload) (block2_of m) n → Joins m ms (moved_on n body etag m)
 begun m ms body etag (next.Ask Whole) none j = none
 begun m ms body etag (next.Ask (Body n szx)) none j = none
@@ -135,7 +137,7 @@ begun m ms body etag next.Refused none j = absurd j
 begun m ms body etag next.Stale none j = tt
 begun m ms body etag next.Malformed none j = tt
 
--- a further block is joined.
+-- if a reply is a further block with the same ETag, the response so far is joined with its payload.
 grown : (m : Message) (ms : List Message) (body etag : List ℕ) (n : Next) → IsJoined body etag ms → etag_of m ≡ etag → JoinsAt (length body) (length m.payload) (block2_of m) n →
     Joins m ms (moved_on n body etag m)
 grown m ms body etag (next.Ask Whole) so same j = empty body j
@@ -221,7 +223,7 @@ ended_by r ms (Ended c b) code body h ends success out = absurd (out c b refl)
 ended_by r ms Outdated code body h ends success out = absurd (cc ends)
 ended_by r ms Lost code body h ends success out = absurd (cc ends)
 
--- the whole state is joined from blocks of one version.
+-- if a state of several blocks ends by a success, it is joined from blocks with the same ETag.
 pub one_body : (m r : Message) (rs : List Message) (code : ℕ) (body : List ℕ) → ((c : ℕ) (b : List ℕ) → joined m rs ≡ Ended c b → ⊥) → joined m (r ∷ rs) ≡ Ended code body → is_success code ≡ true
     → IsOneAnswer body r (rs ++ m ∷ [])
 one_body m r rs code body out ends success = ended_by r (rs ++ m ∷ []) (joined m rs) code body (state_joins m rs) ends success out

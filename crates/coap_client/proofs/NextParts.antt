@@ -1,4 +1,4 @@
--- The next part of a fetch is a part of its client request.
+-- The next part of a fetch is one that a request of the same client request can have.
 use Rattle.std.proofs.Common.{◌≡◌, ℕ, ◌+◌, ◌-◌, ◌*◌, ◌<◌, ◌≤◌, ◌^◌, ◌%◌, ◌==◌, ◌&&◌, nat_lt, nat_le, bytes_eq, Bool, true, false, if◌then◌else◌, List, length, Option, Some, None, refl, sym, ap, subst, ◌∙◌, arith}
 use Rattle.std.proofs.lemmas.Bool.{and_parts, eqb-true, leb-true, lt-ltb, ltb-true}
 use Rattle.std.proofs.lemmas.Nat.{mul-le, pow-add}
@@ -14,12 +14,12 @@ use Rattle.coap_client.specs.Parts.{has_more}
 use Rattle.coap_client.specs.Replies.{block1_of, block2_of, by_more, by_option, by_part, etag_of, is_continue, is_final, fits_place, is_success, is_understood, next_block, next_by_code, next_number, next_of, next_of_answer, next_of_body, next_of_further, next_of_whole, next_size, size_by_block}
 use Rattle.coap_client.specs.Requests.{IsBlock, IsBodyBlock, IsFurther, IsPartOf}
 
--- a property of both branches.
+-- if both branches have a property, each under its condition, so has the whole.
 pub either : {X : Type 0} (P : X → Type 0) (b : Bool) (x y : X) → (b ≡ true → P x) → (b ≡ false → P y) → P (if b then x else y)
 either P true x y f g = f refl
 either P false x y f g = g refl
 
--- a block of the response is no larger than the requested one, and has the same start.
+-- a block of the response isn't larger than the requested block n, and both begin at the same byte.
 pub record IsPlace (n szx : ℕ) (b : Place) : Type 0 where
   pub smaller : b.szx ≤ szx
   pub begins : block_size b.szx * b.number ≡ block_size szx * n
@@ -29,7 +29,7 @@ place_is n szx b is =
     let both = and_parts _ _ is in
     record { smaller = leb-true _ _ both.0; begins = eqb-true _ _ both.1 }
 
--- a block in a smaller size has the same start as the block in the larger one.
+-- the block after block n begins at the same byte, whether it has the smaller or the larger size.
 pub begins_alike : (n szx smaller : ℕ) → smaller ≤ szx → block_size smaller * next_number n szx smaller ≡ block_size szx * (n + 1)
 begins_alike n szx smaller small =
     let split : szx + 4 ≡ (smaller + 4) + (szx - smaller) = omega (arith, small) in
@@ -37,7 +37,7 @@ begins_alike n szx smaller small =
     let regroup : 2 ^ (smaller + 4) * ((n + 1) * 2 ^ (szx - smaller)) ≡ (2 ^ (smaller + 4) * 2 ^ (szx - smaller)) * (n + 1) = omega arith in
     regroup ∙ ap (λ k. k * (n + 1)) (sym power)
 
--- the next number fits 32 bits.
+-- the number of the next block fits 32 bits.
 pub no_wrap : (n szx smaller : ℕ) → IsBlock n szx → next_number n szx smaller % 4294967296 ≡ next_number n szx smaller
 no_wrap n szx smaller block =
     let most : szx - smaller ≤ 6 = omega (arith, block.size) in
@@ -53,7 +53,7 @@ next_body_is n szx smaller r block e below =
     let under : next_number n szx smaller < 1048576 = omega (arith, whole, below) in
     ap (λ k. Ask (Body k smaller)) whole ∙ sym (ap (λ (b : Bool). if b then Ask (Body (next_number n szx smaller) smaller) else Malformed) (lt-ltb _ _ under))
 
--- the size of the next block is no greater.
+-- if a Block1 gives a size for the next block, that size isn't greater than the one before.
 pub size_smaller : (n szx : ℕ) (b : Place) → (smaller : ℕ) → size_by_block n szx b ≡ Some smaller → smaller ≤ szx
 size_smaller n szx b smaller =
     either (λ o. o ≡ Some smaller → smaller ≤ szx) ((b.number == n) && nat_le b.szx szx) (Some b.szx) None
@@ -66,7 +66,7 @@ next_smaller n szx continued None smaller =
 next_smaller n szx continued (Some value) smaller =
     either (λ o. o ≡ Some smaller → smaller ≤ szx) (nat_le (length value) 3) (size_by_block n szx (place_in value)) None (λ _. size_smaller n szx (place_in value) smaller) (λ _ e. absurd (cc e))
 
--- the next part is a further block.
+-- if the next step is a request, it is for a further block of the response.
 abbrev pub IsFurtherAsk : Next → Type 0
 IsFurtherAsk (Ask part) = IsFurther part
 IsFurtherAsk other = Unit {0}
@@ -89,7 +89,7 @@ further_next n szx count (Some value) small =
     (λ is. let place = place_is n szx (place_in value) is in more_next (place_in value) count (omega (arith, place.smaller, small))) (λ _. tt))
     (λ _. tt)
 
--- after the response to a request for a further block.
+-- after the response to a request for a further block, a next request is for a further block too.
 pub block_further : (n szx : ℕ) (etag : List ℕ) (m : Message) → szx ≤ 6 → IsFurtherAsk (next_of_further n szx etag m)
 block_further n szx etag m small =
     either IsFurtherAsk (bytes_eq (etag_of m) etag) _ Stale
@@ -140,7 +140,7 @@ part_next e (Answer n szx) etag m own =
     either (IsAskOf e) (bytes_eq (etag_of m) etag) _ Stale
     (λ _. either (IsAskOf e) (is_continue m) Malformed (next_of_answer n szx m) (λ _. tt) (λ _. option_next e n szx (length m.payload) (block2_of m) own.size)) (λ _. tt)
 
--- after a response to a part of the client request, the next part is one of it.
+-- if a part belongs to the client request, so does the next part after the response.
 pub next_is_part : (e : ClientRequest) (part next : Part) (etag : List ℕ) (m : Message) → IsPartOf e part → next_of (length e.payload.now) part etag m ≡ Ask next → IsPartOf e next
 next_is_part e part next etag m own is =
     subst (IsAskOf e) is (either (IsAskOf e) (is_understood m) (next_by_code (length e.payload.now) part etag m) Malformed

@@ -21,7 +21,7 @@ use Rattle.coap_client.proofs.Transmitting.{Calls, Passes, does, does_both, does
 suc_left : (k j : ℕ) → suc (k + j) ≡ suc k + j
 suc_left k j = omega arith
 
--- nothing is sent after a datagram that is skipped while a request is outstanding.
+-- if a datagram is skipped while a request is outstanding, nothing is sent after it.
 pub passed_quietly : (token own : List ℕ) (id : ℕ) (awaited : Bool) (bytes : List ℕ) (handled : ReplyClass) (now : Calls) → TellsRequest token own id bytes handled → is_passed_over awaited handled ≡ true
     → MakesCalls now now (IsPassedOver (TellsRequest token own id) awaited bytes)
 passed_quietly token own id awaited bytes Reply now told over = absurd (cc over)
@@ -31,8 +31,8 @@ passed_quietly token own id awaited bytes Acknowledged now told over = passed (T
 passed_quietly token own id awaited bytes Rejected now told over = absurd (cc over)
 passed_quietly token own id awaited bytes Other now told over = passed (TellsRequest token own id) awaited bytes Other now now told over (λ calls h. h)
 
--- a datagram that ends the wait for the response, and is no acknowledgement or rejection, is a
--- response.
+-- if a datagram ends the wait, and is neither an acknowledgement nor a rejection, it is a response
+-- or a notification.
 pub arrived : (came : List ℕ → Type 0) (token own : List ℕ) (id : ℕ) (awaited : Bool) (bytes : List ℕ) (handled : ReplyClass) → came bytes → TellsRequest token own id bytes handled
     → is_passed_over awaited handled ≡ false → (handled ≡ Acknowledged → ⊥) → (handled ≡ Rejected → ⊥) → HasArrived came (IsAwaitedBy token own id) bytes
 arrived came token own id awaited bytes Reply came_is told ends acknowledged rejected = record { message = told.message; came_is = came_is; read_is = told.read_is; holds = told.holds }
@@ -42,12 +42,13 @@ arrived came token own id awaited bytes Acknowledged came_is told ends acknowled
 arrived came token own id awaited bytes Rejected came_is told ends acknowledged rejected = absurd (rejected refl)
 arrived came token own id awaited bytes Other came_is told ends acknowledged rejected = absurd (cc ends)
 
--- a response to the registration has the observer's token.
+-- what a registration waits for, a response or a notification, is a response with the observer's
+-- token.
 pub own_response : (token : List ℕ) (id : ℕ) (m : Message) → IsAwaitedBy token token id m → IsResponseWith token id m
 own_response token id m (inl response) = response
 own_response token id m (inr notification) = inr notification
 
--- a notification is acknowledged, and another datagram isn't.
+-- if the calls after a notification acknowledge it, the notification is acknowledged as required.
 pub acknowledged : (token bytes : List ℕ) (before after : Calls) → IsReadAs bytes (IsOwnResponse token) → Adds before after (acknowledges bytes)
     → MakesCalls before after (AcknowledgesNotification token bytes)
 acknowledged token bytes before after own adds = does before after (AcknowledgesNotification token bytes) (acknowledges bytes) adds (inl (own, refl))
@@ -55,7 +56,8 @@ acknowledged token bytes before after own adds = does before after (Acknowledges
 pub unacknowledged : (token bytes : List ℕ) (now : Calls) → (IsReadAs bytes (IsOwnResponse token) → ⊥) → MakesCalls now now (AcknowledgesNotification token bytes)
 unacknowledged token bytes now other = does now now (AcknowledgesNotification token bytes) [] (λ calls h. h) (inr (other, refl))
 
--- a datagram that neither acknowledges nor rejects a deregistration is skipped.
+-- if a datagram neither acknowledges nor rejects the deregistration, and a notification is
+-- acknowledged, the datagram is skipped.
 pub passed_leaving : (token : List ℕ) (id : ℕ) (bytes : List ℕ) (before after : Calls) → (IsReadAs bytes (IsAcknowledgementOf id) → ⊥) → (IsReadAs bytes (IsReset id) → ⊥)
     → MakesCalls before after (AcknowledgesNotification token bytes) → MakesCalls before after (IsPassedOverLeaving token id bytes)
 passed_leaving token id bytes before after acknowledges_it rejects one =
@@ -72,13 +74,14 @@ left token id bytes before after own one =
 pub no_notification : (token bytes : List ℕ) (now : Calls) → (IsReadAs bytes (IsOwnResponse token) → ⊥) → MakesCalls now now (IsNoNotification token bytes)
 no_notification token bytes now other = does now now (IsNoNotification token bytes) [] (λ calls h. h) (other, refl)
 
--- a notification arrived and was acknowledged.
+-- the wait ended on a notification, which was acknowledged if it is confirmable.
 pub record EndsAcknowledged (passes : Passes) (bytes : List ℕ) (calls : List PeerCall) : Type 0 where
   pub handled : List PeerCall
   pub ends : EndsOn passes bytes handled
   pub is : calls ≡ acknowledges bytes ++ handled
 
--- a notification arrived, and then the clock was read.
+-- if a wait ended on a notification, it was acknowledged, and the clock was read, then it is
+-- noticed as in `IsNoticed`.
 pub noticed : (token : List ℕ) (passes : Passes) (bytes : List ℕ) (time : ℕ) (before between acknowledged after : Calls) → IsReadAs bytes (IsOwnResponse token)
     → MakesCalls before between (EndsOn passes bytes) → Adds between acknowledged (acknowledges bytes) → Adds acknowledged after (Reads time ∷ [])
     → MakesCalls before after (IsNoticed token passes bytes time)
@@ -87,7 +90,7 @@ noticed token passes bytes time before between acknowledged after own one adds r
     (does_then before between acknowledged (EndsOn passes bytes) (EndsAcknowledged passes bytes) (acknowledges bytes) one adds (λ handled h. record { handled = handled; ends = h; is = refl })) reads
     (λ calls h. record { own = own; handled = h.handled; ends = h.ends; is = ap (λ (x : List PeerCall). Reads time ∷ x) h.is })
 
--- more datagrams are skipped after these.
+-- if n datagrams were skipped, and then m more, m + n datagrams were skipped.
 passed_behind : (other passes : Passes) → ((bytes : List ℕ) (sent : List PeerCall) → other bytes sent → passes bytes sent) → (m n : ℕ) (newer older : List PeerCall)
     → ArePassedOver other m newer → ArePassedOver passes n older → ArePassedOver passes (m + n) (newer ++ older)
 passed_behind other passes turns zero n newer older none are =
@@ -102,7 +105,7 @@ passed_behind other passes turns (suc m) n newer older one are =
       is = ap (λ (x : List PeerCall). x ++ older) one.is ∙ append_assoc one.sent (Receives (Some one.bytes) ∷ one.older) older;
     })
 
--- at least this number of datagrams were skipped.
+-- at least `least` datagrams were skipped.
 pub record HasPassed (passes : Passes) (least : ℕ) (calls : List PeerCall) : Type 0 where
   pub n : ℕ
   pub many : least ≤ n
@@ -144,7 +147,8 @@ awaits_behind token other passes turns least older newer (Some (bytes, time)) a 
 watching : (told : ℕ → Type 0) (token : List ℕ) (w : Observation) (bytes : List ℕ) (sent : List PeerCall) → IsNoNotification token bytes sent → IsPassedOverWatching told token w bytes sent
 watching told token w bytes sent none = inr none
 
--- the next notification is shown, or the wait is over.
+-- if datagrams were skipped, and then a notification arrived or the wait was over, all these calls
+-- are those of one wait.
 pub awaits_next : (told : ℕ → Type 0) (token : List ℕ) (w : Observation) (least : ℕ) (answer : Option Dated) (before between after : Calls)
     → MakesCalls before between (HasPassed (IsPassedOverWatching told token w) least) → MakesCalls between after (AwaitsNotification token (IsNoNotification token) answer)
     → MakesCalls before after (AwaitsNotification token (IsPassedOverWatching told token w) answer)
@@ -153,7 +157,7 @@ awaits_next told token w least answer before between after one other =
     does_both before between after (HasPassed passes least) (AwaitsNotification token (IsNoNotification token) answer) (AwaitsNotification token passes answer) one other
     (λ older newer a b. awaits_behind token (IsNoNotification token) passes (watching told token w) least older newer answer a b)
 
--- the next notification is skipped.
+-- if the next notification isn't to be shown, it is one more skipped datagram.
 pub older_passed : (told : ℕ → Type 0) (token : List ℕ) (w : Observation) (least : ℕ) (bytes : List ℕ) (time : ℕ) (before between after : Calls)
     → IsOlderNotification told token w bytes (dates bytes time) → MakesCalls before between (HasPassed (IsPassedOverWatching told token w) least)
     → MakesCalls between after (AwaitsNotification token (IsNoNotification token) (Some (bytes, time)))
@@ -177,7 +181,7 @@ older_passed told token w least bytes time before between after is_older one oth
       };
     })
 
--- a notification classified as `Older` is an older one.
+-- if a notification that arrived is classified as `Older`, it is skipped as an older notification.
 pub is_older : (went came : List ℕ → Type 0) (told : ℕ → Type 0) (token bytes : List ℕ) (w now : Observation) (m : Message) (time at : ℕ) (notice : NotificationClass) → HasOwnResponse went came token bytes
     → reading_of bytes ≡ Ok m → told time → now ≡ w → at ≡ max now.at time → notice ≡ notice_after now at m → notice ≡ Older → IsOlderNotification told token w bytes (dates bytes time)
 is_older went came told token bytes w now m time at notice own read told_is same is_at is older =
@@ -197,21 +201,23 @@ is_older went came told token bytes w now m time at notice own read told_is same
 one_more_step : (token : List ℕ) (older step : List PeerCall) → IsObserverStep token step → IsObserving token older → IsObserving token (step ++ older)
 one_more_step token older step is_step steps = (suc steps.0, record { older = older; before = steps.1; step = step; is_step = is_step; is = refl })
 
--- a wait begins.
+-- if a registered observer begins a wait, its calls are still those of a registered observer.
 pub waiting_step : (token : List ℕ) (seconds : ℕ) (older : List PeerCall) → IsObserving token older → IsObserving token (Waits seconds ∷ older)
 waiting_step token seconds older steps = one_more_step token older (Waits seconds ∷ []) (inl (seconds, refl)) steps
 
--- the clock is read.
+-- if a registered observer reads the clock, its calls are still those of a registered observer.
 pub reading_step : (token : List ℕ) (time : ℕ) (older : List PeerCall) → IsObserving token older → IsObserving token (Reads time ∷ older)
 reading_step token time older steps = one_more_step token older (Reads time ∷ []) (inr (inr (inl (time, refl)))) steps
 
--- a datagram arrived.
+-- if a datagram arrives, and a notification is acknowledged, the calls are still those of a
+-- registered observer.
 step_of : (token bytes : List ℕ) (sent older : List PeerCall) → AcknowledgesNotification token bytes sent → IsObserving token older → IsObserving token (sent ++ Receives (Some bytes) ∷ older)
 step_of token bytes sent older acknowledged steps =
     subst (IsObserving token) (append_assoc sent (Receives (Some bytes) ∷ []) older)
     (one_more_step token older (sent ++ Receives (Some bytes) ∷ []) (inr (inr (inr (record { bytes = bytes; sent = sent; acknowledged = acknowledged; is = refl })))) steps)
 
--- the datagram was a notification, and the clock is read.
+-- if a notification arrives, is acknowledged, and the clock is read, the calls are still those of a
+-- registered observer.
 dated_step : (token bytes : List ℕ) (time : ℕ) (older : List PeerCall) → IsReadAs bytes (IsOwnResponse token) → IsObserving token older
     → IsObserving token (dates bytes time ++ Receives (Some bytes) ∷ older)
 dated_step token bytes time older own steps = reading_step token time (acknowledges bytes ++ Receives (Some bytes) ∷ older) (step_of token bytes (acknowledges bytes) older (inl (own, refl)) steps)
@@ -256,25 +262,26 @@ steps_behind token (suc m) n newer older one are =
 pub observed : (token : List ℕ) (newer older : List PeerCall) → IsObserving token newer → IsObserving token older → IsObserving token (newer ++ older)
 observed token newer older a b = (a.0 + b.0, steps_behind token a.0 b.0 newer older a.1 b.1)
 
--- nothing arrived so far.
+-- no calls are those of a registered observer.
 pub observes_nothing : (token : List ℕ) (now : Calls) → MakesCalls now now (IsObserving token)
 observes_nothing token now = does_nothing now (IsObserving token) (0, refl)
 
--- a notification is awaited, as the watch does.
+-- if a registered observer awaits a notification, its calls are still those of a registered
+-- observer.
 pub awaits_observing : (told : ℕ → Type 0) (token : List ℕ) (w : Observation) (answer : Option Dated) (before between after : Calls) → MakesCalls before between (IsObserving token)
     → MakesCalls between after (AwaitsNotification token (IsPassedOverWatching told token w) answer) → MakesCalls before after (IsObserving token)
 awaits_observing told token w answer before between after one other =
     does_both before between after (IsObserving token) (AwaitsNotification token (IsPassedOverWatching told token w) answer) (IsObserving token) one other
     (λ older newer a b. observed token newer older (awaited_steps told token w answer newer b) a)
 
--- a wait begins.
+-- if a wait begins after calls of a registered observer, all are calls of a registered observer.
 pub waits_observing : (token : List ℕ) (seconds : ℕ) (before between after : Calls) → MakesCalls before between (IsObserving token) → Adds between after (Waits seconds ∷ [])
     → MakesCalls before after (IsObserving token)
 waits_observing token seconds before between after one adds =
     does_then before between after (IsObserving token) (IsObserving token) (Waits seconds ∷ []) one adds
     (λ older steps. waiting_step token seconds older steps)
 
--- the observer is registered, and observes.
+-- after the registration and a reading of the clock, the calls are those of an observation.
 pub registered : (o : Observer) (before after : Calls) → MakesCalls before after (IsDatedRegistration o) → MakesCalls before after (IsObservation o)
 registered o before after one =
     does_of before after (IsDatedRegistration o) (IsObservation o) one (λ calls a. record { older = calls; first = a; newer = []; then = (0, refl); is = refl })

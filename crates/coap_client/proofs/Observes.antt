@@ -29,7 +29,8 @@ query_are query before at short =
     subst (AreOptions before) (append-nil (numbered URI_QUERY query))
     (values_are URI_QUERY before query [] (omega (arith, at)) (omega arith) short (λ b _. tt))
 
--- a GET with Observe, a client request's resource and a token of four bytes is a message.
+-- a GET with Observe, a client request's resource and a token of at most four bytes fits a
+-- datagram.
 pub observe_fits : (e : ClientRequest) (interest : ObserveOption) (id code : ℕ) (token : List ℕ) (kind : MessageType) (options : List (ℕ × List ℕ)) → id < 65536 → length token ≤ 4 → code ≡ 1 →
     options ≡ (OBSERVE, uint_bytes (observe_value interest)) ∷ resource_options (slices_in e.target.path.segments.items) (slices_in e.target.query.items) →
     IsMessage (record { kind = kind; code = code; id = id; token = token; options = options; payload = [] })

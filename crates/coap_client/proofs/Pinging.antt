@@ -1,4 +1,4 @@
--- A ping, call after call.
+-- A ping, by its calls.
 use Rattle.std.proofs.Common.{◌≡◌, ℕ, zero, suc, ◌+◌, ◌*◌, ◌-◌, ◌<◌, Bool, true, false, List, [], ◌∷◌, ◌++◌, drop, inl, inr, Some, refl, ap, subst, ◌∙◌, arith, if◌then◌else◌}
 use Rattle.coap_client.specs.declared.fetcher.FetchFault.{FetchFault}
 use Rattle.coap_client.specs.declared.fetcher.FetchFault.TheVariants as fault
@@ -12,7 +12,7 @@ use Rattle.coap_client.specs.Schedules.{BeginsSchedule, full_schedule}
 use Rattle.coap_client.specs.Transmissions.{ack_timeout, most_sendings, AreInVain, IsSending, MakesCalls}
 use Rattle.coap_client.proofs.Transmitting.{Calls, does, does_of}
 
--- a datagram that isn't the ping's Reset message is skipped.
+-- if a datagram isn't the ping's Reset message, it is skipped, and nothing is sent after it.
 pub no_pong : (id : ℕ) (bytes : List ℕ) (now : Calls) → (IsReadAs bytes (IsReset id) → ⊥) → MakesCalls now now (IsNoPong id bytes)
 no_pong id bytes now other = does now now (IsNoPong id bytes) [] (λ calls h. h) (other, refl)
 
@@ -45,7 +45,7 @@ joined : (newer older : List PeerCall) → own_calls (newer ++ older) ≡ own_ca
 joined [] older = refl
 joined (x ∷ newer) older = ap (λ (l : List PeerCall). if is_own_call x then x ∷ l else l) (joined newer older) ∙ joined_by (is_own_call x) x (own_calls newer) (own_calls older)
 
--- nothing is sent during a wait.
+-- during a wait, nothing is sent, and no other wait begins.
 passed : (id n : ℕ) (calls : List PeerCall) → ArePassedOver (IsNoPong id) n calls → own_calls calls ≡ []
 passed id zero calls none = ap own_calls none
 passed id (suc n) calls one =
@@ -57,7 +57,7 @@ over id handled o = elim o.is as (λ _. own_calls handled ≡ []) [
   | inr full ↦ ap own_calls full.0 ∙ passed id o.n o.older o.before
 ]
 
--- the first n of the five transmissions.
+-- the calls of the first n of the five transmissions.
 abbrev first_of : List ℕ → ℕ → List PeerCall
 first_of request n = drop (2 * (5 - n)) (full_schedule request)
 

@@ -13,7 +13,7 @@ use Rattle.coap_client.specs.Replies.{IsReset}
 use Rattle.coap_client.specs.Schedules.{EndsByReset}
 use Rattle.coap_client.specs.Transmissions.{IsLastSending}
 
--- the datagram that ends a wait is the newest call, after any earlier calls.
+-- if a wait ends on a Reset message, the newest call received that message.
 ended_by_reset : (passes : List ℕ → List PeerCall → Type 0) (id : ℕ) (bytes : List ℕ) (handled : List PeerCall) → IsReadAs bytes (IsReset id) → EndsOn passes bytes handled → EndsByReset id handled
 ended_by_reset passes id bytes handled rejects e = record {
   bytes = bytes;
@@ -34,7 +34,7 @@ behind id newer older calls r is = record {
   rejects = r.rejects;
 }
 
--- for a classification by which a rejection is a Reset with this message ID.
+-- lemmas for a classification by which each rejection is a Reset message with this message ID.
 module _ (tells : List ℕ → ReplyClass → Type 0) (id : ℕ) (resets : (bytes : List ℕ) → tells bytes Rejected → IsReadAs bytes (IsReset id)) where
   rejected_by : (awaited : Bool) (handled : List PeerCall) → IsRejectedBy tells awaited handled → EndsByReset id handled
   rejected_by awaited handled r = ended_by_reset _ id r.0 handled (resets r.0 r.1) r.2

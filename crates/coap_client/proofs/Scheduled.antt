@@ -19,11 +19,11 @@ use Rattle.coap_client.specs.Faults.{EndsRejected, IsRejectedLeaving, IsRejectio
 use Rattle.coap_client.specs.Schedules.{AwaitsResponse, BeginsSchedule, full_schedule, has_code, is_scheduled, schedule, seconds_in, seconds_of}
 use Rattle.coap_client.specs.Transmissions.{ack_timeout, acknowledges_answer, AreInVain, EndsAnswered, EndsAwaited, IsAcknowledgedFirst, IsLastSending, IsSending, IsTransmission}
 
--- the schedules of two lists of calls, joined.
+-- the schedule of two joined lists of calls is the schedules of both, joined.
 both : (xs ys newer older : List PeerCall) → schedule xs ≡ newer → schedule ys ≡ older → schedule (xs ++ ys) ≡ newer ++ older
 both xs ys newer older x y = filter-append is_scheduled xs ys ∙ ap (λ (l : List PeerCall). l ++ schedule ys) x ∙ ap (λ (l : List PeerCall). newer ++ l) y
 
--- an acknowledgement isn't scheduled.
+-- an acknowledgement isn't part of a schedule.
 acknowledgement_of : (kind : MessageType) (id : ℕ) → schedule (acknowledges_kind kind id) ≡ []
 acknowledgement_of Confirmable id = refl
 acknowledgement_of NonConfirmable id = refl
@@ -49,7 +49,7 @@ acknowledgement_of_answer : (answer : Option (List ℕ)) → schedule (acknowled
 acknowledgement_of_answer None = refl
 acknowledgement_of_answer (Some answer) = acknowledgement answer
 
--- nothing sent after a skipped datagram is scheduled.
+-- the calls after a skipped datagram aren't part of a schedule.
 abbrev IsQuiet : (List ℕ → List PeerCall → Type 0) → Type 0
 IsQuiet passes = (bytes : List ℕ) (sent : List PeerCall) → passes bytes sent → schedule sent ≡ []
 
@@ -66,7 +66,7 @@ watching_is_quiet : (told : ℕ → Type 0) (token : List ℕ) (w : Observation)
 watching_is_quiet told token w bytes sent (inl older) = ap schedule older.sent_is ∙ acknowledgement bytes
 watching_is_quiet told token w bytes sent (inr none) = ap schedule none.1
 
--- nothing is scheduled during a wait.
+-- the calls for skipped datagrams during a wait aren't part of a schedule.
 passed : (passes : List ℕ → List PeerCall → Type 0) → IsQuiet passes → (n : ℕ) (calls : List PeerCall) → ArePassedOver passes n calls → schedule calls ≡ []
 passed passes quiet zero calls none = ap schedule none
 passed passes quiet (suc n) calls one =
@@ -82,7 +82,7 @@ over passes quiet calls o = elim o.is as (λ _. schedule calls ≡ []) [
 ended : (passes : List ℕ → List PeerCall → Type 0) → IsQuiet passes → (bytes : List ℕ) (calls : List PeerCall) → EndsOn passes bytes calls → schedule calls ≡ []
 ended passes quiet bytes calls e = ap schedule e.is ∙ passed passes quiet e.n e.older e.before
 
--- nothing is scheduled during the wait for the next notification.
+-- the calls during a wait for the next notification aren't part of a schedule.
 pub noted_quietly : (told : ℕ → Type 0) (token : List ℕ) (w : Observation) (answer : Option Dated) (calls : List PeerCall) → AwaitsNotification token (IsPassedOverWatching told token w) answer calls
     → schedule calls ≡ []
 noted_quietly told token w None calls o = over (IsPassedOverWatching told token w) (watching_is_quiet told token w) calls o
@@ -90,19 +90,19 @@ noted_quietly told token w (Some (bytes, time)) calls x =
     ap schedule x.is
     ∙ both (dates bytes time) x.handled [] [] (acknowledgement bytes) (ended (IsPassedOverWatching told token w) (watching_is_quiet told token w) bytes x.handled x.ends)
 
--- a response is awaited.
+-- the calls during a wait for a separate response aren't part of a schedule.
 awaited : (tells : List ℕ → ReplyClass → Type 0) (answer : Option (List ℕ)) (handled : List PeerCall) → EndsAwaited tells answer handled → schedule handled ≡ []
 awaited tells None handled ends = over (IsPassedOver tells true) (request_is_quiet tells true) handled ends
 awaited tells (Some answer) handled ends = ended (IsPassedOver tells true) (request_is_quiet tells true) answer handled ends.1
 
--- after an acknowledgement, the wait for the response is longer.
+-- if a request is acknowledged, the schedule has one more wait, of 93 seconds.
 acknowledged : (tells : List ℕ → ReplyClass → Type 0) (answer : Option (List ℕ)) (handled : List PeerCall) → IsAcknowledgedFirst tells answer handled → schedule handled ≡ Waits 93 ∷ []
 acknowledged tells answer handled a =
     ap schedule a.is
     ∙ both a.more (Waits 93 ∷ a.first) [] (Waits 93 ∷ []) (awaited tells answer a.more a.ends)
     (ap (λ (l : List PeerCall). Waits 93 ∷ l) (ended (IsPassedOver tells false) (request_is_quiet tells false) a.acknowledged.0 a.first a.acknowledged.2))
 
--- the response is acknowledged if it is confirmable.
+-- the acknowledgement of the response adds nothing to the schedule of a transmission.
 taken : (confirmable : Bool) (tells : List ℕ → ReplyClass → Type 0) (request : List ℕ) (answer : Option (List ℕ)) (calls : List PeerCall) (t : IsTransmission confirmable tells request answer calls)
     → schedule calls ≡ schedule t.asked
 taken confirmable tells request answer calls t =
@@ -116,13 +116,13 @@ module _ (m : Message) (coded : m.code ≡ 0 → ⊥) where
   has_own_code : has_code request ≡ true
   has_own_code = ap not (false_from_ne_true (m.code == 0) (λ e. coded (eqb-true m.code 0 e)))
 
-  -- the message is sent, and a wait begins.
+  -- the schedule of a sending is that of the calls after it, the wait, and the request.
   sent : (seconds : ℕ) (P : List PeerCall → Type 0) (calls newer : List PeerCall) (s : IsSending request seconds P calls) → schedule s.handled ≡ newer → schedule calls ≡ newer ++ Waits seconds ∷ Sends request ∷ []
   sent seconds P calls newer s handled =
       ap schedule s.is
       ∙ both s.handled (Waits seconds ∷ Sends request ∷ []) newer (Waits seconds ∷ Sends request ∷ []) handled (ap (λ (b : Bool). Waits seconds ∷ cond b (Sends request ∷ []) []) has_own_code)
 
-  -- the first n of the five transmissions.
+  -- the calls of the first n of the five transmissions.
   abbrev first_of : ℕ → List PeerCall
   first_of n = drop (2 * (5 - n)) (full_schedule request)
 
@@ -149,7 +149,8 @@ module _ (m : Message) (coded : m.code ≡ 0 → ⊥) where
       (over passes quiet again.in_vain.handled again.in_vain.ends) again.is
       ∙ ap first_of (omega arith)
 
-  -- the same, and no more.
+  -- the schedule of a last sending is that of the calls after it, and the first n + 1
+  -- transmissions.
   last : (passes : List ℕ → List PeerCall → Type 0) → IsQuiet passes → (P : List PeerCall → Type 0) (calls newer : List PeerCall) (s : IsLastSending passes request P calls)
       → schedule s.sending.handled ≡ newer → schedule calls ≡ newer ++ first_of (s.n + 1)
   last passes quiet P calls newer s handled =
@@ -159,7 +160,8 @@ module _ (m : Message) (coded : m.code ≡ 0 → ⊥) where
   begins : (n : ℕ) → n < 5 → BeginsSchedule request (first_of (n + 1))
   begins n few = (5 - (n + 1), omega (arith, few), refl)
 
-  -- the response arrives after an acknowledgement or without one.
+  -- if the calls after a last sending add nothing to the schedule, the schedule is the first
+  -- transmissions, at least one.
   begun : (passes : List ℕ → List PeerCall → Type 0) → IsQuiet passes → (P : List PeerCall → Type 0) (calls : List PeerCall) (s : IsLastSending passes request P calls)
       → schedule s.sending.handled ≡ [] → BeginsSchedule request (schedule calls)
   begun passes quiet P calls s handled = subst (BeginsSchedule request) (sym (last passes quiet P calls [] s handled)) (begins s.n s.few)
@@ -235,7 +237,7 @@ module _ (m : Message) (coded : m.code ≡ 0 → ⊥) where
       let quiet = leaving_is_quiet token id in
       begun passes quiet (IsRejectedLeaving token id) calls s (ended passes quiet s.sending.ends.bytes s.sending.handled s.sending.ends.ends)
 
-  -- 62 seconds, or 93 after an acknowledgement.
+  -- if no response arrived, the waits are at least 62 seconds together.
   pub waited_for : (calls : List PeerCall) → (schedule calls ≡ full_schedule request) ⊎ AwaitsResponse request (schedule calls) → 62 ≤ seconds_in calls
   waited_for calls (inl all) = let seconds : seconds_in calls ≡ 62 = ap (λ (l : List PeerCall). sum_by seconds_of l) all in omega (arith, seconds)
   waited_for calls (inr later) =

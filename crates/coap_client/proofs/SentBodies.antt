@@ -21,19 +21,20 @@ use Rattle.coap_client.specs.Parts.{block_of, first_part, has_more, part_payload
 use Rattle.coap_client.specs.Replies.{block1_of, block2_of, by_more, by_option, by_part, etag_of, is_continue, is_final, fits_place, is_success, is_understood, next_block, next_by_code, next_number, next_of_answer, next_of_body, next_of_whole, next_size}
 use Rattle.coap_client.proofs.NextParts.{begins_alike, either, next_smaller}
 
--- the bytes of the body in the outstanding request; a request for a further block of the response
--- has no new ones.
+-- the bytes of the body that the outstanding request sends for the first time. A request for a
+-- further block of the response sends none.
 abbrev pub body_of_request : ClientRequest → State → List ℕ
 body_of_request e (Out (Answer n szx) body etag) = []
 body_of_request e (Out part body etag) = part_payload e.method e.payload.now part
 body_of_request e other = []
 
--- the bytes of the body in the requests that these replies answer, in order.
+-- the bytes of the body in the requests for these replies, joined in order.
 abbrev pub body_sent : ClientRequest → List Message → List ℕ
 body_sent e [] = []
 body_sent e (m ∷ ms) = body_sent e ms ++ body_of_request e (state_after e ms)
 
--- the bytes sent in a state: none, the blocks before the outstanding one, or all.
+-- the bytes `sent` fit the state: no bytes, the blocks before the outstanding one, or the whole
+-- body.
 abbrev pub HasSent : ClientRequest → List ℕ → State → Type 0
 HasSent e sent (Out Whole body etag) = sent ≡ []
 HasSent e sent (Out (Body n szx) body etag) = sent ≡ take (block_size szx * n) e.payload.now
@@ -41,7 +42,7 @@ HasSent e sent (Out (Answer n szx) body etag) = sent ≡ e.payload.now
 HasSent e sent (Ended code body) = is_success code ≡ true → sent ≡ e.payload.now
 HasSent e sent other = Unit {0}
 
--- the possible next steps after a successful response, if these bytes were sent.
+-- the next step is possible after a success, if these bytes were sent.
 abbrev pub GoesTo : ClientRequest → List ℕ → Next → Type 0
 GoesTo e sent (next.Ask Whole) = ⊥
 GoesTo e sent (next.Ask (Body n szx)) = sent ≡ take (block_size szx * n) e.payload.now
@@ -75,7 +76,7 @@ body_goes e sent n szx (Some smaller) small so =
     either (GoesTo e sent) (nat_lt (next_number n szx smaller) 1048576) (next.Ask (Body (next_number n szx smaller) smaller)) next.Malformed
     (λ _. so ∙ ap (λ k. take k e.payload.now) (sym (begins_alike n szx smaller (small smaller refl)))) (λ _. tt)
 
--- the blocks before one, and that one.
+-- the blocks before block n and block n, joined, are the first n + 1 blocks.
 one_block_more : (payload : List ℕ) (n szx : ℕ) → take (block_size szx * n) payload ++ block_of payload n szx ≡ take (block_size szx * (n + 1)) payload
 one_block_more payload n szx =
     let size = block_size szx in
@@ -131,7 +132,7 @@ has_sent e (m ∷ ms) = reply_has e (body_sent e ms) m (state_after e ms) (has_s
 pub whole_sent : (e : ClientRequest) (ms : List Message) (code : ℕ) (answer : List ℕ) → state_after e ms ≡ Ended code answer → is_success code ≡ true → body_sent e ms ≡ e.payload.now
 whole_sent e ms code answer ends success = subst (HasSent e (body_sent e ms)) ends (has_sent e ms) success
 
--- the requests that had the body.
+-- the requests `rs`, with the outstanding one if it sends the body or a block of it.
 abbrev pub with_request : ClientRequest → ℕ → State → List Message → List Message
 with_request e id (Out (Answer n szx) body etag) rs = rs
 with_request e id (Out part body etag) rs = part_request e part id ∷ rs
@@ -169,7 +170,7 @@ requests_went went came e first known [] are = All-nil (λ r. went (message_byte
 requests_went went came e first known (m ∷ ms) are =
     one_went went came e ((first + length ms) % 65536) (taken_ids known ms) (state_after e ms) m (requests_of e first ms) are.1 (requests_went went came e first known ms are.0)
 
--- a fetch that ended by a success has sent the whole body.
+-- if a fetch ended by a success, the requests sent have the whole body.
 pub went_whole : (went came : List ℕ → Type 0) (e : ClientRequest) (first : ℕ) (known : List ℕ) (Called : List Message → Type 0) (code : ℕ) (answer : List ℕ) →
     RepliesLeadTo went came e first known Called (Ended code answer) → SendsWhole went e code
 went_whole went came e first known Called code answer l success = record {

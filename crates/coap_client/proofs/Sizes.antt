@@ -22,7 +22,8 @@ use Rattle.coap_opts.specs.Fields.{method_code}
 use Rattle.coap_client.specs.Parts.{answer_payload, block_of, block_option, has_more, most_at_once, option_in, part_options, part_payload, numbered, option_room, request_options}
 use Rattle.coap_client.specs.Requests.{IsBlock, IsPartOf}
 
--- options of one number before others that take at most this number of bytes.
+-- if the options after these take at most `more` bytes, all together take at most `more` and the
+-- room of these values.
 pub values_size : (number more before : ℕ) (values : List (List ℕ)) (rest : List (ℕ × List ℕ)) → ((b : ℕ) → length (options_bytes b rest) ≤ more) →
     length (options_bytes before (numbered number values ++ rest)) ≤ sum_by option_room values + more
 values_size number more before [] rest h = omega (arith, h before)
@@ -30,7 +31,7 @@ values_size number more before (s ∷ values) rest h =
     let value = extension (number - before) ++ (extension (length s) ++ s) in
     omega (arith, option_size (number - before) s, values_size number more number values rest h, length-append value (options_bytes number (numbered number values ++ rest)), sum_by-cons option_room s values)
 
--- a short value has no length after the first byte.
+-- the extended length of an option has at most two bytes.
 extension_by : (n : ℕ) (is_small is_middle : Bool) (a : ℕ) (b c : ℕ) → length (if is_small then [] else (if is_middle then a ∷ [] else b ∷ c ∷ [])) ≤ 2
 extension_by n true middle a b c = omega arith
 extension_by n false true a b c = omega arith
@@ -47,7 +48,7 @@ short_size delta most value small short =
     let none : length (extension (length value)) ≡ 0 = ap length (unextended (length value) _ (omega (arith, small, short))) in
     omega (arith, none, short, extension_short delta, length-append (extension delta) (extension (length value) ++ value), length-append (extension (length value)) value)
 
--- the number of a Content-Format has two bytes, that of a block three.
+-- the value of a Content-Format has at most two bytes, and that of a block option at most three.
 skipped : (b most : ℕ) (bytes : List ℕ) → b ≡ 0 → length (without_zeros bytes) ≤ most → length (without_zeros (b ∷ bytes)) ≤ most
 skipped zero most bytes none h = h
 skipped (suc b) most bytes none h = absurd (omega (arith, none))
@@ -82,7 +83,8 @@ block_short : (n szx : ℕ) (more : Bool) → IsBlock n szx → length (block_op
 block_short n szx true block = three_bytes (16 * n + (8 + szx)) (omega (arith, block.number, block.size))
 block_short n szx false block = three_bytes (16 * n + (0 + szx)) (omega (arith, block.number, block.size))
 
--- an option that may be between the path and the query: a Content-Format.
+-- the option between the path and the query, if there is one, is a Content-Format of at most two
+-- bytes.
 abbrev pub IsFormat : Option (ℕ × ArrayVec ℕ) → Type 0
 IsFormat o = IfSome o (λ x. (x.0 ≡ 12) × (length x.1.items ≤ 2))
 
@@ -158,11 +160,11 @@ answer_size Post payload = omega arith
 answer_size Put payload = omega arith
 answer_size Delete payload = omega arith
 
--- no block is larger than the largest.
+-- a block with size exponent 6 or less has at most 1,024 bytes.
 pub size_below : (szx : ℕ) → szx ≤ 6 → block_size szx ≤ 1024
 size_below szx small = let most : szx + 4 ≤ 10 = omega (arith, small) in pow_mono most
 
--- no request has more of a body than the maximum for one request.
+-- a request's payload isn't longer than the maximum for one request.
 payload_size : (e : ClientRequest) (part : Part) → IsPartOf e part → length (part_payload e.method e.payload.now part) ≤ most_at_once e.method (length e.payload.now)
 payload_size e Whole own = omega (arith, own)
 payload_size e (Body n szx) own =
@@ -204,7 +206,7 @@ block_fits e n szx id code token kind options below own c two o =
 rest_is : (k : ℕ) (payload : List ℕ) → take (length payload - k) (drop k payload) ≡ drop k payload
 rest_is k payload = take_all _ _ (omega (arith, length-drop k payload))
 
--- a block of a body, as the code cuts it.
+-- the bytes that the code cuts from a body are block n of the body.
 pub block_is : (payload : List ℕ) (n szx size number most count : ℕ) → size ≡ block_size szx → number ≡ n → most ≡ block_size szx →
     count ≡ min (length (take (length payload - size * number) (drop (size * number) payload))) most →
     take count (take (length payload - size * number) (drop (size * number) payload)) ≡ block_of payload n szx

@@ -13,14 +13,14 @@ use Rattle.coap_client.specs.Paths.{slices_in, slash, IsSegment, path_text, IsSl
 abbrev pub IsUnsplit : List ℕ → Type 0
 IsUnsplit s = All (λ b. b ≢ slash) s
 
--- a path consists of these segments and others, which the rest encodes.
+-- a path consists of the segments `done` and of others, which the text `rest` encodes.
 pub record IsAcknowledgedLeaving (whole done : List (List ℕ)) (rest : List ℕ) : Type 0 where
   pub left : List (List ℕ)
   pub whole_is : whole ≡ done ++ left
   pub rest_is : IsSlashed rest left
 
--- the text begins with these segments, each after a slash, and each path that it encodes begins
--- with them.
+-- the text begins with the segments `done`, each after a slash, and `rest` follows. Each path that
+-- the text encodes begins with these segments.
 pub record IsCutTo (text : List ℕ) (done : List (List ℕ)) (rest : List ℕ) : Type 0 where
   pub text_is : text ≡ path_text done ++ rest
   pub are : All IsSegment done
@@ -30,7 +30,7 @@ pub record IsCutTo (text : List ℕ) (done : List (List ℕ)) (rest : List ℕ) 
 pub uncut : (text : List ℕ) → IsCutTo text [] text
 uncut text = record { text_is = refl; are = All-nil IsSegment; only = λ whole p. record { left = whole; whole_is = refl; rest_is = p }; tail = inl refl }
 
--- the same text, split before its first slash.
+-- two splits of a text before its first slash have the same parts.
 pub record AreSame (a b a' b' : List ℕ) : Type 0 where
   pub first : a' ≡ a
   pub rest : b' ≡ b
@@ -48,7 +48,8 @@ path_is_rest : (segments : List (List ℕ)) → IsRest (path_text segments)
 path_is_rest [] = tt
 path_is_rest (s ∷ segments) = refl
 
--- the segments of a text after a slash, by its split before the next slash.
+-- `left` are the segments of a text after a slash: `segment`, which ends at the next slash, and
+-- those that `next` encodes.
 pub record IsBehind (segment next : List ℕ) (left : List (List ℕ)) : Type 0 where
   pub others : List (List ℕ)
   pub left_is : left ≡ segment ∷ others
@@ -72,7 +73,7 @@ text_of_one_more [] segment next = cc (append_assoc segment [] next)
 text_of_one_more (s ∷ done) segment next =
     cc (append_assoc s (path_text (done ++ segment ∷ [])) next, append_assoc s (path_text done) (slash ∷ (segment ++ next)), text_of_one_more done segment next)
 
--- one segment more.
+-- if the next part is a segment, the text is split up to the end of that segment.
 pub cut_more : (text : List ℕ) (done : List (List ℕ)) (rest after segment next : List ℕ) (more : List (List ℕ)) → IsCutTo text done rest → rest ≡ slash ∷ after →
     IsFirstSegment after segment next → IsSegment segment → more ≡ done ++ segment ∷ [] → IsCutTo text more next
 cut_more text done rest after segment next more c e f own m = subst (λ d. IsCutTo text d next) (sym m) (record {
@@ -85,7 +86,7 @@ cut_more text done rest after segment next more c e f own m = subst (λ d. IsCut
   tail = inr f.rest_is;
 })
 
--- the next part isn't a segment, so the text isn't a path.
+-- if the next part isn't a segment, the text isn't a path.
 pub no_segment : (text : List ℕ) (done : List (List ℕ)) (rest after segment next : List ℕ) → IsCutTo text done rest → rest ≡ slash ∷ after →
     IsFirstSegment after segment next → (IsSegment segment → ⊥) → IsNoPath text
 no_segment text done rest after segment next c e f none = record {
@@ -94,7 +95,7 @@ no_segment text done rest after segment next c e f none = record {
       none (behind after segment next l.left f (subst (λ r. IsSlashed r l.left) e l.rest_is)).own;
 }
 
--- nothing is left.
+-- if the text is split and no rest is left, the text encodes these segments.
 pub whole_path : (text : List ℕ) (done : List (List ℕ)) (rest : List ℕ) → IsCutTo text done rest → rest ≡ [] → IsSlashed text done
 whole_path text done rest c e = record { text_is = c.text_is ∙ (ap (λ r. path_text done ++ r) e ∙ append-nil (path_text done)); are = c.are }
 
@@ -102,7 +103,7 @@ no_slash : (rest : List ℕ) (left : List (List ℕ)) → (rest ≡ [] → ⊥) 
 no_slash rest [] some none p = some p.text_is
 no_slash rest (s ∷ left) some none p = none.none (s ++ path_text left) p.text_is
 
--- the rest doesn't begin with a slash.
+-- if there is a rest and it doesn't begin with a slash, the text isn't a path.
 pub no_path : (text : List ℕ) (done : List (List ℕ)) (rest : List ℕ) → IsCutTo text done rest → (rest ≡ [] → ⊥) → HasNoSlash rest → IsNoPath text
 no_path text done rest c some none = record { none = λ whole p. let l = c.only whole p in no_slash rest l.left some none l.rest_is }
 
@@ -110,18 +111,18 @@ pub not_nil : (xs : List ℕ) → false ≡ (length xs == 0) → xs ≡ [] → �
 not_nil [] e n = cc e
 not_nil (x ∷ xs) e n = cc n
 
--- a segment is added.
+-- if a slice is appended to a list, its contents are appended to the contents of the list.
 pub pushed : (old new : List (Bor (List ℕ))) (s : Bor (List ℕ)) → new ≡ old ++ s ∷ [] → slices_in new ≡ slices_in old ++ s.now ∷ []
 pushed old new s e = ap slices_in e ∙ map_push (λ x. x.now) old s
 
--- a part of no bytes, or of more than 255, isn't a segment.
+-- if a part has no bytes, or more than 255, it isn't a segment.
 pub unfit : (segment : List ℕ) (number : ℕ) (e : PathError) → IsUnfit segment number e → IsSegment segment → ⊥
 unfit segment number NoSlash u own = absurd u
 unfit segment number (Empty n) u own = let none = ap length u.0 in omega (arith, none, own.some)
 unfit segment number (Long n) u own = let long = u.0 in omega (arith, long, own.short)
 unfit segment number NoMemory u own = absurd u
 
--- the number of segments before the next one.
+-- the number of the next part is one more than the number of segments so far.
 pub counted : (items : List (Bor (List ℕ))) (n told : ℕ) → n ≡ length items → told ≡ n + 1 → told ≡ length (slices_in items) + 1
 counted items n told is next = next ∙ ap (λ (k : ℕ). k + 1) (is ∙ sym (length-map items (λ (s : Bor (List ℕ)). s.now)))
 
@@ -153,7 +154,7 @@ no_rest : (rest : List ℕ) → IsRest rest → (rest ≡ [] → ⊥) → HasNoS
 no_rest [] r some none = some refl
 no_rest (b ∷ rest) r some none = none.none rest (ap (λ (x : ℕ). x ∷ rest) r)
 
--- the text doesn't begin with a slash.
+-- if there is a rest and it doesn't begin with a slash, the whole text doesn't.
 pub slash_fault : (text : List ℕ) (done : List (List ℕ)) (rest : List ℕ) → IsCutTo text done rest → (rest ≡ [] → ⊥) → HasNoSlash rest → IsPathFault text NoSlash
 slash_fault text done rest c some none = elim c.tail as (λ _. IsPathFault text NoSlash) [
   | inl first ↦
@@ -164,7 +165,7 @@ slash_fault text done rest c some none = elim c.tail as (λ _. IsPathFault text 
 
 -- ---- paths with an empty segment
 
--- no segment is before the empty one.
+-- if a text begins with two slashes, or is one slash, no segment is before the empty one.
 pub begins_empty : (tail : List ℕ) (before : List (List ℕ)) (after : List ℕ) → IsRest tail → All IsSegment before → slash ∷ tail ≡ path_text before ++ slash ∷ after → before ≡ []
 begins_empty tail [] after r are e = refl
 begins_empty tail ([] ∷ before) after r are e = let own = All-head IsSegment [] before are in let some : 0 < 0 = own.some in absurd (omega (arith, some))
@@ -182,7 +183,7 @@ tells text NoMemory none = tt
 long_path : (s : List ℕ) (segments : List (List ℕ)) → length (path_text (s ∷ segments)) ≡ length s + length (path_text segments) + 1
 long_path s segments = let all = length-append s (path_text segments) in omega (arith, all)
 
--- one segment is before the empty one in `/a/`.
+-- in the text `/a/`, one segment is before the empty one.
 pub one_before : (before : List (List ℕ)) (after rest : List ℕ) → All IsSegment before → codes "/a/" ≡ path_text before ++ slash ∷ after → after ≡ rest → IsRest rest → length before ≡ 1
 one_before [] after rest are e same r =
     let after_is : codes "a/" ≡ after = cc e in

@@ -31,7 +31,7 @@ pub too_many : (went came : Bytes) (before now : Calls) (e : ClientRequest) (fir
     → HasReplies went came e first known (λ replies. (most_requests ≤ length replies) × MakesCalls before now (ArePartRequests e first known replies))
 too_many went came before now e first known id earlier state u many = record { replies = u.replies; are = u.are; called = (many, u.called) }
 
--- the outstanding request ends with this error.
+-- if the outstanding request ends as `Ends` says, so does the fetch after the replies so far.
 pub ends_on_request : (went came : Bytes) (Ends : Ending) (before between after : Calls) (e : ClientRequest) (first : ℕ) (known : List ℕ) (id : ℕ) (earlier : List ℕ) (part : Part)
     (body etag : List ℕ) (r : SentRequest) → IsFetching went came before between e first known id earlier (Out part body etag) → r.confirmable ≡ e.confirmable → r.id ≡ id
     → r.earlier.now ≡ earlier → r.datagram.now.items ≡ message_bytes (part_request e part id) → MakesCalls between after (Ends r.confirmable (TellsSent r) r.datagram.now.items)
@@ -70,7 +70,7 @@ fetch_outcome_fault went came is_error before after e first known Rejects fault.
 fetch_outcome_fault went came is_error before after e first known Rejects (fault.Socket error) turns h = h
 fetch_outcome_fault went came is_error before after e first known Rejects (fault.Memory error) turns h = absurd h
 
--- the same replies, with another property of their calls.
+-- if `Called` implies `Other`, replies that arrived with `Called` arrived with `Other`.
 replies_in : (went came : Bytes) (e : ClientRequest) (first : ℕ) (known : List ℕ) (Called Other : List Message → Type 0) → ((replies : List Message) → Called replies → Other replies)
     → HasReplies went came e first known Called → HasReplies went came e first known Other
 replies_in went came e first known Called Other turns h = record { replies = h.replies; are = h.are; called = turns h.replies h.called }
@@ -90,7 +90,7 @@ stops_in went came Makes Other turns e first known fault.Part h = absurd h
 stops_in went came Makes Other turns e first known (fault.Socket error) h = absurd h
 stops_in went came Makes Other turns e first known (fault.Memory error) h = replies_in went came e first known _ _ (λ replies x. turns _ x) h
 
--- an error of an attempt is one of the fetch.
+-- an error of the first attempt is an error of the fetch.
 pub fetch_fault : (went came : Bytes) (is_error : PeerError → Type 0) (Makes : Calls → Type 0) (e : ClientRequest) (first : ℕ) (f : FetchFault)
     → IsFetchOutcomeFault went came is_error Makes e first [] f → IsFetchFault went came is_error Makes e first f
 fetch_fault went came is_error Makes e first fault.Silence h = inl h
@@ -101,7 +101,8 @@ fetch_fault went came is_error Makes e first fault.Part h = inl h
 fetch_fault went came is_error Makes e first (fault.Socket error) h = h
 fetch_fault went came is_error Makes e first (fault.Memory error) h = inl h
 
--- an error of the second attempt is one of the fetch.
+-- if the response to a GET changed, and the second attempt stops with an error, the fetch stops
+-- with that error.
 pub stops_again : (went came : Bytes) (before between after : Calls) (e : ClientRequest) (first next : ℕ) (known : List ℕ) (f : FetchFault) → e.method ≡ Get
     → IsFetching went came before between e first [] next known Outdated → StopsBy went came (MakesCalls between after) e next known f
     → StopsAgain went came (MakesCalls before after) e first f

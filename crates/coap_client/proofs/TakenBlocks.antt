@@ -1,4 +1,4 @@
--- A block of the body is sent only after one that the server took.
+-- A further block of the body is sent only if the server took the block before it.
 use Rattle.std.proofs.Common.{◌≡◌, ℕ, ◌+◌, ◌==◌, ◌&&◌, nat_le, nat_lt, true, List, length, Option, Some, None, refl}
 use Rattle.std.proofs.lemmas.Bool.{and_parts, eqb-true, leb-true}
 use Rattle.coap_msg.specs.Wire.{Message}
@@ -13,12 +13,12 @@ use Rattle.coap_client.specs.Parts.{has_more}
 use Rattle.coap_client.specs.Replies.{block1_of, block2_of, by_more, by_option, by_part, fits_place, is_continue, is_final, is_success, is_understood, next_block, next_by_code, next_number, next_of_answer, next_of_body, next_of_whole, next_size, size_by_block}
 use Rattle.coap_client.proofs.NextParts.{either}
 
--- the next step is a block of the body only if this holds.
+-- the next step is a block of the body only if `P` holds.
 abbrev pub OnlyIf : Type 0 → Next → Type 0
 OnlyIf P (next.Ask (Body n szx)) = P
 OnlyIf P other = Unit {0}
 
--- no response results in a block of the body.
+-- the next step after a block of the response is never a block of the body.
 option_never : (n szx count : ℕ) (value : Option (List ℕ)) → OnlyIf ⊥ (by_option n szx count value)
 option_never n szx count None = either (OnlyIf ⊥) (n == 0) next.Last next.Malformed (λ _. tt) (λ _. tt)
 option_never n szx count (Some value) =
@@ -35,7 +35,7 @@ option_never n szx count (Some value) =
 whole_never : (n : ℕ) (m : Message) → OnlyIf ⊥ (next_of_whole n m)
 whole_never n m = either (OnlyIf ⊥) (is_final n m) (next_of_answer 0 6 m) next.Malformed (λ _. option_never 0 6 (length m.payload) (block2_of m)) (λ _. tt)
 
--- there is a size for the rest of the body only if the server took the block.
+-- if there is a size for the rest of the body, the response says that the server took the block.
 size_names : (n szx : ℕ) (m : Message) (value : Option (List ℕ)) (smaller : ℕ) → next_size n szx (is_continue m) value ≡ Some smaller → NamesTaken n szx m value
 size_names n szx m None smaller =
     either (λ o. o ≡ Some smaller → m.code ≡ registered.CONTINUE.byte) (is_continue m) (Some szx) None (λ is _. eqb-true _ _ is) (λ _ e. absurd (cc e))
@@ -53,7 +53,7 @@ body_only n szx m (Some smaller) success names =
     either (OnlyIf (SaysTaken n szx m)) (nat_lt (next_number n szx smaller) 1048576) (next.Ask (Body (next_number n szx smaller) smaller)) next.Malformed
     (λ _. record { success = success; names = names smaller refl }) (λ _. tt)
 
--- a condition that never holds implies any other.
+-- if the next step is never a block of the body, it is one only if `P` holds, for any `P`.
 any : (P : Type 0) (x : Next) → OnlyIf ⊥ x → OnlyIf P x
 any P (next.Ask (Body n szx)) o = absurd o
 any P (next.Ask (Answer n szx)) o = tt

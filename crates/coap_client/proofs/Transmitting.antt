@@ -18,15 +18,16 @@ Passes = List ℕ → List PeerCall → Type 0
 abbrev Told : Type 1
 Told = List ℕ → ReplyClass → Type 0
 
--- no call is made.
+-- if no call is made, the calls made are the empty list.
 pub does_nothing : (now P : Calls) → P [] → MakesCalls now now P
 does_nothing now P p calls h = record { more = []; are = p; is = h }
 
--- these calls are made.
+-- if the calls `more` are made, and have the property `P`, calls with that property are made.
 pub does : (before after P : Calls) (more : List PeerCall) → Adds before after more → P more → MakesCalls before after P
 does before after P more adds p calls h = record { more = more; are = p; is = adds calls h }
 
--- the first calls, and then the others.
+-- if calls with `P` are made, then calls with `Q`, and both together have `R`, calls with `R` are
+-- made.
 pub does_both : (before between after P Q R : Calls) → MakesCalls before between P → MakesCalls between after Q
     → ((first second : List PeerCall) → P first → Q second → R (second ++ first)) → MakesCalls before after R
 does_both before between after P Q R one other joins calls h =
@@ -34,14 +35,15 @@ does_both before between after P Q R one other joins calls h =
     let b = other (a.more ++ calls) a.is in
     record { more = b.more ++ a.more; are = joins a.more b.more a.are b.are; is = subst after (sym (append_assoc b.more a.more calls)) b.is }
 
--- the first calls, and then these.
+-- if calls with `P` are made, then the calls `more`, and all together have `R`, calls with `R` are
+-- made.
 pub does_then : (before between after P R : Calls) (more : List PeerCall) → MakesCalls before between P → Adds between after more
     → ((first : List PeerCall) → P first → R (more ++ first)) → MakesCalls before after R
 does_then before between after P R more one adds joins calls h =
     let a = one calls h in
     record { more = more ++ a.more; are = joins a.more a.are; is = subst after (sym (append_assoc more a.more calls)) (adds (a.more ++ calls) a.is) }
 
--- the same calls have another property.
+-- if calls with `P` are made, and `P` implies `Q`, calls with `Q` are made.
 pub does_of : (before after P Q : Calls) → MakesCalls before after P → ((calls : List PeerCall) → P calls → Q calls) → MakesCalls before after Q
 does_of before after P Q one turns calls h = let a = one calls h in record { more = a.more; are = turns a.more a.are; is = a.is }
 
@@ -50,7 +52,7 @@ does_of before after P Q one turns calls h = let a = one calls h in record { mor
 pub none_come : (passes : Passes) (now : Calls) → MakesCalls now now (ArePassedOver passes 0)
 none_come passes now = does_nothing now (ArePassedOver passes 0) refl
 
--- another datagram arrives.
+-- after n skipped datagrams, a further datagram arrives.
 record Comes (passes : Passes) (n : ℕ) (bytes : List ℕ) (calls : List PeerCall) : Type 0 where
   pub older : List PeerCall
   pub before : ArePassedOver passes n older
@@ -69,7 +71,7 @@ ended passes n count buffer o before between after some one adds =
     does_of before after (Comes passes n (take count buffer)) (EndsOn passes (take count buffer)) (comes passes n count buffer o before between after some one adds)
     (λ calls h. record { n = n; older = h.older; before = h.before; is = h.is })
 
--- another datagram arrives, and is skipped.
+-- if a further datagram arrives and is skipped, n + 1 datagrams were skipped.
 pub one_comes : (passes : Passes) (n count : ℕ) (buffer : List ℕ) (o : Option ℕ) (before between after later : Calls) → o ≡ Some count → MakesCalls before between (ArePassedOver passes n)
     → Adds between after (receives_in buffer o ∷ []) → MakesCalls after later (passes (take count buffer)) → MakesCalls before later (ArePassedOver passes (n + 1))
 one_comes passes n count buffer o before between after later some one adds other =
@@ -85,26 +87,26 @@ one_comes passes n count buffer o before between after later some one adds other
       is = ap (λ (x : List PeerCall). second ++ x) a.is;
     }))
 
--- the wait is over.
+-- if n datagrams were skipped, and then none arrives, the wait is over.
 pub over : (passes : Passes) (n : ℕ) (buffer : List ℕ) (o : Option ℕ) (before between after : Calls) → o ≡ None → MakesCalls before between (ArePassedOver passes n)
     → Adds between after (receives_in buffer o ∷ []) → MakesCalls before after (IsOver passes)
 over passes n buffer o before between after none one adds =
     does_then before between after (ArePassedOver passes n) (IsOver passes) (Receives None ∷ []) one (subst (λ (x : Option ℕ). Adds between after (receives_in buffer x ∷ [])) none adds)
     (λ first h. record { n = n; older = first; before = h; is = inl refl })
 
--- the maximum number of datagrams arrived.
+-- if 2^64 - 1 datagrams or more were skipped, the wait is over.
 pub flooded : (passes : Passes) (n : ℕ) (before after : Calls) → 2 ^ 64 ≤ n + 1 → MakesCalls before after (ArePassedOver passes n) → MakesCalls before after (IsOver passes)
 flooded passes n before after many one =
     does_of before after (ArePassedOver passes n) (IsOver passes) one (λ handled h. record { n = n; older = handled; before = h; is = inr (refl, many) })
 
--- ---- by the classification of a datagram
+-- ---- the calls after a datagram, by its class
 
 pub passed : (tells : Told) (awaited : Bool) (bytes : List ℕ) (handled : ReplyClass) (before after : Calls) → tells bytes handled → is_passed_over awaited handled ≡ true
     → Adds before after (sent_behind handled bytes) → MakesCalls before after (IsPassedOver tells awaited bytes)
 passed tells awaited bytes handled before after told over adds =
     does before after (IsPassedOver tells awaited bytes) (sent_behind handled bytes) adds (record { handled = handled; told = told; passed = over; sent_is = refl })
 
--- nothing is sent after a datagram that isn't skipped.
+-- if a datagram isn't skipped, nothing is sent after it.
 quiet : (awaited : Bool) (bytes : List ℕ) (handled : ReplyClass) (before after : Calls) → is_passed_over awaited handled ≡ false → Adds before after (sent_behind handled bytes) → Adds before after []
 quiet awaited bytes Reply before after ends adds = adds
 quiet awaited bytes Separate before after ends adds = adds
@@ -121,7 +123,7 @@ ended_by tells awaited n count buffer o handled before between after later some 
     does_then before after later (EndsOn passes (take count buffer)) (EndsOn passes (take count buffer)) [] (ended passes n count buffer o before between after some one adds)
     (quiet awaited (take count buffer) handled after later ends sends) (λ first h. h)
 
--- a datagram that ends a wait, and is no acknowledgement or rejection, is a response.
+-- if a datagram ends a wait, and is neither an acknowledgement nor a rejection, it is the response.
 answering : (awaited : Bool) (handled : ReplyClass) → is_passed_over awaited handled ≡ false → (handled ≡ Acknowledged → ⊥) → (handled ≡ Rejected → ⊥) → is_answering awaited handled ≡ true
 answering awaited Reply ends acknowledged rejected = refl
 answering true Separate ends acknowledged rejected = refl
@@ -131,7 +133,8 @@ answering awaited Acknowledged ends acknowledged rejected = absurd (acknowledged
 answering awaited Rejected ends acknowledged rejected = absurd (rejected refl)
 answering awaited Other ends acknowledged rejected = absurd (cc ends)
 
--- the same for an awaited separate response.
+-- if a datagram that arrived ends a wait, and is neither an acknowledgement nor a rejection, it is
+-- a response that was awaited.
 pub awaited_answer : (came : List ℕ → Type 0) (r : SentRequest) (awaited : Bool) (bytes : List ℕ) (handled : ReplyClass) → came bytes → TellsSent r bytes handled
     → is_passed_over awaited handled ≡ false → (handled ≡ Acknowledged → ⊥) → (handled ≡ Rejected → ⊥) → IsAwaitedAnswer came r awaited bytes
 awaited_answer came r awaited bytes Reply came_is told ends acknowledged rejected = record { message = told.message; came_is = came_is; read_is = told.read_is; answers = inl told.holds }
@@ -155,9 +158,9 @@ acknowledgement_came tells awaited bytes handled before after told ends is one =
     does_of before after (EndsOn (IsPassedOver tells awaited) bytes) (λ calls. (awaited ≡ false) × IsAcknowledgedBy tells calls) one
     (λ calls h. (not_awaited, (bytes, subst (tells bytes) is told, subst (λ (b : Bool). EndsOn (IsPassedOver tells b) bytes calls) not_awaited h)))
 
--- ---- a request
+-- ---- the transmissions of a request
 
--- the request is sent, and then the wait has this outcome.
+-- if a request is sent, a wait begins, and calls with `P` follow, these calls are a sending.
 pub sending : (request : List ℕ) (seconds : ℕ) (before between after P : Calls) → Adds before between (Waits seconds ∷ Sends request ∷ []) → MakesCalls between after P
     → MakesCalls before after (IsSending request seconds P)
 sending request seconds before between after P adds one =
@@ -165,21 +168,24 @@ sending request seconds before between after P adds one =
     (does before between (λ calls. calls ≡ Waits seconds ∷ Sends request ∷ []) _ adds refl) one
     (λ first handled is h. record { handled = handled; ends = h; is = ap (λ (x : List PeerCall). handled ++ x) is })
 
--- once more without a response.
+-- if a request is sent again after n transmissions in vain, and no response arrives, it was sent n
+-- + 1 times in vain.
 pub in_vain : (passes : Passes) (request : List ℕ) (n : ℕ) (before between after : Calls) → MakesCalls before between (AreInVain passes request n)
     → MakesCalls between after (IsSending request (ack_timeout n) (IsOver passes)) → MakesCalls before after (AreInVain passes request (n + 1))
 in_vain passes request n before between after one other = subst (λ (x : ℕ). MakesCalls before after (AreInVain passes request x)) (sym (add-one n))
     (does_both before between after (AreInVain passes request n) (IsSending request (ack_timeout n) (IsOver passes)) (AreInVain passes request (suc n)) one other
     (λ older last a b. record { older = older; before = a; last = last; in_vain = b; is = refl }))
 
--- for the last time.
+-- if a request is sent again after fewer transmissions in vain than the maximum, this can be the
+-- last sending.
 pub last_sending : (passes : Passes) (request : List ℕ) (n : ℕ) (before between after P : Calls) → n < most_sendings → MakesCalls before between (AreInVain passes request n)
     → MakesCalls between after (IsSending request (ack_timeout n) P) → MakesCalls before after (IsLastSending passes request P)
 last_sending passes request n before between after P few one other =
     does_both before between after (AreInVain passes request n) (IsSending request (ack_timeout n) P) (IsLastSending passes request P) one other
     (λ older last a b. record { n = n; few = few; older = older; before = a; last = last; sending = b; is = refl })
 
--- the request is acknowledged, and its response awaited.
+-- if a request is acknowledged, and then a separate response is awaited, these calls are
+-- `IsAcknowledgedFirst`.
 acknowledged : (tells : Told) (answer : Option (List ℕ)) (before between begun after : Calls) → MakesCalls before between (IsAcknowledgedBy tells)
     → Adds between begun (Waits separate_wait ∷ []) → MakesCalls begun after (EndsAwaited tells answer) → MakesCalls before after (IsAcknowledgedFirst tells answer)
 acknowledged tells answer before between begun after one adds other calls h =
@@ -191,13 +197,14 @@ acknowledged tells answer before between begun after one adds other calls h =
       is = subst after (sym (append_assoc b.more (Waits separate_wait ∷ a.more) calls)) b.is;
     }
 
--- the request is sent again, and then the wait has this outcome.
+-- if a request is sent after n others with the wait for that number, these calls are a sending.
 pub again : (request : List ℕ) (n seconds : ℕ) (between sent after P : Calls) → seconds ≡ ack_timeout n
     → Adds between sent (Waits seconds ∷ Sends request ∷ []) → MakesCalls sent after P → MakesCalls between after (IsSending request (ack_timeout n) P)
 again request n seconds between sent after P twice adds one =
     sending request (ack_timeout n) between sent after P (subst (λ (s : ℕ). Adds between sent (Waits s ∷ Sends request ∷ [])) twice adds) one
 
--- the request has a response, after an acknowledgement or without one.
+-- if a confirmable request is sent after n transmissions in vain, and a response arrives without an
+-- acknowledgement before it, the request has that response.
 pub answered : (tells : Told) (request : List ℕ) (n : ℕ) (answer : List ℕ) (before between after : Calls) → n < most_sendings
     → MakesCalls before between (AreInVain (IsPassedOver tells false) request n) → MakesCalls between after (IsSending request (ack_timeout n) (IsAnsweredBy tells false answer))
     → MakesCalls before after (IsAskedAgain tells request (Some answer))
@@ -218,7 +225,8 @@ answered_later tells request n (Some answer) before between after few one other 
     (does_of between after (IsSending request (ack_timeout n) (IsAcknowledgedFirst tells (Some answer))) (IsSending request (ack_timeout n) (EndsAnswered tells answer)) other
     (λ calls s. record { handled = s.handled; ends = inr s.ends; is = s.is }))
 
--- the request is acknowledged, and then its response is awaited.
+-- if a confirmable request is acknowledged, and then a separate response is awaited, the calls are
+-- those of its transmissions.
 pub awaited : (tells : Told) (request : List ℕ) (n seconds : ℕ) (buffer : List ℕ) (before between sent handled begun after : Calls) → n < most_sendings
     → MakesCalls before between (AreInVain (IsPassedOver tells false) request n) → seconds ≡ ack_timeout n → Adds between sent (Waits seconds ∷ Sends request ∷ [])
     → MakesCalls sent handled (λ calls. (false ≡ false) × IsAcknowledgedBy tells calls) → Adds handled begun (Waits separate_wait ∷ []) → (r : Result (Option ℕ) FetchFault)
@@ -237,14 +245,15 @@ in_vain_to_the_end tells request n before after five one =
     does_of before after (AreInVain passes request most_sendings) (IsAskedAgain tells request None)
     (subst (λ (x : ℕ). MakesCalls before after (AreInVain passes request x)) five one) (λ calls s. inl s)
 
--- a non-confirmable request is sent once, and its response awaited.
+-- if a non-confirmable request is sent, and then the response is awaited, these calls are a
+-- sending.
 pub once : (tells : Told) (request buffer : List ℕ) (before between after : Calls) → Adds before between (Waits non_wait ∷ Sends request ∷ []) → (r : Result (Option ℕ) FetchFault)
     → IfOk r (λ count. MakesCalls between after (EndsAwaited tells (received_bytes buffer count)))
     → IfOk r (λ count. MakesCalls before after (IsSending request non_wait (EndsAwaited tells (received_bytes buffer count))))
 once tells request buffer before between after adds (Ok count) one = sending request non_wait before between after (EndsAwaited tells (received_bytes buffer count)) adds one
 once tells request buffer before between after adds (Err fault) one = tt
 
--- the response is acknowledged.
+-- if a response arrives and is acknowledged, the calls are those of the request's transmission.
 pub transmitted : (confirmable : Bool) (tells : Told) (request answer : List ℕ) (before between after : Calls) → MakesCalls before between (IsTransmitted confirmable tells request (Some answer))
     → Adds between after (acknowledges answer) → MakesCalls before after (IsTransmission confirmable tells request (Some answer))
 transmitted confirmable tells request answer before between after one adds =
@@ -256,7 +265,7 @@ pub unanswered : (confirmable : Bool) (tells : Told) (request : List ℕ) (befor
 unanswered confirmable tells request before after one =
     does_of before after (IsTransmitted confirmable tells request None) (IsTransmission confirmable tells request None) one (λ asked a. record { asked = asked; is_asked = a; is = refl })
 
--- one request after others.
+-- if calls with `P` are made, and then calls with `Q`, calls with `P` and then `Q` are made.
 pub both : (before between after P Q : Calls) → MakesCalls before between P → MakesCalls between after Q → MakesCalls before after (AreBehind P Q)
 both before between after P Q one other =
     does_both before between after P Q (AreBehind P Q) one other (λ older newer a b. record { older = older; first = a; newer = newer; then = b; is = refl })

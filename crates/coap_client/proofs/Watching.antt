@@ -1,4 +1,4 @@
--- The messages that an observer shows, one after the other.
+-- The messages that an observer shows, from one message to the next.
 use Rattle.std.proofs.Common.{◌≡◌, inl, inr, ◌⊎◌, ℕ, ◌+◌, ◌≤◌, ◌&&◌, Bool, true, false, nat_eq, nat_le, max, List, [], ◌∷◌, slice_index_or, Ok, refl, sym, ap, subst, ◌∙◌, arith, if◌then◌else◌}
 use Rattle.std.specs.Prelude.{filter}
 use Rattle.std.specs.List.{All}
@@ -28,7 +28,7 @@ marked_apart k id at now is none =
       | inr late ↦ omega (arith, ltb-false now (k.at + window) late, same)
     ]
 
--- a message with a mark isn't shown again within the lifetime.
+-- if a message has a mark with time `at`, and isn't a duplicate at `now`, 247 s have passed.
 apart : (marks : List ShownMark) (id at now : ℕ) → has_mark marks id at ≡ true → is_shown_again marks id now ≡ false → at + window ≤ now
 apart [] id at now has none = absurd (cc has)
 apart (k ∷ marks) id at now has none =
@@ -38,7 +38,7 @@ apart (k ∷ marks) id at now has none =
       | inr there ↦ apart marks id at now there parts.1
     ]
 
--- marks that still count are retained.
+-- if a mark is less than 247 s old, it is retained.
 filtered : (marks : List ShownMark) (id at now : ℕ) → has_mark marks id at ≡ true → within_window now at ≡ true → has_mark (filter (λ k. within_window now k.at) marks) id at ≡ true
 filtered [] id at now has young = absurd (cc has)
 filtered (k ∷ marks) id at now has young =
@@ -66,7 +66,7 @@ new_mark marks id now =
     let rest = filter (λ k. within_window now k.at) marks in
     list_any-append (is_mark_of id now) rest (mark id now ∷ []) ∙ or_right (has_mark rest id now) (has_mark (mark id now ∷ []) id now) (or_left (is_mark_of id now (mark id now)) false (own_mark id now))
 
--- messages that were remembered are still remembered after one more mark.
+-- if a message was remembered, it is still remembered after one more mark.
 remembered_on : (marks : List ShownMark) (was other now : ℕ) (n : Note) → was ≤ now → IsRemembered marks was n → IsRemembered (marked marks other now) now n
 remembered_on marks was other now n later r own =
     elim (r own) as (λ _. (has_mark (marked marks other now) n.message.id n.at ≡ true) ⊎ (n.at + window ≤ now)) [
@@ -107,7 +107,8 @@ told_later told a b ta tb =
       | inr gt ↦ let is : a ≡ max a b = omega (arith, leb-false a b gt) in subst told is ta
     ]
 
--- the next message shown, and the watch after it if it is a state.
+-- the next message shown follows those shown before. If it is a state, the observation `new` is the
+-- one after it.
 pub record HasNext (went came : List ℕ → Type 0) (told : ℕ → Type 0) (token : List ℕ) (id : ℕ) (latest : Note) (older : List Note) (bytes : List ℕ) (new : Observation) (last : Bool) : Type 0 where
   pub note : Note
   pub read : reading_of bytes ≡ Ok note.message
@@ -115,7 +116,7 @@ pub record HasNext (went came : List ℕ → Type 0) (told : ℕ → Type 0) (to
   pub goes_on : last ≡ false → IsWatching went came told token id note (latest ∷ older) new
   pub none : last ≡ true → notice_of note.message ≡ Last
 
--- a notification that isn't `Older` follows the messages shown.
+-- if a notification isn't classified as `Older`, it can be shown next, after the messages shown.
 follows : (went came : List ℕ → Type 0) (told : ℕ → Type 0) (token : List ℕ) (id : ℕ) (latest : Note) (older : List Note) (w : Observation) (n : Note) (x : NotificationClass) →
     IsWatching went came told token id latest older w → IsOwnResponse token n.message → w.at ≤ n.at → notice_after w n.at n.message ≡ x → (x ≡ Older → ⊥) → IsNext token latest older n
 follows went came told token id latest older w n x watching own later is other =
@@ -144,16 +145,17 @@ last_is w n is =
     let fresh = not_older (is_shown_again w.marks.items n.message.id n.at) (by_age w n.at (notice_of n.message)) Last is other in
     (aged w n.at (notice_of n.message) Last fresh.1 other).0
 
--- a classification other than `Malformed`.
+-- if the class of a message isn't `Malformed`, the message can be shown.
 unmisfit : (shown : Bool) (y x : NotificationClass) → (if shown then y else Malformed) ≡ x → (x ≡ Malformed → ⊥) → shown ≡ true
 unmisfit true y x e other = refl
 unmisfit false y x e other = absurd (other (sym e))
 
--- a message that isn't classified as `Malformed` can be shown.
+-- if a message on its own isn't classified as `Malformed`, it can be shown.
 shown_as : (m : Message) (x : NotificationClass) → notice_of m ≡ x → (x ≡ Malformed → ⊥) → can_be_shown m ≡ true
 shown_as m x e other = unmisfit (can_be_shown m) (by_success m) x e other
 
--- the same for the next message shown.
+-- if the next message, classified with its age, is neither `Older` nor `Malformed`, it can be
+-- shown.
 next_shown_as : (w : Observation) (n : Note) (x : NotificationClass) → notice_after w n.at n.message ≡ x → (x ≡ Older → ⊥) → (x ≡ Malformed → ⊥) → can_be_shown n.message ≡ true
 next_shown_as w n x is other fits =
     let fresh = not_older (is_shown_again w.marks.items n.message.id n.at) (by_age w n.at (notice_of n.message)) x is other in
@@ -175,7 +177,7 @@ remembers marks was n ns later all =
     All-cons (IsRemembered (marked marks n.message.id n.at) n.at) n ns (λ _. inl (new_mark marks n.message.id n.at))
     (λ k d below. remembered_on marks was n.message.id n.at (slice_index_or ns k d) later (all k d below))
 
--- the next message shown.
+-- if an observation shows a next message, that message follows those shown before.
 pub next_note : (went came : List ℕ → Type 0) (told : ℕ → Type 0) (token : List ℕ) (id : ℕ) (latest : Note) (older : List Note) (bytes : List ℕ) (time : ℕ) (old new : Observation) (last : Bool) →
     IsWatching went came told token id latest older old → IsNextNote went came told token bytes time old new last → HasNext went came told token id latest older bytes new last
 next_note went came told token id latest older bytes time old new true watching x =
@@ -212,7 +214,7 @@ first_has : (own : Bool) (id at : ℕ) → own ≡ true → has_mark (if own the
 first_has true id at is = or_left (is_mark_of id at (mark id at)) false (own_mark id at)
 first_has false id at is = absurd (cc is)
 
--- the first message shown.
+-- if the response to the registration is a state, the observation after it has shown that message.
 pub first_note : (went came : List ℕ → Type 0) (told : ℕ → Type 0) (o : Observer) (bytes : List ℕ) (w : Observation) (m : Message) (at : ℕ) →
     IsRegistered went came o bytes → reading_of bytes ≡ Ok m → told at → notice_of m ≡ State w.sequence → w.at ≡ at → w.marks.items ≡ first_marks m at →
     IsWatching went came told o.token o.id (record { message = m; at = at }) [] w
@@ -239,7 +241,7 @@ first_note went came told o bytes w m at registered read time state same marks =
           (All-cons (IsRemembered (first_marks m at) at) n [] (λ own. inl (first_has (begins_exchange m.kind) m.id at own)) (All-nil (IsRemembered (first_marks m at) at))));
     }
 
--- the first message shown, if it is the last.
+-- if the response to the registration is the last response, it is the only message shown.
 pub only_note : (went came : List ℕ → Type 0) (told : ℕ → Type 0) (o : Observer) (bytes : List ℕ) (m : Message) (at : ℕ) →
     IsRegistered went came o bytes → reading_of bytes ≡ Ok m → told at → notice_of m ≡ Last → AreNotes went came told o.token o.id (record { message = m; at = at } ∷ [])
 only_note went came told o bytes m at registered read time last =

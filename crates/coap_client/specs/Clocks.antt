@@ -7,8 +7,8 @@ use Rattle.std.specs.declared.io.ErrorKind.TheVariants.{WouldBlock, TimedOut, In
 use Rattle.std.specs.declared.time.Duration.{Duration}
 use Rattle.std.specs.declared.time.Instant.{Instant}
 
--- the errors of a receive that don't end a wait: nothing arrived in time, or a signal interrupted
--- it.
+-- an error of this kind from a receive doesn't end a wait: nothing arrived in time, or a signal
+-- interrupted the receive.
 abbrev pub is_transient : ErrorKind → Bool
 is_transient WouldBlock = true
 is_transient TimedOut = true
@@ -28,13 +28,13 @@ pub record IsEndOfWait (is_read : Instant → Type 0) (seconds : ℕ) (until : I
   pub read_is : is_read now
   pub ends : FitsClock (instant_nanos now + seconds * 1_000_000_000) → instant_nanos until ≡ instant_nanos now + seconds * 1_000_000_000
 
--- `left` is the rest of a wait at a reading of the clock.
+-- `left` is the time from a reading of the clock to `until`, the end of a wait; 0 if it is over.
 pub record IsLeftOf (is_read : Instant → Type 0) (until : Instant) (left : Duration) : Type 0 where
   pub now : Instant
   pub read_is : is_read now
   pub left_is : as_nanos left ≡ instant_nanos until - instant_nanos now
 
--- the whole milliseconds from the start to a reading of the clock, and at most 2^64 - 1.
+-- `time` is the whole milliseconds from `start` to a reading of the clock, at most 2^64 - 1.
 pub record IsTimeSince (is_read : Instant → Type 0) (start : Instant) (time : ℕ) : Type 0 where
   pub now : Instant
   pub read_is : is_read now

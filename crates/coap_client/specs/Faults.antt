@@ -1,5 +1,5 @@
--- The errors of a client. Its request is rejected, no response arrives even to the last
--- transmission, a response doesn't match, or the socket or memory fails. In a list of calls, the
+-- The errors of a client. A request is rejected, no response to the last transmission arrives, a
+-- response doesn't match, the socket fails, or memory can't be allocated. In a list of calls, the
 -- newest is first.
 use Rattle.std.specs.Prelude.{◌≡◌, ◌≢◌, ℕ, ◌+◌, ◌≤◌, ◌%◌, ◌⊎◌, max, Bool, true, false, List, [], ◌∷◌, ◌++◌, length, Ok, None}
 use Rattle.coap_msg.specs.Reading.{reading_of}
@@ -29,11 +29,11 @@ use Rattle.coap_client.specs.Transmissions.{most_sendings, non_wait, separate_wa
 
 -- ---- a rejection (RFC 7252, section 4.2); `tells` classifies a datagram for the request
 
--- the first datagram that isn't skipped rejects the request.
+-- a wait ends on a datagram that rejects the request, the first that isn't skipped.
 abbrev pub IsRejectedBy : (List ℕ → ReplyClass → Type 0) → Bool → List PeerCall → Type 0
 IsRejectedBy tells awaited handled = (bytes : List ℕ) × tells bytes Rejected × EndsOn (IsPassedOver tells awaited) bytes handled
 
--- the request was acknowledged, and then rejected.
+-- the request was acknowledged, and rejected during the wait for the separate response.
 pub record IsRejectedLater (tells : List ℕ → ReplyClass → Type 0) (handled : List PeerCall) : Type 0 where
   pub first : List PeerCall
   pub acknowledged : IsAcknowledgedBy tells first
@@ -50,7 +50,7 @@ abbrev pub IsRejection : Bool → (List ℕ → ReplyClass → Type 0) → List 
 IsRejection true tells request calls = IsLastSending (IsPassedOver tells false) request (EndsRejected tells) calls
 IsRejection false tells request calls = IsSending request non_wait (IsRejectedBy tells true) calls
 
--- a request is transmitted, and has no response.
+-- a request is transmitted, and no response arrives.
 abbrev pub IsSilence : Bool → (List ℕ → ReplyClass → Type 0) → List ℕ → List PeerCall → Type 0
 IsSilence confirmable tells request calls = IsTransmission confirmable tells request None calls
 
@@ -62,12 +62,13 @@ IsOfPeer is_error rejected other = ⊥
 
 -- ---- a fetch; `Makes` says that calls with a property are made
 
--- a number of requests, greater than the number of blocks of a body and a response.
+-- the maximum number of requests of a fetch. It is greater than the number of blocks that a body
+-- and a response can have.
 abbrev pub most_requests : ℕ
 most_requests = 4194304
 
--- the outstanding request of the fetch ends as `Ends` says, after the requests that have these
--- replies.
+-- the calls for these replies were made, and then those for the outstanding request, which ended as
+-- `Ends` says.
 pub record EndsOnRequest (e : ClientRequest) (first : ℕ) (known : List ℕ) (Ends : Bool → (List ℕ → ReplyClass → Type 0) → List ℕ → List PeerCall → Type 0) (replies : List Message)
     (calls : List PeerCall) : Type 0 where
   pub older : List PeerCall
@@ -82,15 +83,16 @@ pub record EndsOnRequest (e : ClientRequest) (first : ℕ) (known : List ℕ) (E
   pub ends : Ends e.confirmable (Tells e.confirmable id (taken_ids known replies)) (message_bytes (part_request e part id)) last
   pub is : calls ≡ last ++ older
 
--- replies arrived to requests whose message IDs count up from this one, and the calls for these
--- replies were made.
+-- replies arrived to requests whose message IDs count up from `first`. `Called` holds for these
+-- replies.
 pub record HasReplies (went came : List ℕ → Type 0) (e : ClientRequest) (first : ℕ) (known : List ℕ) (Called : List Message → Type 0) : Type 0 where
   pub replies : List Message
   pub are : AreReplies went came e first known replies
   pub called : Called replies
 
--- the cause of an error: the outstanding request has no response or is rejected; a response doesn't
--- match; the response changed; or there was no memory for a request or a response.
+-- the cause of an error: no response to the outstanding request arrived; the request was rejected;
+-- a response doesn't match; the maximum number of requests was made; the response changed; or
+-- memory for a request or a response couldn't be allocated.
 abbrev pub StopsBy : (List ℕ → Type 0) → (List ℕ → Type 0) → ((List PeerCall → Type 0) → Type 0) → ClientRequest → ℕ → List ℕ → FetchFault → Type 0
 StopsBy went came Makes e first known fault.Silence = HasReplies went came e first known (λ replies. Makes (EndsOnRequest e first known IsSilence replies))
 StopsBy went came Makes e first known fault.Rejected = HasReplies went came e first known (λ replies. Makes (EndsOnRequest e first known IsRejection replies))
@@ -107,8 +109,8 @@ IsFetchOutcomeFault went came is_error Makes e first known (fault.Socket error) 
 IsFetchOutcomeFault went came is_error Makes e first known fault.Changed = ⊥
 IsFetchOutcomeFault went came is_error Makes e first known other = StopsBy went came Makes e first known other
 
--- the response to a GET changed, the fetch started again with requests of later message IDs, and
--- then stopped with this error.
+-- the response to a GET changed during the fetch. The fetch started again, with the next message
+-- IDs, and then stopped with this error.
 pub record StopsAgain (went came : List ℕ → Type 0) (Makes : (List PeerCall → Type 0) → Type 0) (e : ClientRequest) (first : ℕ) (fault : FetchFault) : Type 0 where
   pub outdated : List Message
   pub are : AreReplies went came e first [] outdated
@@ -118,8 +120,8 @@ pub record StopsAgain (went came : List ℕ → Type 0) (Makes : (List PeerCall 
   pub next_is : next ≡ (first + length outdated) % 65536
   pub stops : StopsBy went came (λ Calls. Makes (AreBehind (ArePartRequests e first [] outdated) Calls)) e next (taken_ids [] outdated) fault
 
--- the errors of a fetch: an error of the peer, or an error of its first or second attempt. A
--- changed response is an error if it changed twice, or if the method isn't GET.
+-- the errors of a fetch: an error of the peer, or of the fetch's first or second attempt. A changed
+-- response is an error only if it changed in both attempts, or if the method isn't GET.
 abbrev pub IsFetchFault : (List ℕ → Type 0) → (List ℕ → Type 0) → (PeerError → Type 0) → ((List PeerCall → Type 0) → Type 0) → ClientRequest → ℕ → FetchFault → Type 0
 IsFetchFault went came is_error Makes e first (fault.Socket error) = is_error error
 IsFetchFault went came is_error Makes e first fault.Changed = ((e.method ≢ Get) × StopsBy went came Makes e first [] fault.Changed) ⊎ StopsAgain went came Makes e first fault.Changed
@@ -137,7 +139,7 @@ leaving_id o = (o.id + 1) % 65536
 abbrev pub deregistration_of : Observer → List ℕ
 deregistration_of o = message_bytes (observe_request o.client_request.now Deregister o.token (leaving_id o))
 
--- the errors of a registration; if there was no memory for it, no call was made.
+-- the errors of a registration. If memory for the request couldn't be allocated, no call was made.
 abbrev pub IsRegistrationFault : (PeerError → Type 0) → ((List PeerCall → Type 0) → Type 0) → Observer → FetchFault → Type 0
 IsRegistrationFault is_error Makes o fault.Silence = Makes (IsSilence true (TellsObserver o.token o.id) (registration_of o))
 IsRegistrationFault is_error Makes o fault.Rejected = Makes (IsRejection true (TellsObserver o.token o.id) (registration_of o))
@@ -145,13 +147,13 @@ IsRegistrationFault is_error Makes o (fault.Memory error) = Makes (λ calls. cal
 IsRegistrationFault is_error Makes o (fault.Socket error) = is_error error
 IsRegistrationFault is_error Makes o other = ⊥
 
--- a Reset of the deregistration with this message ID arrived.
+-- the wait ended on a Reset of the deregistration with this message ID.
 pub record IsRejectedLeaving (token : List ℕ) (id : ℕ) (handled : List PeerCall) : Type 0 where
   pub bytes : List ℕ
   pub rejects : IsReadAs bytes (IsReset id)
   pub ends : EndsOn (IsPassedOverLeaving token id) bytes handled
 
--- the errors of a deregistration request: it was sent by the whole schedule without an
+-- the errors of a deregistration request: the request was sent five times without an
 -- acknowledgement, it was rejected, or the peer returned an error.
 abbrev pub IsLeavingFault : (PeerError → Type 0) → ((List PeerCall → Type 0) → Type 0) → Observer → FetchFault → Type 0
 IsLeavingFault is_error Makes o fault.Silence = Makes (AreInVain (IsPassedOverLeaving o.token (leaving_id o)) (deregistration_of o) most_sendings)
@@ -160,13 +162,14 @@ IsLeavingFault is_error Makes o fault.Rejected =
 IsLeavingFault is_error Makes o (fault.Socket error) = is_error error
 IsLeavingFault is_error Makes o other = ⊥
 
--- the errors of a deregistration: those of its request; or there was no memory for the request, and
--- no call was made.
+-- the errors of a deregistration: those of the request, or `Memory` if memory for the request
+-- couldn't be allocated; then no call was made.
 abbrev pub IsDeregistrationFault : (PeerError → Type 0) → ((List PeerCall → Type 0) → Type 0) → Observer → FetchFault → Type 0
 IsDeregistrationFault is_error Makes o (fault.Memory error) = Makes (λ calls. calls ≡ [])
 IsDeregistrationFault is_error Makes o other = IsLeavingFault is_error Makes o other
 
--- the last notification received has this classification, at the time that the clock then returned.
+-- the wait ended on a notification whose classification has the property `P`, at the time that the
+-- clock then returned.
 pub record EndsOnNotification (told : ℕ → Type 0) (token : List ℕ) (w : Observation) (P : NotificationClass → Type 0) (calls : List PeerCall) : Type 0 where
   pub bytes : List ℕ
   pub message : Message
@@ -181,8 +184,8 @@ abbrev pub IsNewState : NotificationClass → Type 0
 IsNewState (notice.State sequence) = Unit {0}
 IsNewState other = ⊥
 
--- a response that has the token and can't be shown arrived. It is a separate response, or is
--- piggybacked on the acknowledgement of the registration, which has this message ID.
+-- a response arrived that has the token and can't be shown. It is a separate response, or is
+-- piggybacked on the acknowledgement of the request with this message ID.
 pub record UnfitCame (came : List ℕ → Type 0) (token : List ℕ) (id : ℕ) : Type 0 where
   pub bytes : List ℕ
   pub message : Message
@@ -191,8 +194,8 @@ pub record UnfitCame (came : List ℕ → Type 0) (token : List ℕ) (id : ℕ) 
   pub own : IsResponseWith token id message
   pub unfit : can_be_shown message ≡ false
 
--- the errors of the wait for the next notification: a notification that can't be shown, a newer
--- notification for which there was no memory, or an error of the peer.
+-- the errors of the wait for the next notification: a notification that can't be shown, a new state
+-- for which memory couldn't be allocated, or an error of the peer.
 abbrev pub IsNotificationFault : (List ℕ → Type 0) → (PeerError → Type 0) → ((List PeerCall → Type 0) → Type 0) → (ℕ → Type 0) → List ℕ → Observation → FetchFault → Type 0
 IsNotificationFault came is_error Makes told token w fault.Part =
     Makes (EndsOnNotification told token w (λ n. n ≡ notice.Malformed)) × ((id : ℕ) → UnfitCame came token id)

@@ -1,5 +1,5 @@
--- A fetch as a list of replies, newest first. Each is a reply to the request that results from the
--- earlier replies.
+-- A fetch as a list of replies, the newest first. Each reply answers the request that results from
+-- the replies before it.
 use Rattle.std.specs.Prelude.{◌≡◌, ℕ, ◌+◌, ◌%◌, ◌⊎◌, if◌then◌else◌, List, [], ◌∷◌, ◌++◌, length, Some, Ok}
 use Rattle.coap_msg.specs.Reading.{reading_of}
 use Rattle.coap_msg.specs.Wire.{Message, message_bytes}
@@ -30,8 +30,9 @@ pub data State : Type 0 where
   Outdated : State
   Lost : State
 
--- a reply adds a block of the response if a further block is requested; a reply to a block of the
--- request's body adds none.
+-- the state after a reply that a further request follows. If that request is for a further block of
+-- the response, the reply's payload is added to the response. If it has a block of the request's
+-- body, nothing is added.
 abbrev pub going_on : Part → List ℕ → List ℕ → Message → State
 going_on (Answer n szx) body etag m = Out (Answer n szx) (body ++ m.payload) (etag_of m)
 going_on other body etag m = Out other body etag
@@ -47,12 +48,12 @@ abbrev pub after_reply : ℕ → Message → State → State
 after_reply count m (Out part body etag) = moved_on (next_of count part etag m) body etag m
 after_reply count m other = other
 
--- the state after these replies.
+-- the state of the fetch after these replies.
 abbrev pub state_after : ClientRequest → List Message → State
 state_after e [] = Out (first_part e.method (length e.payload.now)) [] []
 state_after e (m ∷ ms) = after_reply (length e.payload.now) m (state_after e ms)
 
--- these message IDs, followed by those of the replies that were separate responses, in order.
+-- these message IDs, followed by that of the reply if it is a separate response.
 abbrev pub with_taken_id : Message → List ℕ → List ℕ
 with_taken_id m ids = if begins_exchange m.kind then ids ++ m.id ∷ [] else ids
 
@@ -70,15 +71,16 @@ abbrev pub AnswersInState : (List ℕ → Type 0) → (List ℕ → Type 0) → 
 AnswersInState went came e id earlier (Out part body etag) m = IsAnswerToPart went came e id earlier part m
 AnswersInState went came e id earlier other m = ⊥
 
--- each message is a reply to the request before it. The message IDs of the requests count up from
--- `first`; the `known` IDs are those of responses to other requests.
+-- each message is a reply to the request that results from the replies before it. The message IDs
+-- of the requests count up from `first`. The `known` IDs are those of responses to earlier
+-- requests.
 abbrev pub AreReplies : (List ℕ → Type 0) → (List ℕ → Type 0) → ClientRequest → ℕ → List ℕ → List Message → Type 0
 AreReplies went came e first known [] = Unit {0}
 AreReplies went came e first known (m ∷ ms) =
     AreReplies went came e first known ms × AnswersInState went came e ((first + length ms) % 65536) (taken_ids known ms) (state_after e ms) m
 
--- the request of the outstanding part, with this message ID, is transmitted after the earlier
--- requests, and its response encodes the message.
+-- after the `Before` calls, the request of the outstanding part is transmitted with this message
+-- ID. The response encodes the message `m`.
 pub record IsNextRequest (Before : List PeerCall → Type 0) (e : ClientRequest) (id : ℕ) (earlier : List ℕ) (state : State) (m : Message) (calls : List PeerCall) : Type 0 where
   pub older : List PeerCall
   pub before : Before older
@@ -99,16 +101,16 @@ ArePartRequests e first known [] calls = calls ≡ []
 ArePartRequests e first known (m ∷ ms) calls =
     IsNextRequest (ArePartRequests e first known ms) e ((first + length ms) % 65536) (taken_ids known ms) (state_after e ms) m calls
 
--- replies to requests whose message IDs count up from this one result in this state, with these
--- calls.
+-- replies to requests whose message IDs count up from `first` result in this state, and `Called`
+-- holds for these replies.
 pub record RepliesLeadTo (went came : List ℕ → Type 0) (e : ClientRequest) (first : ℕ) (known : List ℕ) (Called : List Message → Type 0) (state : State) : Type 0 where
   pub replies : List Message
   pub are : AreReplies went came e first known replies
   pub leads : state_after e replies ≡ state
   pub called : Called replies
 
--- replies to a GET ended in `Outdated`. The replies after these, to requests of later message IDs,
--- result in this state.
+-- the replies to a GET's requests resulted in `Outdated`. The replies to the requests after these,
+-- with the next message IDs, result in this state.
 pub record RepliesLeadToAgain (went came : List ℕ → Type 0) (before after : List PeerCall → Type 0) (e : ClientRequest) (first : ℕ) (state : State) : Type 0 where
   pub outdated : List Message
   pub are : AreReplies went came e first [] outdated
@@ -119,15 +121,16 @@ pub record RepliesLeadToAgain (went came : List ℕ → Type 0) (before after : 
   pub again : RepliesLeadTo went came e next (taken_ids [] outdated)
       (λ replies. MakesCalls before after (AreBehind (ArePartRequests e first [] outdated) (ArePartRequests e next (taken_ids [] outdated) replies))) state
 
--- the fetch ends with this code and body, in its first attempt or its second, and no other calls
--- are made.
+-- the fetch ends with this code and body in its first or second attempt. No calls other
+-- than those of the attempts are made.
 abbrev pub IsFetched : (List ℕ → Type 0) → (List ℕ → Type 0) → (List PeerCall → Type 0) → (List PeerCall → Type 0) → ClientRequest → ℕ → ℕ → List ℕ → Type 0
 IsFetched went came before after e first code body =
     RepliesLeadTo went came e first [] (λ replies. MakesCalls before after (ArePartRequests e first [] replies)) (Ended code body)
     ⊎ RepliesLeadToAgain went came before after e first (Ended code body)
 
--- replies have resulted in this state, so that the next request has this message ID, and `earlier`
--- are the IDs of the separate responses. The calls are those for these replies.
+-- the replies so far have resulted in this state. The next request has message ID `id`, and
+-- `earlier` are the IDs of `known` and of the separate responses. The calls are those for these
+-- replies.
 pub record IsFetching (went came : List ℕ → Type 0) (before now : List PeerCall → Type 0) (e : ClientRequest) (first : ℕ) (known : List ℕ) (id : ℕ) (earlier : List ℕ) (state : State) : Type 0 where
   pub replies : List Message
   pub are : AreReplies went came e first known replies
@@ -136,7 +139,8 @@ pub record IsFetching (went came : List ℕ → Type 0) (before now : List PeerC
   pub earlier_is : earlier ≡ taken_ids known replies
   pub called : MakesCalls before now (ArePartRequests e first known replies)
 
--- the result of an attempt.
+-- the outcome of an attempt, with the calls of the attempt: the fetch ended, the response changed,
+-- or a response didn't match the request.
 abbrev pub IsFetchOutcome : (List ℕ → Type 0) → (List ℕ → Type 0) → (List PeerCall → Type 0) → (List PeerCall → Type 0) → ClientRequest → ℕ → List ℕ → FetchOutcome → Type 0
 IsFetchOutcome went came before after e first known (fetch_outcome.Ended f) =
     RepliesLeadTo went came e first known (λ replies. MakesCalls before after (ArePartRequests e first known replies)) (Ended f.code.byte f.body.items)
@@ -144,8 +148,8 @@ IsFetchOutcome went came before after e first known (fetch_outcome.Outdated id e
 IsFetchOutcome went came before after e first known fetch_outcome.Malformed =
     RepliesLeadTo went came e first known (λ replies. MakesCalls before after (ArePartRequests e first known replies)) Lost
 
--- the fetch after a response: the next request is outstanding; the fetch has ended; the response
--- changed; or the response doesn't match.
+-- the state of the fetch after a response, by the step: the next request is outstanding; the fetch
+-- has ended; the response changed; or the response doesn't match.
 abbrev pub IsNow : State → FetchState → Step → Type 0
 IsNow state c step.GoesOn = state ≡ Out c.part c.body.items c.etag.items
 IsNow state c (step.Ended code) = state ≡ Ended code.byte c.body.items

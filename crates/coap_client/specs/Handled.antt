@@ -11,7 +11,7 @@ use Rattle.coap_client.specs.declared.transmission.SentRequest.{SentRequest}
 use Rattle.coap_client.specs.Replies.{IsEmptyAcknowledgement, IsReply, IsReset, IsSeparate, is_taken}
 use Rattle.coap_client.specs.Requests.{acknowledgement}
 
--- an empty acknowledgement arrived.
+-- an empty acknowledgement of the request with this message ID arrived.
 pub record CameAcknowledgement (came : List ℕ → Type 0) (id : ℕ) : Type 0 where
   pub bytes : List ℕ
   pub message : Message
@@ -19,19 +19,19 @@ pub record CameAcknowledgement (came : List ℕ → Type 0) (id : ℕ) : Type 0 
   pub read_is : reading_of bytes ≡ Ok message
   pub is : IsEmptyAcknowledgement id message
 
--- the message is a separate response, with none of the `earlier` IDs; if the request is
--- confirmable, the request has been acknowledged.
+-- the message is a separate response, and its ID is none of the `earlier` IDs. If the request is
+-- confirmable, an acknowledgement of the request arrived.
 pub record IsSeparateTo (came : List ℕ → Type 0) (confirmable : Bool) (id : ℕ) (earlier : List ℕ) (m : Message) : Type 0 where
   pub own : IsSeparate m
   pub new : is_taken earlier m.id ≡ false
   pub awaited : confirmable ≡ true → CameAcknowledgement came id
 
--- the message is a piggybacked response; only a confirmable request has one.
+-- the message is a piggybacked response to the request, which is confirmable.
 pub record IsPiggybacked (confirmable : Bool) (id : ℕ) (m : Message) : Type 0 where
   pub own : IsReply id m
   pub asked : confirmable ≡ true
 
--- the message is a response to the request with this message ID; the separate responses so far have
+-- the message is a response to the request with this message ID. The separate responses so far had
 -- the `earlier` IDs.
 abbrev pub IsResponseFor : (List ℕ → Type 0) → Bool → ℕ → List ℕ → Message → Type 0
 IsResponseFor came confirmable id earlier m = IsPiggybacked confirmable id m ⊎ IsSeparateTo came confirmable id earlier m
@@ -43,13 +43,14 @@ pub record IsResponseTo (went came : List ℕ → Type 0) (confirmable : Bool) (
   pub read_is : reading_of bytes ≡ Ok m
   pub responds : IsResponseFor came confirmable id earlier m
 
--- the same, and the message was acknowledged if the message is confirmable (RFC 7252, section 4.2).
+-- as in `IsResponseTo`, and the message was acknowledged if it is confirmable (RFC 7252, section
+-- 4.2).
 pub record IsTakenResponse (went came : List ℕ → Type 0) (confirmable : Bool) (id : ℕ) (earlier request bytes : List ℕ) (m : Message) : Type 0 where
   pub asked : IsResponseTo went came confirmable id earlier request bytes m
   pub acknowledged : m.kind ≡ Confirmable → went (message_bytes (acknowledgement m.id))
 
--- the bytes encode a response to the request. In the second record, that response was acknowledged
--- if it is confirmable.
+-- the bytes encode a response to the request. `HasTakenResponse` also says that the response was
+-- acknowledged if it is confirmable.
 pub record HasResponse (went came : List ℕ → Type 0) (r : SentRequest) (bytes : List ℕ) : Type 0 where
   pub message : Message
   pub is : IsResponseTo went came r.confirmable r.id r.earlier.now r.datagram.now.items bytes message
@@ -58,7 +59,7 @@ pub record HasTakenResponse (went came : List ℕ → Type 0) (r : SentRequest) 
   pub message : Message
   pub is : IsTakenResponse went came r.confirmable r.id r.earlier.now r.datagram.now.items bytes message
 
--- the message is a separate response that was received before, or wasn't.
+-- the message is a separate response; `before` says whether its ID is one of the `earlier` IDs.
 pub record IsSeparateAmong (earlier : List ℕ) (before : Bool) (m : Message) : Type 0 where
   pub own : IsSeparate m
   pub before_is : is_taken earlier m.id ≡ before
@@ -71,9 +72,9 @@ pub record IsOther (confirmable : Bool) (id : ℕ) (m : Message) : Type 0 where
   pub rejected : IsReset id m → ⊥
   pub separate : IsSeparate m → ⊥
 
--- the classification of a message. The request with this message ID has a response, an
--- acknowledgement or a rejection; or the message is a separate response, new or received before; or
--- it is none of these.
+-- the classification of a message for the request with this message ID. The message is a
+-- piggybacked response, an empty acknowledgement or a rejection; or a separate response, new or
+-- received before; or none of these.
 abbrev pub IsHandledAs : Bool → ℕ → List ℕ → Message → ReplyClass → Type 0
 IsHandledAs confirmable id earlier m Reply = IsPiggybacked confirmable id m
 IsHandledAs confirmable id earlier m Separate = IsSeparateAmong earlier false m
@@ -82,7 +83,7 @@ IsHandledAs confirmable id earlier m Acknowledged = IsEmptyAcknowledgement id m
 IsHandledAs confirmable id earlier m Rejected = IsReset id m
 IsHandledAs confirmable id earlier m Other = IsOther confirmable id m
 
--- the datagram encodes a message with this property.
+-- the datagram encodes a message with the property `P`.
 pub record IsReadAs (bytes : List ℕ) (P : Message → Type 0) : Type 0 where
   pub message : Message
   pub read_is : reading_of bytes ≡ Ok message
@@ -97,7 +98,8 @@ Tells confirmable id earlier bytes handled = IsReadAs bytes (λ m. IsHandledAs c
 abbrev pub TellsSent : SentRequest → List ℕ → ReplyClass → Type 0
 TellsSent r bytes handled = Tells r.confirmable r.id r.earlier.now bytes handled
 
--- a response that was received before is acknowledged if it is confirmable.
+-- if the datagram is a response that was received before and is confirmable, an acknowledgement was
+-- sent.
 abbrev pub AcknowledgesRepeat : (List ℕ → Type 0) → List ℕ → ReplyClass → Type 0
 AcknowledgesRepeat went bytes Repeat = (m : Message) → reading_of bytes ≡ Ok m → m.kind ≡ Confirmable → went (message_bytes (acknowledgement m.id))
 AcknowledgesRepeat went bytes _ = Unit {0}
@@ -113,7 +115,8 @@ pub record IsAwaitedAnswer (came : List ℕ → Type 0) (r : SentRequest) (await
   pub read_is : reading_of bytes ≡ Ok message
   pub answers : IsAwaitedReply r awaited message
 
--- the outcome of a wait.
+-- what the outcome of a wait says. `Answer`: a response is at the start of `buffer`.
+-- `Acknowledged`: an empty acknowledgement arrived. `Nothing` says nothing.
 abbrev pub Listens : (List ℕ → Type 0) → SentRequest → Bool → List ℕ → WaitOutcome → Type 0
 Listens came r awaited buffer (listened.Answer count) = (count ≤ length buffer) × IsAwaitedAnswer came r awaited (take count buffer)
 Listens came r awaited buffer listened.Acknowledged = CameAcknowledgement came r.id

@@ -7,30 +7,31 @@ use Rattle.coap_opts.specs.Values.{block_size, place_in}
 use Rattle.coap_client.specs.declared.client_request.ClientRequest.{ClientRequest}
 use Rattle.coap_client.specs.Replies.{block1_of, block2_of, etag_of, is_success}
 
--- the payloads of these messages, newest first, joined in order of arrival.
+-- the payloads of these messages, joined in order of arrival; the list has the newest message
+-- first.
 abbrev pub payloads : List Message → List ℕ
 payloads [] = []
 payloads (m ∷ ms) = payloads ms ++ m.payload
 
--- Block2 names the block that begins at this offset (RFC 7959, section 2.2); without Block2 the
--- offset is 0.
+-- the block that Block2 names begins at this offset in bytes (RFC 7959, section 2.2). Without
+-- Block2 the offset is 0.
 abbrev pub BeginsAt : ℕ → Option (List ℕ) → Type 0
 BeginsAt offset None = offset ≡ 0
 BeginsAt offset (Some value) = block_size (place_in value).szx * (place_in value).number ≡ offset
 
--- each block begins at the end of those before it.
+-- each of these blocks begins at the end of the blocks before it.
 abbrev pub AreBlocksInOrder : List Message → Type 0
 AreBlocksInOrder [] = Unit {0}
 AreBlocksInOrder (m ∷ ms) = AreBlocksInOrder ms × BeginsAt (length (payloads ms)) (block2_of m)
 
--- no block follows this one.
+-- by its Block2, or without Block2, no block follows this one.
 abbrev pub IsLastBlock : Option (List ℕ) → Type 0
 IsLastBlock None = Unit {0}
 IsLastBlock (Some value) = (place_in value).more ≡ false
 
--- the response consists of the payloads of this reply and of the latest replies before it, joined.
--- No block follows the last, each block begins at the end of those before it, and all have one
--- ETag, or none (RFC 7959, section 2.4).
+-- the response consists of the payloads of the reply `m` and of the latest replies before it,
+-- joined. No block follows the last one, and each block begins at the end of the blocks before it.
+-- Either all of these replies have the same ETag, or none has one (RFC 7959, section 2.4).
 pub record IsOneAnswer (answer : List ℕ) (m : Message) (replies : List Message) : Type 0 where
   pub older : List Message
   pub before : List Message
@@ -40,18 +41,19 @@ pub record IsOneAnswer (answer : List ℕ) (m : Message) (replies : List Message
   pub in_order : AreBlocksInOrder (m ∷ older)
   pub version : All (λ x. etag_of x ≡ etag_of m) older
 
--- requests that were sent have the whole body, in order.
+-- the payloads of requests that were sent, joined in order, are the whole body.
 pub record WentWhole (went : List ℕ → Type 0) (body : List ℕ) : Type 0 where
   pub requests : List Message
   pub each : All (λ r. went (message_bytes r)) requests
   pub joined : payloads requests ≡ body
 
--- if the fetch ended with a success, requests that were sent have the whole body.
+-- if the fetch ended with a success, requests that were sent have the whole body as their payloads.
 abbrev pub SendsWhole : (List ℕ → Type 0) → ClientRequest → ℕ → Type 0
 SendsWhole went e code = is_success code ≡ true → WentWhole went e.payload.now
 
--- a success says that the server took block n, after which more follow: by a Block1 that names the
--- block and no greater size, or by 2.31 without Block1 (RFC 7959, sections 2.3 and 2.9.1).
+-- the message is a success, and says that the server took block n, which others follow. It says so
+-- by a Block1 with the number n and no greater size, or by 2.31 without Block1 (RFC 7959, sections
+-- 2.3 and 2.9.1).
 abbrev pub NamesTaken : ℕ → ℕ → Message → Option (List ℕ) → Type 0
 NamesTaken n szx m None = m.code ≡ registered.CONTINUE.byte
 NamesTaken n szx m (Some value) = ((place_in value).number ≡ n) × ((place_in value).szx ≤ szx)

@@ -1,5 +1,5 @@
--- The notifications that an observer shows: each was received, each state is newer than the one
--- before it, and none is shown twice.
+-- The notifications that an observer shows. Each was received, each state is newer than the state
+-- before, and none is shown twice.
 use Rattle.std.specs.Prelude.{◌≡◌, ℕ, ◌+◌, ◌≤◌, ◌%◌, ◌&&◌, ◌⊎◌, nat_eq, Bool, true, false, max, List, [], ◌∷◌, length, take, Option, Some, None, Ok}
 use Rattle.std.specs.List.{All, list_any}
 use Rattle.coap_msg.specs.Reading.{reading_of}
@@ -29,13 +29,13 @@ use Rattle.coap_client.specs.Requests.{acknowledgement}
 abbrev pub IsResponseWith : List ℕ → ℕ → Message → Type 0
 IsResponseWith token id m = IsReplyWith token id m ⊎ IsOwnResponse token m
 
--- a response to the request with this message ID and its own token, or a notification, which has
--- the observer's token. The registration's own token is the observer's token.
+-- a response to the request with this message ID and the token `own`, or a notification with the
+-- observer's token `token`. The registration has the observer's token as its own.
 abbrev pub IsAwaitedBy : List ℕ → List ℕ → ℕ → Message → Type 0
 IsAwaitedBy token own id m = IsResponseWith own id m ⊎ IsOwnResponse token m
 
--- the message is neither such a response nor a notification, and neither acknowledges nor rejects
--- the request.
+-- the message is neither a response to the request nor a notification, and neither acknowledges nor
+-- rejects the request.
 pub record IsNoneOf (token own : List ℕ) (id : ℕ) (m : Message) : Type 0 where
   pub reply : IsReplyWith own id m → ⊥
   pub separate : IsOwnResponse own m → ⊥
@@ -43,8 +43,9 @@ pub record IsNoneOf (token own : List ℕ) (id : ℕ) (m : Message) : Type 0 whe
   pub acknowledged : IsEmptyAcknowledgement id m → ⊥
   pub rejected : IsReset id m → ⊥
 
--- the classification of a message for an observer whose request with this message ID and own token
--- is outstanding; a datagram that encodes no message is `Other`.
+-- the classification of a message for an observer with an outstanding request, which has this
+-- message ID and the token `own`. For `TellsRequest`, a datagram that encodes no message is
+-- `Other`.
 abbrev pub IsToldAs : List ℕ → List ℕ → ℕ → Message → ReplyClass → Type 0
 IsToldAs token own id m Reply = IsAwaitedBy token own id m
 IsToldAs token own id m Acknowledged = IsEmptyAcknowledgement id m
@@ -56,46 +57,47 @@ abbrev pub TellsRequest : List ℕ → List ℕ → ℕ → List ℕ → ReplyCl
 TellsRequest token own id bytes Other = (m : Message) → reading_of bytes ≡ Ok m → IsNoneOf token own id m
 TellsRequest token own id bytes handled = IsReadAs bytes (λ m. IsToldAs token own id m handled)
 
--- the classification while the registration is outstanding.
+-- the classification of a datagram while the registration is outstanding.
 abbrev pub TellsObserver : List ℕ → ℕ → List ℕ → ReplyClass → Type 0
 TellsObserver token id = TellsRequest token token id
 
--- a datagram arrived that encodes a message with this property.
+-- the datagram arrived, and encodes a message with the property `P`.
 pub record HasArrived (came : List ℕ → Type 0) (P : Message → Type 0) (bytes : List ℕ) : Type 0 where
   pub message : Message
   pub came_is : came bytes
   pub read_is : reading_of bytes ≡ Ok message
   pub holds : P message
 
--- the outcome of the wait for the response.
+-- what the outcome of a wait says. `Answer`: a response or a notification is at the start of
+-- `buffer`. `Acknowledged`: an empty acknowledgement arrived. `Nothing` says nothing.
 abbrev pub HandlesAnswer : (List ℕ → Type 0) → List ℕ → List ℕ → ℕ → List ℕ → WaitOutcome → Type 0
 HandlesAnswer came token own id buffer (listened.Answer count) = (count ≤ length buffer) × HasArrived came (IsAwaitedBy token own id) (take count buffer)
 HandlesAnswer came token own id buffer listened.Acknowledged = CameAcknowledgement came id
 HandlesAnswer came token own id buffer listened.Nothing = Unit {0}
 
--- ---- the messages that it shows
+-- ---- the messages that an observer shows
 
--- a message that was shown, and the time in milliseconds.
+-- a message that was shown, and the time of its arrival in milliseconds.
 pub record Note : Type 0 where
   pub message : Message
   pub at : ℕ
 
--- a datagram arrived that encodes the message, and the message was acknowledged if it is
--- confirmable (RFC 7252, section 4.2).
+-- the datagram arrived and encodes the message, which was acknowledged if it is confirmable (RFC
+-- 7252, section 4.2).
 pub record IsHandledFrom (went came : List ℕ → Type 0) (bytes : List ℕ) (m : Message) : Type 0 where
   pub came_is : came bytes
   pub read_is : reading_of bytes ≡ Ok m
   pub acknowledged : m.kind ≡ Confirmable → went (message_bytes (acknowledgement m.id))
 
--- the registration was sent, and this is the response to it.
+-- the registration was sent, and `bytes` are a response to the registration.
 pub record IsRegistered (went came : List ℕ → Type 0) (o : Observer) (bytes : List ℕ) : Type 0 where
   pub asked : went (message_bytes (observe_request o.client_request.now Register o.token o.id))
   pub message : Message
   pub handled : IsHandledFrom went came bytes message
   pub own : IsResponseWith o.token o.id message
 
--- the message is a response with the token of the registration, which had this message ID. It can
--- be shown, and its time is one that the clock returned.
+-- the message is a response with this token, separate or to the request with this message ID. It
+-- can be shown, and the note's time is one that the clock returned.
 pub record IsNoteOf (went came : List ℕ → Type 0) (told : ℕ → Type 0) (token : List ℕ) (id : ℕ) (n : Note) : Type 0 where
   pub bytes : List ℕ
   pub handled : IsHandledFrom went came bytes n.message
@@ -103,7 +105,8 @@ pub record IsNoteOf (went came : List ℕ → Type 0) (told : ℕ → Type 0) (t
   pub fit : can_be_shown n.message ≡ true
   pub time : told n.at
 
--- a state is newer than one of this sequence number and time (RFC 7641, section 3.4).
+-- if the notification at `now` is a state, it is newer than the state with this sequence number and
+-- time (RFC 7641, section 3.4).
 abbrev pub IsNewerThan : ℕ → ℕ → NotificationClass → ℕ → Type 0
 IsNewerThan sequence at (State v) now = is_newer sequence at v now ≡ true
 IsNewerThan sequence at other now = Unit {0}
@@ -121,8 +124,8 @@ pub record IsAfter (earlier later : Note) : Type 0 where
 abbrev pub IsApart : Note → Note → Type 0
 IsApart later earlier = begins_exchange earlier.message.kind ≡ true → earlier.message.id ≡ later.message.id → earlier.at + window ≤ later.at
 
--- each message shown after the first is a notification, follows the one before it, and isn't a
--- duplicate of any earlier message.
+-- a message shown after others is a notification and follows the message before it as `IsAfter`
+-- says. It isn't a duplicate of any earlier message.
 pub record IsNext (token : List ℕ) (before : Note) (older : List Note) (n : Note) : Type 0 where
   pub own : IsOwnResponse token n.message
   pub after : IsAfter before n
@@ -132,7 +135,7 @@ abbrev pub FollowsNotes : List ℕ → List Note → Note → Type 0
 FollowsNotes token [] n = Unit {0}
 FollowsNotes token (before ∷ older) n = IsNext token before older n
 
--- the messages shown, newest first.
+-- the list has the messages shown, the newest first.
 abbrev pub AreNotes : (List ℕ → Type 0) → (List ℕ → Type 0) → (ℕ → Type 0) → List ℕ → ℕ → List Note → Type 0
 AreNotes went came told token id [] = Unit {0}
 AreNotes went came told token id (n ∷ ns) = AreNotes went came told token id ns × IsNoteOf went came told token id n × FollowsNotes token ns n
@@ -146,19 +149,19 @@ is_mark_of id at k = nat_eq k.id id && nat_eq k.at at
 abbrev pub has_mark : List ShownMark → ℕ → ℕ → Bool
 has_mark marks id at = list_any (is_mark_of id at) marks
 
--- a separate response that was shown has a mark, or is at least 247 s old.
+-- if the note's message is a separate response, it has a mark, or is at least 247 s old at `now`.
 abbrev pub IsRemembered : List ShownMark → ℕ → Note → Type 0
 IsRemembered marks now n = begins_exchange n.message.kind ≡ true → (has_mark marks n.message.id n.at ≡ true) ⊎ (n.at + window ≤ now)
 
--- these messages were shown. The watch has the state of the newest message, and remembers all of
--- them.
+-- these messages were shown. The observation has the sequence number and the time of the newest
+-- message, and remembers all these messages.
 pub record IsWatching (went came : List ℕ → Type 0) (told : ℕ → Type 0) (token : List ℕ) (id : ℕ) (latest : Note) (older : List Note) (w : Observation) : Type 0 where
   pub are : AreNotes went came told token id (latest ∷ older)
   pub state : notice_of latest.message ≡ State w.sequence
   pub time : w.at ≡ latest.at
   pub remembered : All (IsRemembered w.marks.items w.at) (latest ∷ older)
 
--- the next message shown at this time is a state, and the watch records it.
+-- the message shown at this time is a state, and the observation `new` records that state.
 pub record IsKept (old new : Observation) (at : ℕ) (m : Message) : Type 0 where
   pub notice : notice_after old at m ≡ State new.sequence
   pub time : new.at ≡ at
@@ -175,13 +178,14 @@ pub record IsNextNote (went came : List ℕ → Type 0) (told : ℕ → Type 0) 
   pub own : IsOwnResponse token message
   pub shown : IsShownAs last old new (max old.at time) message
 
--- if no notification is to be shown, the watch is unchanged.
+-- if a notification is to be shown, it is at the start of `buffer`, and `new` is the observation
+-- after it. If none is to be shown, the observation is unchanged.
 abbrev pub Watches : (List ℕ → Type 0) → (List ℕ → Type 0) → (ℕ → Type 0) → List ℕ → List ℕ → Observation → Observation → Option NotedMessage → Type 0
 Watches went came told token buffer old new None = new ≡ old
 Watches went came told token buffer old new (Some noted) =
     (noted.count ≤ length buffer) × IsNextNote went came told token (take noted.count buffer) noted.time old new noted.last
 
--- a notification arrived, and was acknowledged if it is confirmable.
+-- `bytes` are a notification that arrived, and that was acknowledged if it is confirmable.
 pub record HasOwnResponse (went came : List ℕ → Type 0) (token bytes : List ℕ) : Type 0 where
   pub message : Message
   pub handled : IsHandledFrom went came bytes message

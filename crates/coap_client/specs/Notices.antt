@@ -1,4 +1,4 @@
--- The requests of an observer, and the classification of responses to it (RFC 7641).
+-- The requests of an observer, and the classification of the responses to them (RFC 7641).
 use Rattle.std.specs.Prelude.{◌≡◌, ℕ, ◌+◌, ◌-◌, ◌&&◌, ◌||◌, Bool, true, false, is_some, not, nat_eq, nat_lt, nat_le, filter, if◌then◌else◌, List, [], ◌∷◌, ◌++◌, length, Option, Some, None}
 use Rattle.std.specs.List.{list_any}
 use Rattle.coap_msg.specs.Windows.{within_window}
@@ -22,7 +22,7 @@ use Rattle.coap_client.specs.Parts.{largest_szx, resource_options}
 use Rattle.coap_client.specs.Paths.{slices_in}
 use Rattle.coap_client.specs.Replies.{begins_exchange, first_or_none, is_response, is_success, is_understood, next_of_answer}
 
--- the value of Observe: 0 registers, 1 deregisters (RFC 7641, section 2).
+-- the value of the Observe option: 0 registers, and 1 deregisters (RFC 7641, section 2).
 abbrev pub observe_value : ObserveOption → ℕ
 observe_value Register = 0
 observe_value Deregister = 1
@@ -69,33 +69,33 @@ abbrev pub is_newer : ℕ → ℕ → ℕ → ℕ → Bool
 is_newer v1 t1 v2 t2 =
     (nat_lt v1 v2 && nat_lt (v2 - v1) 8388608) || ((nat_lt v2 v1 && nat_lt 8388608 (v1 - v2)) || nat_lt (t1 + 128000) t2)
 
--- no block follows.
+-- by this next step, no block follows.
 abbrev pub is_last_part : Next → Bool
 is_last_part next.Last = true
 is_last_part other = false
 
--- more blocks follow.
+-- by this next step, more blocks follow.
 abbrev pub is_first_part : Next → Bool
 is_first_part (next.Ask part) = true
 is_first_part other = false
 
--- a success that is the first of several blocks (RFC 7959, section 2.4).
+-- the message is a success, and is the first of several blocks (RFC 7959, section 2.4).
 abbrev pub begins_blocks : Message → Bool
 begins_blocks m = is_understood m && (is_first_part (next_of_answer 0 largest_szx m) && is_success m.code)
 
--- the first of several blocks of a state: it has a sequence number (RFC 7641, section 3.4; RFC 7959,
--- section 2.6).
+-- the message is the first of several blocks of a state: it has a sequence number (RFC 7641,
+-- section 3.4; RFC 7959, section 2.6).
 abbrev pub begins_state : Message → Bool
 begins_state m = begins_blocks m && is_some (sequence_of m)
 
--- the message can be shown. No critical option is unknown, and it is whole by itself, like the
--- response to the first request of a fetch; or it begins a state, whose other blocks can be
--- requested (RFC 7959, sections 2.4 and 2.6).
+-- the message can be shown: no critical option is unknown or repeated, and the message is whole by
+-- itself or begins a state. The other blocks of that state can be requested (RFC 7959, sections 2.4
+-- and 2.6).
 abbrev pub can_be_shown : Message → Bool
 can_be_shown m = (is_understood m && is_last_part (next_of_answer 0 largest_szx m)) || begins_state m
 
--- a success that has no sequence number and is the first of several blocks: the server doesn't
--- notify (RFC 7641, section 4.1; RFC 7959, section 2.6).
+-- the message is a success without a sequence number, and is the first of several blocks. So the
+-- server doesn't notify the client (RFC 7641, section 4.1; RFC 7959, section 2.6).
 abbrev pub is_unobserved : Message → Bool
 is_unobserved m = begins_blocks m && not (is_some (sequence_of m))
 
@@ -111,12 +111,12 @@ by_success m = if is_success m.code then by_sequence (sequence_of m) else Last
 abbrev pub notice_of : Message → NotificationClass
 notice_of m = if can_be_shown m then by_success m else Malformed
 
--- a message with this message ID was shown less than 247 s earlier, so that the new message is a
--- duplicate (RFC 7252, section 4.5).
+-- a message with this message ID was shown less than 247 s before `at`. So a message that arrives
+-- at `at` with that ID is a duplicate (RFC 7252, section 4.5).
 abbrev pub is_shown_again : List ShownMark → ℕ → ℕ → Bool
 is_shown_again marks id at = list_any (λ k. nat_eq k.id id && within_window at k.at) marks
 
--- the classification of a separate response at this time, for an observer with this watch.
+-- the classification of a separate response at this time, given the observation so far.
 abbrev pub by_age : Observation → ℕ → NotificationClass → NotificationClass
 by_age w at (State v) = if is_newer w.sequence w.at v at then State v else Older
 by_age w at other = other
@@ -127,10 +127,10 @@ notice_after w at m = if is_shown_again w.marks.items m.id at then Older else by
 abbrev pub mark : ℕ → ℕ → ShownMark
 mark id at = record { id = id; at = at }
 
--- the mark of the first message shown, if it is a separate response.
+-- the marks after the first message shown: one mark if the message is a separate response.
 abbrev pub first_marks : Message → ℕ → List ShownMark
 first_marks m at = if begins_exchange m.kind then mark m.id at ∷ [] else []
 
--- the marks that still count at this time, and one more.
+-- the marks that are less than 247 s old at this time, followed by one for this message ID.
 abbrev pub marked : List ShownMark → ℕ → ℕ → List ShownMark
 marked marks id at = filter (λ k. within_window at k.at) marks ++ mark id at ∷ []

@@ -1,4 +1,4 @@
--- The calls of an observer: its registration, its waits while it is registered, and its
+-- The calls of an observer for the registration, while it is registered, and for the
 -- deregistration. In a list of calls, the newest is first.
 use Rattle.std.specs.Prelude.{◌≡◌, ℕ, zero, suc, ◌+◌, ◌%◌, ◌⊎◌, max, option_map, Bool, true, false, List, [], ◌∷◌, ◌++◌, take, Ok, Option, Some, None}
 use Rattle.coap_msg.specs.Reading.{reading_of}
@@ -19,7 +19,7 @@ use Rattle.coap_client.specs.Transmissions.{AreBehind, IsLastSending, IsTransmis
 
 -- ---- the registration
 
--- the registration is transmitted, and has a response.
+-- the registration is transmitted, and the response `answer` arrives.
 abbrev pub IsRegistration : Observer → List ℕ → List PeerCall → Type 0
 IsRegistration o answer calls =
     IsTransmission true (TellsObserver o.token o.id) (message_bytes (observe_request o.client_request.now Register o.token o.id)) (Some answer) calls
@@ -27,7 +27,7 @@ IsRegistration o answer calls =
 abbrev pub IsAnsweredRegistration : Observer → List PeerCall → Type 0
 IsAnsweredRegistration o calls = (answer : List ℕ) × IsRegistration o answer calls
 
--- the registration has a response, and then the clock is read.
+-- the registration is transmitted, a response arrives, and then the clock is read.
 pub record IsDatedRegistration (o : Observer) (calls : List PeerCall) : Type 0 where
   pub older : List PeerCall
   pub answered : IsAnsweredRegistration o older
@@ -36,20 +36,21 @@ pub record IsDatedRegistration (o : Observer) (calls : List PeerCall) : Type 0 w
 
 -- ---- notifications
 
--- a datagram that isn't a notification is skipped.
+-- the datagram isn't a notification, and nothing is sent after it.
 abbrev pub IsNoNotification : List ℕ → List ℕ → List PeerCall → Type 0
 IsNoNotification token bytes sent = (IsReadAs bytes (IsOwnResponse token) → ⊥) × (sent ≡ [])
 
--- a notification is acknowledged if it is confirmable; nothing is sent after any other datagram.
+-- a datagram that is a notification is acknowledged if it is confirmable. Nothing is sent after any
+-- other datagram.
 abbrev pub AcknowledgesNotification : List ℕ → List ℕ → List PeerCall → Type 0
 AcknowledgesNotification token bytes sent = (IsReadAs bytes (IsOwnResponse token) × (sent ≡ acknowledges bytes)) ⊎ IsNoNotification token bytes sent
 
--- a notification is acknowledged if it is confirmable, and then the clock is read.
+-- the calls after a notification: it is acknowledged if it is confirmable, and the clock is read.
 abbrev pub dates : List ℕ → ℕ → List PeerCall
 dates bytes time = Reads time ∷ acknowledges bytes
 
--- a notification that isn't shown: it is a duplicate of one already shown, or isn't newer, at the
--- time that the clock then returns.
+-- the datagram is a notification that isn't shown. At the time that the clock then returns, it is a
+-- duplicate of one already shown, or isn't newer than the state shown last.
 pub record IsOlderNotification (told : ℕ → Type 0) (token : List ℕ) (w : Observation) (bytes : List ℕ) (sent : List PeerCall) : Type 0 where
   pub message : Message
   pub read_is : reading_of bytes ≡ Ok message
@@ -59,23 +60,24 @@ pub record IsOlderNotification (told : ℕ → Type 0) (token : List ℕ) (w : O
   pub older : notice_after w (max w.at time) message ≡ Older
   pub sent_is : sent ≡ dates bytes time
 
--- during a watch, such a notification is skipped too.
+-- a datagram that is skipped during an observation: a notification that isn't shown, or a datagram
+-- that isn't a notification.
 abbrev pub IsPassedOverWatching : (ℕ → Type 0) → List ℕ → Observation → List ℕ → List PeerCall → Type 0
 IsPassedOverWatching told token w bytes sent = IsOlderNotification told token w bytes sent ⊎ IsNoNotification token bytes sent
 
--- this notification arrived and was acknowledged if it is confirmable; then the clock returned this
--- time.
+-- the wait ended on this notification, which was acknowledged if it is confirmable. Then the clock
+-- returned this time.
 pub record IsNoticed (token : List ℕ) (passes : List ℕ → List PeerCall → Type 0) (bytes : List ℕ) (time : ℕ) (calls : List PeerCall) : Type 0 where
   pub own : IsReadAs bytes (IsOwnResponse token)
   pub handled : List PeerCall
   pub ends : EndsOn passes bytes handled
   pub is : calls ≡ dates bytes time ++ handled
 
--- a notification, and the time that the clock returned after it.
+-- the bytes of a notification, and the time that the clock returned after its arrival.
 abbrev pub Dated : Type 0
 Dated = List ℕ × ℕ
 
--- the wait for a notification: one arrives, or the wait is over.
+-- the calls of a wait for a notification: a notification arrives, or the wait is over.
 abbrev pub AwaitsNotification : List ℕ → (List ℕ → List PeerCall → Type 0) → Option Dated → List PeerCall → Type 0
 AwaitsNotification token passes None calls = IsOver passes calls
 AwaitsNotification token passes (Some (bytes, time)) calls = IsNoticed token passes bytes time calls
@@ -117,26 +119,27 @@ AreObserverSteps token (suc n) calls = IsOneMoreStep (AreObserverSteps token n) 
 abbrev pub IsObserving : List ℕ → List PeerCall → Type 0
 IsObserving token calls = (n : ℕ) × AreObserverSteps token n calls
 
--- the observer registers, and then observes.
+-- the calls of the registration, the reading of the clock, and then steps of a registered observer.
 abbrev pub IsObservation : Observer → List PeerCall → Type 0
 IsObservation o calls = AreBehind (IsDatedRegistration o) (IsObserving o.token) calls
 
 -- ---- the deregistration
 
--- while the deregistration with this message ID is outstanding, a datagram that neither
--- acknowledges nor rejects it is skipped.
+-- the datagram neither acknowledges nor rejects the deregistration with this message ID. So it is
+-- skipped; if it is a confirmable notification, it is acknowledged.
 pub record IsPassedOverLeaving (token : List ℕ) (id : ℕ) (bytes : List ℕ) (sent : List PeerCall) : Type 0 where
   pub acknowledged : IsReadAs bytes (IsAcknowledgementOf id) → ⊥
   pub rejected : IsReadAs bytes (IsReset id) → ⊥
   pub notification : AcknowledgesNotification token bytes sent
 
--- the deregistration was acknowledged.
+-- the wait ended on an acknowledgement of the deregistration.
 pub record IsAcknowledgedLeaving (token : List ℕ) (id : ℕ) (handled : List PeerCall) : Type 0 where
   pub bytes : List ℕ
   pub acknowledges_it : IsReadAs bytes (IsAcknowledgementOf id)
   pub ends : EndsOn (IsPassedOverLeaving token id) bytes handled
 
--- the deregistration was acknowledged, or the wait is over.
+-- the wait ended on an acknowledgement of the deregistration (`true`), or the wait is over
+-- (`false`).
 abbrev pub IsOverUnlessLeft : List ℕ → ℕ → Bool → List PeerCall → Type 0
 IsOverUnlessLeft token id true handled = IsAcknowledgedLeaving token id handled
 IsOverUnlessLeft token id false handled = IsOver (IsPassedOverLeaving token id) handled

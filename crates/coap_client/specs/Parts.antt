@@ -12,25 +12,25 @@ use Rattle.coap_client.specs.declared.part.Part.{Part}
 use Rattle.coap_client.specs.declared.part.Part.TheVariants.{Whole, Body, Answer}
 use Rattle.arrayvec.specs.ArrayVec.{ArrayVec}
 
--- the length of the largest block in bytes, and its size in block options: the exponent less 4.
+-- the length of the largest block in bytes, 2^10. Block options have the exponent less 4, SZX 6.
 abbrev pub largest_block : ℕ
 largest_block = 1024
 
 abbrev pub largest_szx : ℕ
 largest_szx = 6
 
--- the number of bytes of a body in one request: a PUT sends blocks, and the other methods send the
--- whole body.
+-- the greatest number of bytes of a body in one request: a PUT sends blocks of at most 1,024 bytes,
+-- and the other methods send the whole body.
 abbrev pub most_at_once : Method → ℕ → ℕ
 most_at_once Put count = min count largest_block
 most_at_once other count = count
 
--- the room of an option: at most five bytes precede its value.
+-- the room in bytes that is reserved for an option: its value, and at most five bytes before it.
 abbrev pub option_room : List ℕ → ℕ
 option_room value = length value + 5
 
--- each request fits a datagram of 1,280 bytes; 18 of these are reserved for the header, the payload
--- marker and a block option.
+-- each request fits a datagram of 1,280 bytes, of which 18 are reserved for the header, the payload
+-- marker and a block option. The payload has at most 2^30 bytes.
 pub record FitsDatagrams (method : Method) (segments query : List (List ℕ)) (payload : List ℕ) : Type 0 where
   pub room : sum_by option_room segments + (sum_by option_room query + most_at_once method (length payload)) ≤ 1262
   pub blocks : length payload ≤ 2 ^ 30
@@ -39,7 +39,8 @@ abbrev pub request_kind : Bool → MessageType
 request_kind true = Confirmable
 request_kind false = NonConfirmable
 
--- the first request: a PUT's body that is longer than a block is sent in blocks.
+-- the content of the first request: block 0 of the body, if the method is PUT and the body is
+-- longer than a block; and else the whole body.
 abbrev pub first_part : Method → ℕ → Part
 first_part Put count = if nat_lt largest_block count then Body 0 largest_szx else Whole
 first_part other count = Whole
@@ -52,11 +53,11 @@ has_more count n szx = nat_lt (block_size szx * (n + 1)) count
 abbrev pub block_option : ℕ → Bool → ℕ → List ℕ
 block_option n more szx = block_bytes (record { number = n; more = more; szx = szx })
 
--- an option of this number for each value.
+-- options with this number, one for each value.
 abbrev pub numbered : ℕ → List (List ℕ) → List (ℕ × List ℕ)
 numbered number values = map (λ v. (number, v)) values
 
--- the Content-Format of a payload, if there is one (RFC 7252, section 5.10.3).
+-- the Content-Format option, if a format is given (RFC 7252, section 5.10.3).
 abbrev pub format_option : Option ℕ → List (ℕ × List ℕ)
 format_option None = []
 format_option (Some format) = (option.CONTENT_FORMAT, uint_bytes format) ∷ []
@@ -76,7 +77,7 @@ format_options method part format = if brings_body method part then format_optio
 abbrev pub resource_options : List (List ℕ) → List (List ℕ) → List (ℕ × List ℕ)
 resource_options segments query = numbered option.URI_PATH segments ++ numbered option.URI_QUERY query
 
--- the same with the Content-Format between the path and the query, in the order of the option
+-- the options of a request: the path, the Content-Format and the query, in the order of the option
 -- numbers (RFC 7252, section 3.1).
 abbrev pub request_options : List (List ℕ) → List (ℕ × List ℕ) → List (List ℕ) → List (ℕ × List ℕ)
 request_options segments format query = numbered option.URI_PATH segments ++ (format ++ numbered option.URI_QUERY query)
@@ -86,13 +87,13 @@ part_options Whole count = []
 part_options (Body n szx) count = (option.BLOCK1, block_option n (has_more count n szx) szx) ∷ []
 part_options (Answer n szx) count = (option.BLOCK2, block_option n false szx) ∷ []
 
--- an option with its value's bytes.
+-- the option with its number and its value's bytes, if there is one.
 abbrev pub option_in : Option (ℕ × ArrayVec ℕ) → List (ℕ × List ℕ)
 option_in None = []
 option_in (Some (number, value)) = (number, value.items) ∷ []
 
--- a GET has its body in each request, since the server makes the response again for each request;
--- the other methods have already sent it.
+-- the payload of a request for a further block of the response. A GET has its body in each request,
+-- since the server makes the response again for each. The other methods have sent the body before.
 abbrev pub answer_payload : Method → List ℕ → List ℕ
 answer_payload Get payload = payload
 answer_payload other payload = []

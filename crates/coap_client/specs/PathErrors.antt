@@ -5,14 +5,14 @@ use Rattle.coap_client.specs.declared.path.PathError.{PathError}
 use Rattle.coap_client.specs.declared.path.PathError.TheVariants.{NoSlash, Empty, Long, NoMemory}
 use Rattle.coap_client.specs.Paths.{HasNoSlash, IsFirstSegment, IsNoPath, IsSegment, path_text, slash}
 
--- the text between two slashes isn't a segment: it is empty, or has more than 255 bytes. The error
--- has its number.
+-- `segment` is the text of a part between slashes, and isn't a segment: it is empty, or has more
+-- than 255 bytes. The error has the part's number.
 abbrev pub IsUnfit : List ℕ → ℕ → PathError → Type 0
 IsUnfit segment number (Empty told) = (segment ≡ []) × (told ≡ number)
 IsUnfit segment number (Long told) = (255 < length segment) × (told ≡ number)
 IsUnfit segment number other = ⊥
 
--- the text isn't a path, or there was no memory.
+-- the text isn't a path, or the error is `NoMemory`.
 abbrev pub TellsNoPath : List ℕ → PathError → Type 0
 TellsNoPath text NoMemory = Unit {0}
 TellsNoPath text other = IsNoPath text
@@ -31,8 +31,8 @@ pub record IsFirstUnfit (text : List ℕ) (number : ℕ) (Unfit : List ℕ → T
   pub cut : IsFirstSegment after segment rest
   pub unfit : Unfit segment
 
--- the errors of a path: the text doesn't begin with a slash; its first part that isn't a segment
--- has this number, and is empty or too long; or there was no memory.
+-- the errors of a path: the text doesn't begin with a slash; the first part that isn't a segment
+-- has this number, and is empty or too long; or memory couldn't be allocated.
 abbrev pub IsPathFault : List ℕ → PathError → Type 0
 IsPathFault text NoSlash = (text ≢ []) × HasNoSlash text
 IsPathFault text (Empty number) = IsFirstUnfit text number (λ segment. segment ≡ [])

@@ -6,13 +6,14 @@ use Rattle.std.specs.Borrow.{Bor}
 abbrev pub slash : ℕ
 slash = 47
 
--- a Uri-Path of 1 to 255 bytes, without a slash; RFC 7252, section 5.10, allows empty ones as well.
+-- the value of a Uri-Path option, of 1 to 255 bytes without a slash. (RFC 7252, section 5.10 also
+-- allows an empty value.)
 pub record IsSegment (s : List ℕ) : Type 0 where
   pub some : 0 < length s
   pub short : length s ≤ 255
   pub unsplit : All (λ b. b ≢ slash) s
 
--- a slash before each segment.
+-- the text of a path: the segments, each with a slash before it.
 abbrev pub path_text : List (List ℕ) → List ℕ
 path_text [] = []
 path_text (s ∷ segments) = slash ∷ (s ++ path_text segments)
@@ -34,7 +35,7 @@ slices_in lent = map (λ s. s.now) lent
 pub record HasNoSlash (text : List ℕ) : Type 0 where
   pub none : (after : List ℕ) → text ≡ slash ∷ after → ⊥
 
--- a rest of a path: it is empty, or begins with a slash.
+-- the text after a segment of a path: it is empty, or begins with a slash.
 abbrev pub IsRest : List ℕ → Type 0
 IsRest [] = Unit {0}
 IsRest (b ∷ rest) = b ≡ slash

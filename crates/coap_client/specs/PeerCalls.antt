@@ -6,7 +6,8 @@ use Rattle.std.specs.Option.{option_map}
 abbrev domain_of : {A B : Type 0} → (A → B) → Type 0
 domain_of {A = A} f = A
 
--- an error of a peer; the library names the type of an `io::Error` only by its functions.
+-- the type of an error of a peer, `io::Error`. The library has no name for it, so it is taken from
+-- a function's type.
 abbrev pub PeerError : Type 0
 PeerError = domain_of error_kind
 
@@ -20,7 +21,7 @@ pub data PeerCall : Type 0 where
   -- the clock is read, and returns this time in milliseconds.
   Reads : (time : ℕ) → PeerCall
 
--- these calls are added to the earlier ones.
+-- the calls `more` are added to any calls with the property `before`, which gives `after`.
 abbrev pub Adds : (List PeerCall → Type 0) → (List PeerCall → Type 0) → List PeerCall → Type 0
 Adds before after more = (calls : List PeerCall) → before calls → after (more ++ calls)
 

@@ -1,5 +1,6 @@
--- A CoAP ping: an empty confirmable message, which each endpoint rejects by a Reset message with
--- the ping's message ID (RFC 7252, sections 4.2 and 4.3). In a list of calls, the newest is first.
+-- A CoAP ping: an empty confirmable message. Each endpoint rejects it with a Reset message, which
+-- has the ping's message ID (RFC 7252, sections 4.2 and 4.3). In a list of calls, the newest is
+-- first.
 use Rattle.std.specs.Prelude.{◌≡◌, ℕ, Bool, true, false, filter, List, []}
 use Rattle.coap_msg.specs.Wire.{Message, message_bytes}
 use Rattle.coap_msg.specs.declared.types.MessageType.TheVariants.{Confirmable}
@@ -11,25 +12,25 @@ use Rattle.coap_client.specs.PeerCalls.{PeerCall, PeerError, Sends, Waits, Recei
 use Rattle.coap_client.specs.Replies.{IsReset}
 use Rattle.coap_client.specs.Transmissions.{AreInVain, IsLastSending, most_sendings}
 
--- the ping, which has this message ID and nothing else.
+-- the ping with this message ID: an empty confirmable message.
 abbrev pub ping : ℕ → Message
 ping id = record { kind = Confirmable; code = 0; id = id; token = []; options = []; payload = [] }
 
 abbrev pub ping_bytes : ℕ → List ℕ
 ping_bytes id = message_bytes (ping id)
 
--- a datagram that isn't a Reset message with the ping's message ID is skipped, and nothing is sent
--- after it.
+-- the datagram isn't the Reset message with the ping's message ID. So it is skipped, and nothing is
+-- sent after it.
 abbrev pub IsNoPong : ℕ → List ℕ → List PeerCall → Type 0
 IsNoPong id bytes sent = (IsReadAs bytes (IsReset id) → ⊥) × (sent ≡ [])
 
--- the Reset message with the ping's message ID arrived.
+-- the wait ended on the Reset message with the ping's message ID.
 pub record EndsOnPong (id : ℕ) (handled : List PeerCall) : Type 0 where
   pub bytes : List ℕ
   pub rejects : IsReadAs bytes (IsReset id)
   pub ends : EndsOn (IsNoPong id) bytes handled
 
--- the Reset message arrived, or the wait is over.
+-- the wait ended on the Reset message (`true`), or the wait is over (`false`).
 abbrev pub IsOverUnlessPong : ℕ → Bool → List PeerCall → Type 0
 IsOverUnlessPong id true handled = EndsOnPong id handled
 IsOverUnlessPong id false handled = IsOver (IsNoPong id) handled
@@ -39,12 +40,12 @@ IsOverUnlessPong id false handled = IsOver (IsNoPong id) handled
 abbrev pub IsPinged : ℕ → List PeerCall → Type 0
 IsPinged id calls = IsLastSending (IsNoPong id) (ping_bytes id) (EndsOnPong id) calls
 
--- the ping is sent by the whole schedule, and no Reset message arrives.
+-- the ping is sent five times, and no Reset message arrives.
 abbrev pub IsPingedInVain : ℕ → List PeerCall → Type 0
 IsPingedInVain id calls = AreInVain (IsNoPong id) (ping_bytes id) most_sendings calls
 
--- the errors of a ping: no Reset message arrived, not even after the last transmission, or the peer
--- returned an error.
+-- the errors of a ping: no Reset message arrived until the wait after the last transmission was
+-- over, or the peer returned an error.
 abbrev pub IsPingFault : (PeerError → Type 0) → ((List PeerCall → Type 0) → Type 0) → ℕ → FetchFault → Type 0
 IsPingFault is_error Makes id fault.Silence = Makes (IsPingedInVain id)
 IsPingFault is_error Makes id (fault.Socket error) = is_error error

@@ -26,14 +26,14 @@ pub record IsReply (id : ℕ) (m : Message) : Type 0 where
   pub token : m.token ≡ []
   pub response : is_response m.code ≡ true
 
--- the message is an empty acknowledgement of the request with this message ID, so that its response
--- is separate (RFC 7252, section 5.2.2).
+-- the message is an empty acknowledgement of the request with this message ID. A separate response
+-- may follow (RFC 7252, section 5.2.2).
 pub record IsEmptyAcknowledgement (id : ℕ) (m : Message) : Type 0 where
   pub kind : m.kind ≡ Acknowledgement
   pub id_is : m.id ≡ id
   pub empty : m.code ≡ 0
 
--- the message begins an exchange: it is confirmable or non-confirmable.
+-- a message of this type begins an exchange: it is confirmable or non-confirmable.
 abbrev pub begins_exchange : MessageType → Bool
 begins_exchange Confirmable = true
 begins_exchange NonConfirmable = true
@@ -56,8 +56,8 @@ pub record IsReset (id : ℕ) (m : Message) : Type 0 where
   pub id_is : m.id ≡ id
   pub empty : m.code ≡ 0
 
--- an option that may be ignored if it is unknown, or one of the two critical ones that a client
--- knows in responses (RFC 7252, sections 5.4.1 and 5.4.6).
+-- the option with this number is elective, so it may be unknown, or it is Block1 or Block2. These
+-- are the critical options that the client knows in responses (RFC 7252, sections 5.4.1 and 5.4.6).
 abbrev pub is_known_option : ℕ → Bool
 is_known_option number = (number % 2 == 0) || ((number == option.BLOCK1) || (number == option.BLOCK2))
 
@@ -69,11 +69,12 @@ is_single number m = nat_le (length (values_in number m.options)) 1
 abbrev pub is_understood : Message → Bool
 is_understood m = list_all (λ o. is_known_option o.0) m.options && (is_single option.BLOCK1 m && is_single option.BLOCK2 m)
 
--- the success class (RFC 7252, section 5.9.1).
+-- the code is of the success class, 2 (RFC 7252, section 5.9.1).
 abbrev pub is_success : ℕ → Bool
 is_success code = code / 32 == 2
 
--- the server took the body so far, and expects more of it (RFC 7959, section 2.9.1).
+-- the message has code 2.31 (Continue): the server took the block, and expects more blocks of the
+-- body (RFC 7959, section 2.9.1).
 abbrev pub is_continue : Message → Bool
 is_continue m = m.code == registered.CONTINUE.byte
 
@@ -92,11 +93,11 @@ abbrev pub or_empty : Option (List ℕ) → List ℕ
 or_empty None = []
 or_empty (Some v) = v
 
--- the ETag, or no bytes.
+-- the value of the ETag option, or no bytes if the message has none.
 abbrev pub etag_of : Message → List ℕ
 etag_of m = or_empty (first_or_none (values_in option.ETAG m.options))
 
--- the next step after a block of the response that is followed by others.
+-- the next step after a block of the response that others follow.
 abbrev pub next_block : Place → Next
 next_block b = if nat_lt (b.number + 1) 1048576 then Ask (Answer (b.number + 1) b.szx) else Malformed
 
@@ -107,15 +108,15 @@ by_more b count = if b.more
     then (if count == block_size b.szx then next_block b else Malformed)
     else (if nat_le count (block_size b.szx) then Last else Malformed)
 
--- the block begins at the start of the requested block, and is no larger (RFC 7959, sections 2.3
--- and 2.4).
+-- the block of the response begins where the requested block n begins, and isn't larger than that
+-- (RFC 7959, sections 2.3 and 2.4).
 abbrev pub fits_place : ℕ → ℕ → Place → Bool
 fits_place n szx b = nat_le b.szx szx && (block_size b.szx * b.number == block_size szx * n)
 
 abbrev pub by_block : ℕ → ℕ → ℕ → Place → Next
 by_block n szx count b = if fits_place n szx b then by_more b count else Malformed
 
--- a response without Block2 is whole.
+-- the next step by the value of Block2. A response without Block2 is whole.
 abbrev pub by_option : ℕ → ℕ → ℕ → Option (List ℕ) → Next
 by_option n szx count None = if n == 0 then Last else Malformed
 by_option n szx count (Some value) = if nat_le (length value) 3 then by_block n szx count (place_in value) else Malformed
@@ -124,10 +125,10 @@ by_option n szx count (Some value) = if nat_le (length value) 3 then by_block n 
 abbrev pub next_of_answer : ℕ → ℕ → Message → Next
 next_of_answer n szx m = by_option n szx (length m.payload) (block2_of m)
 
--- the size for the rest of the body, if a success says that the server took block n. The success
--- says so by a Block1 that names that block and a size that is no greater, or by 2.31 without
--- Block1 (RFC 7959, sections 2.3 and 2.9.1). A success other than 2.31 is from a server that
--- carries out each block by itself, or waits for the other blocks.
+-- the size exponent for the rest of the body, if a success says that the server took block n. It
+-- says so by a Block1 with that number and no greater size, or by 2.31 without Block1 (RFC 7959,
+-- sections 2.3 and 2.9.1). A success other than 2.31 is from a server that carries out each block
+-- by itself, or waits for the other blocks.
 abbrev pub size_by_block : ℕ → ℕ → Place → Option ℕ
 size_by_block n szx b = if (b.number == n) && nat_le b.szx szx then Some b.szx else None
 
@@ -135,7 +136,7 @@ abbrev pub next_size : ℕ → ℕ → Bool → Option (List ℕ) → Option ℕ
 next_size n szx continued None = if continued then Some szx else None
 next_size n szx continued (Some value) = if nat_le (length value) 3 then size_by_block n szx (place_in value) else None
 
--- the number of the block after block n, counted in blocks of a size that is no greater.
+-- the number of the block after block n, counted in blocks of the size exponent `smaller`.
 abbrev pub next_number : ℕ → ℕ → ℕ → ℕ
 next_number n szx smaller = (n + 1) * 2 ^ (szx - smaller)
 
@@ -144,8 +145,9 @@ next_of_body n szx None = Malformed
 next_of_body n szx (Some smaller) =
     if nat_lt (next_number n szx smaller) 1048576 then Ask (Body (next_number n szx smaller) smaller) else Malformed
 
--- a success is the response to the whole request: it isn't 2.31, and its Block1, if there is one,
--- names block n and says that the server has the whole body (RFC 7959, section 2.3).
+-- a success is the response to the whole request (`is_final`) if its code isn't 2.31 and its Block1
+-- is that of the last block n. Block1, if there is one, names block n and says that no block
+-- follows (RFC 7959, section 2.3).
 abbrev pub names_last : ℕ → Place → Bool
 names_last n b = (b.number == n) && not b.more
 
@@ -159,7 +161,8 @@ is_final n m = not (is_continue m) && says_last n (block1_of m)
 abbrev pub next_of_whole : ℕ → Message → Next
 next_of_whole n m = if is_final n m then next_of_answer 0 largest_szx m else Malformed
 
--- a further block is of the same version as the blocks before it (RFC 7959, section 2.4).
+-- the next step after a further block of the response. If the block's ETag isn't that of the blocks
+-- before it, the response has changed, and the step is `Stale` (RFC 7959, section 2.4).
 abbrev pub next_of_further : ℕ → ℕ → List ℕ → Message → Next
 next_of_further n szx etag m =
     if bytes_eq (etag_of m) etag then (if is_continue m then Malformed else next_of_answer n szx m) else Stale
@@ -173,7 +176,7 @@ by_part count (Body n szx) etag m =
 abbrev pub next_by_code : ℕ → Part → List ℕ → Message → Next
 next_by_code count part etag m = if is_success m.code then by_part count part etag m else Refused
 
--- the next step after the response to a part, if the body has `count` bytes and the response's
--- blocks so far have this ETag.
+-- the next step after a response to the request of `part`. The request's body has `count` bytes,
+-- and the response's blocks so far have the ETag `etag`.
 abbrev pub next_of : ℕ → Part → List ℕ → Message → Next
 next_of count part etag m = if is_understood m then next_by_code count part etag m else Malformed

@@ -1,4 +1,4 @@
--- The requests of a client, and its acknowledgement of a response.
+-- The requests of a client, and the client's acknowledgement of a response.
 use Rattle.std.specs.Prelude.{◌≡◌, ℕ, ◌*◌, ◌<◌, ◌≤◌, ◌^◌, List, [], ◌++◌, length}
 use Rattle.coap_msg.specs.Wire.{Message}
 use Rattle.std.specs.Int.{to_be_bytes, w16}
@@ -17,13 +17,13 @@ pub record IsBlock (n szx : ℕ) : Type 0 where
   pub number : n < 2 ^ 20
   pub size : szx ≤ largest_szx
 
--- a block of the body; only a PUT sends blocks.
+-- block n with size exponent `szx` is one of the request's body; only a PUT sends blocks.
 pub record IsBodyBlock (e : ClientRequest) (n szx : ℕ) : Type 0 where
   pub block : IsBlock n szx
   pub method : e.method ≡ Put
   pub within : block_size szx * n < length e.payload.now
 
--- the part belongs to the client request.
+-- the part is one that a request of the client request can have.
 abbrev pub IsPartOf : ClientRequest → Part → Type 0
 IsPartOf e Whole = most_at_once e.method (length e.payload.now) ≡ length e.payload.now
 IsPartOf e (Body n szx) = IsBodyBlock e n szx
@@ -49,11 +49,11 @@ part_request e part id = record {
 
 -- ---- an observer's request for a further block (RFC 7959, section 2.6)
 
--- the token of the request is its message ID, in two bytes.
+-- the token of the request: the request's message ID as two bytes, most significant first.
 abbrev pub block_token : ℕ → List ℕ
 block_token id = to_be_bytes w16 id
 
--- the GET of block n of this size, without Observe.
+-- the GET of block n with size exponent `szx`, without Observe.
 abbrev pub block_request : ClientRequest → ℕ → ℕ → ℕ → Message
 block_request e n szx id = record {
   kind = Confirmable;

@@ -6,8 +6,8 @@ use Rattle.coap_msg.specs.Wire.{Message}
 use Rattle.coap_client.specs.Replies.{IsReset}
 use Rattle.coap_client.specs.PeerCalls.{PeerCall, Sends, Waits, Receives, Reads}
 
--- bytes whose code isn't 0.00, which is the code of an empty message; each acknowledgement here is
--- empty (RFC 7252, section 4.1).
+-- the bytes have a code other than 0.00. That is the code of an empty message, and each
+-- acknowledgement that a client sends is empty (RFC 7252, section 4.1).
 abbrev pub has_code : List ℕ → Bool
 has_code (first ∷ code ∷ rest) = not (code == 0)
 has_code other = false
@@ -22,22 +22,23 @@ is_scheduled (Reads time) = false
 abbrev pub schedule : List PeerCall → List PeerCall
 schedule calls = filter is_scheduled calls
 
--- a request is sent five times, and each wait for its response is twice the wait before it. The
--- first transmission is the last in this list.
+-- a request is sent five times, and each wait for the response is twice the wait before. The first
+-- transmission is the last in this list.
 abbrev pub full_schedule : List ℕ → List PeerCall
 full_schedule request =
     Waits 32 ∷ Sends request ∷ Waits 16 ∷ Sends request ∷ Waits 8 ∷ Sends request ∷ Waits 4 ∷ Sends request ∷ Waits 2 ∷ Sends request ∷ []
 
--- the first of these five transmissions, at least one, with their waits; `left` is the number of
--- the transmissions that remain.
+-- the calls are the first of these five transmissions, at least one, with their waits; `left` of
+-- the transmissions remain.
 abbrev pub BeginsSchedule : List ℕ → List PeerCall → Type 0
 BeginsSchedule request calls = (left : ℕ) × (left < 5) × (calls ≡ drop (2 * left) (full_schedule request))
 
--- the same, and then a wait for a separate response.
+-- the calls are the first transmissions with their waits, followed by a wait for a separate
+-- response.
 abbrev pub AwaitsResponse : List ℕ → List PeerCall → Type 0
 AwaitsResponse request calls = (sent : List PeerCall) × BeginsSchedule request sent × (calls ≡ Waits 93 ∷ sent)
 
--- the sum of the waits, in seconds.
+-- the seconds of a wait, or 0 for any other call.
 abbrev pub seconds_of : PeerCall → ℕ
 seconds_of (Waits seconds) = seconds
 seconds_of other = 0

@@ -5,13 +5,13 @@ use Rattle.coap_client.specs.declared.transmission.ReplyClass.{ReplyClass}
 use Rattle.coap_client.specs.Listening.{IsAcknowledgedBy, IsAnsweredBy, IsOver, IsPassedOver, acknowledges}
 use Rattle.coap_client.specs.PeerCalls.{PeerCall, Sends, Waits}
 
--- the maximum number of transmissions of a confirmable request: once, and MAX_RETRANSMIT times
--- again (RFC 7252, section 4.8).
+-- the maximum number of transmissions of a confirmable request: the first, and MAX_RETRANSMIT
+-- retransmissions (RFC 7252, section 4.8).
 abbrev pub most_sendings : ℕ
 most_sendings = 5
 
--- the wait for a response after this number of other transmissions, in seconds: ACK_TIMEOUT, and
--- twice as long each time (RFC 7252, section 4.2).
+-- the wait in seconds for a response to a transmission after `sendings` others. It is ACK_TIMEOUT,
+-- doubled for each of the others (RFC 7252, section 4.2).
 abbrev pub ack_timeout : ℕ → ℕ
 ack_timeout sendings = 2 ^ (sendings + 1)
 
@@ -23,13 +23,13 @@ separate_wait = 93
 abbrev pub non_wait : ℕ
 non_wait = 32
 
--- calls with this property are added to these.
+-- calls with the property `P` are added to `calls`, and the result has the property `after`.
 pub record HasAdded (after : List PeerCall → Type 0) (P : List PeerCall → Type 0) (calls : List PeerCall) : Type 0 where
   pub more : List PeerCall
   pub are : P more
   pub is : after (more ++ calls)
 
--- calls with this property were made since, after any earlier calls.
+-- from the state `before` to the state `after`, exactly calls with the property `P` were made.
 abbrev pub MakesCalls : (List PeerCall → Type 0) → (List PeerCall → Type 0) → (List PeerCall → Type 0) → Type 0
 MakesCalls before after P = (calls : List PeerCall) → before calls → HasAdded after P calls
 
@@ -49,7 +49,8 @@ pub record IsSending (request : List ℕ) (seconds : ℕ) (P : List PeerCall →
   pub ends : P handled
   pub is : calls ≡ handled ++ (Waits seconds ∷ Sends request ∷ [])
 
--- the request was sent n times before, and then once more. Each of the waits was over.
+-- after the `Before` calls, the request was sent again, after n other transmissions. The wait for
+-- its response was over.
 pub record IsSentAgain (Before : List PeerCall → Type 0) (passes : List ℕ → List PeerCall → Type 0) (request : List ℕ) (n : ℕ) (calls : List PeerCall) : Type 0 where
   pub older : List PeerCall
   pub before : Before older
@@ -61,8 +62,8 @@ abbrev pub AreInVain : (List ℕ → List PeerCall → Type 0) → List ℕ → 
 AreInVain passes request zero calls = calls ≡ []
 AreInVain passes request (suc n) calls = IsSentAgain (AreInVain passes request n) passes request n calls
 
--- the request is sent once more, after fewer transmissions than the maximum; none of these got a
--- response.
+-- the request is sent after n transmissions in vain, fewer than the maximum. Then calls with the
+-- property `P` follow.
 pub record IsLastSending (passes : List ℕ → List PeerCall → Type 0) (request : List ℕ) (P : List PeerCall → Type 0) (calls : List PeerCall) : Type 0 where
   pub n : ℕ
   pub few : n < most_sendings
@@ -72,14 +73,14 @@ pub record IsLastSending (passes : List ℕ → List PeerCall → Type 0) (reque
   pub sending : IsSending request (ack_timeout n) P last
   pub is : calls ≡ last ++ older
 
--- ---- its response; `tells` classifies a datagram for the request
+-- ---- the response to a request; `tells` classifies a datagram for the request
 
--- the wait for a separate response: this response arrived, or the wait is over.
+-- the calls of a wait for a separate response: this response arrived, or the wait is over.
 abbrev pub EndsAwaited : (List ℕ → ReplyClass → Type 0) → Option (List ℕ) → List PeerCall → Type 0
 EndsAwaited tells None handled = IsOver (IsPassedOver tells true) handled
 EndsAwaited tells (Some answer) handled = IsAnsweredBy tells true answer handled
 
--- the request was acknowledged, and then a longer wait for its response had this outcome.
+-- the request was acknowledged, and then a wait of 93 s for a separate response had this outcome.
 pub record IsAcknowledgedFirst (tells : List ℕ → ReplyClass → Type 0) (answer : Option (List ℕ)) (handled : List PeerCall) : Type 0 where
   pub first : List PeerCall
   pub acknowledged : IsAcknowledgedBy tells first
@@ -87,12 +88,12 @@ pub record IsAcknowledgedFirst (tells : List ℕ → ReplyClass → Type 0) (ans
   pub ends : EndsAwaited tells answer more
   pub is : handled ≡ more ++ Waits separate_wait ∷ first
 
--- the response arrived, after an acknowledgement or without one.
+-- the response arrived, with or without an acknowledgement before it.
 abbrev pub EndsAnswered : (List ℕ → ReplyClass → Type 0) → List ℕ → List PeerCall → Type 0
 EndsAnswered tells answer handled = IsAnsweredBy tells false answer handled ⊎ IsAcknowledgedFirst tells (Some answer) handled
 
--- a confirmable request has a response; or it is sent the maximum number of times without one; or
--- it is acknowledged, and then has no response.
+-- the transmissions of a confirmable request. A response arrives; or the request is sent the
+-- maximum number of times in vain; or it is acknowledged, and no response follows.
 abbrev pub IsAskedAgain : (List ℕ → ReplyClass → Type 0) → List ℕ → Option (List ℕ) → List PeerCall → Type 0
 IsAskedAgain tells request (Some answer) calls = IsLastSending (IsPassedOver tells false) request (EndsAnswered tells answer) calls
 IsAskedAgain tells request None calls =
@@ -103,7 +104,7 @@ abbrev pub IsTransmitted : Bool → (List ℕ → ReplyClass → Type 0) → Lis
 IsTransmitted true tells request answer calls = IsAskedAgain tells request answer calls
 IsTransmitted false tells request answer calls = IsSending request non_wait (EndsAwaited tells answer) calls
 
--- a response is acknowledged if it is confirmable.
+-- the acknowledgement of a response, if there is one and it is confirmable.
 abbrev pub acknowledges_answer : Option (List ℕ) → List PeerCall
 acknowledges_answer None = []
 acknowledges_answer (Some answer) = acknowledges answer

@@ -1,4 +1,4 @@
-//! Client requests: the request that a client is to make, and its messages.
+//! Client requests: requests that a client is to make, and their messages.
 //!
 //! [`fetch`](crate::fetch) and an [`Observer`](crate::Observer) send these messages.
 ghost use Rattle.std.specs.Prelude.{◌≡◌, ◌+◌, ◌*◌, ◌<◌, ◌≤◌, ◌++◌, ◌↔◌, IfOk, IfSome, IsNone, None, OnOk, Some, length, min, sum_by};
@@ -20,20 +20,20 @@ use std::alloc::{AllocError, Global};
 /// Length of the largest block, in bytes.
 pub const LARGEST_BLOCK: usize = 1024;
 
-/// Size of the largest block in block options.
+/// SZX of the largest block: the exponent of its size, 2^10, less 4.
 ///
-/// It is the exponent less 4 (RFC 7959, section 2.2).
+/// See RFC 7959, section 2.2.
 pub const LARGEST_SZX: u8 = 6;
 
-/// Maximum room of the path, the query and the body's part in a request.
+/// Maximum room in bytes of the path, the query and the payload of a request.
 ///
-/// In bytes. Each segment and each argument takes five bytes more than its length.
+/// Each segment and each argument takes five bytes more than its length.
 const ROOM: usize = 1262;
 
 /// Maximum number of bytes before the value of an option.
 const OPTION_HEAD: usize = 5;
 
-/// Maximum length of a body, in bytes: the number of a block has 20 bits.
+/// Maximum length of a body, in bytes: 2^20 blocks of 1,024 bytes.
 const MOST: usize = 1 << 30;
 
 /// A resource: its path, and the arguments of its query.
@@ -47,8 +47,8 @@ pub struct RequestTarget<'a> {
 
 /// A request to make: a method, a resource, and a body.
 ///
-/// The body has a Content-Format if one is given. The messages are confirmable or non-confirmable,
-/// and each of them fits a datagram.
+/// The body has the Content-Format `content_format`, if it is given. All messages are confirmable,
+/// or all are non-confirmable. Each of them fits a datagram.
 #[derive(Drop)]
 pub struct ClientRequest<'a> {
     pub confirmable: bool,
@@ -63,12 +63,12 @@ impl<'a> ClientRequest<'a> {
     ghost use Rattle.coap_client.specs.Parts.{first_part, has_more, part_options, part_payload};
     ghost use Rattle.coap_client.specs.Requests.{IsBlock, IsPartOf, block_request, part_request};
 
-    /// Builds the client request; `None` if its requests don't fit a datagram.
+    /// Builds a client request, or returns `None` if its messages don't fit a datagram.
     ///
-    /// The requests fit if these have at most 1,262 bytes together: the segments of the path and
-    /// the arguments of the query, each with five bytes more, and the part of the body in one
-    /// request. A PUT sends at most 1,024 bytes of its body in one request; the other methods send
-    /// all of it. A body has at most 2^30 bytes.
+    /// They fit if the segments, the arguments and the payload of a message have at most 1,262
+    /// bytes together. Each segment and each argument counts five bytes more. The payload is the
+    /// body, or at most 1,024 bytes of it if the method is PUT. The body has at most 2^30 bytes.
+    /// The client request has no Content-Format.
     pub fn new(
         confirmable: bool,
         method: Method,
@@ -121,10 +121,10 @@ impl<'a> ClientRequest<'a> {
         }
     }
 
-    /// Returns the part of a fetch's first request.
+    /// Returns the part that a fetch's first request carries.
     ///
-    /// It is the first block, of 1,024 bytes, if the method is PUT and the body is longer than
-    /// that. Otherwise it is the whole body.
+    /// It is the body's first block, of 1,024 bytes, if the method is PUT and the body is longer
+    /// than that. Otherwise it is the whole body.
     pub fn first_part(&self) -> Part
         ensures first { result ≡ first_part self.now.method (length self.now.payload.now) }
         ensures own { IsPartOf self.now result }
@@ -139,7 +139,7 @@ impl<'a> ClientRequest<'a> {
         }
     }
 
-    /// Returns whether more of the body follows the block of this number.
+    /// Returns whether more of the body follows the block with number `number`.
     ///
     /// `szx` is the exponent of the block's size, less 4.
     pub fn has_more(&self, number: u32, szx: u8) -> bool
@@ -150,7 +150,7 @@ impl<'a> ClientRequest<'a> {
         self.payload.len() > block.size() * (block.number() as usize + 1)
     }
 
-    /// Writes the request of a part, with the message ID `id`, for a fetch.
+    /// Writes a fetch's request for `part`, with the message ID `id`.
     ///
     /// The request replaces the contents of `datagram`.
     ///
@@ -216,8 +216,8 @@ impl<'a> ClientRequest<'a> {
         Ok(())
     }
 
-    // Returns the Content-Format option of a part's request, or `None` if the client request has no
-    // format or this request has no body.
+    // Returns the Content-Format option of the request for `part`. Returns `None` if the client
+    // request has no format, or if the request for `part` has no body.
     fn format_of(&self, part: Part) -> Option<(u16, UintBytes)>
         ensures format { option_in result ≡ format_options self.now.method part self.now.content_format }
         ensures short { IfSome result (λ o. (o.0 ≡ CONTENT_FORMAT) × (length o.1.items ≤ 2)) }
@@ -230,7 +230,8 @@ impl<'a> ClientRequest<'a> {
         }
     }
 
-    // Returns the block option of a part's request, or `None` if the part is the whole body.
+    // Returns the block option of the request for `part`: Block1 for a block of the body, Block2
+    // for a further block of the response, and `None` for the whole body.
     fn block_of(&self, part: Part) -> Option<(u16, UintBytes)>
         requires { IsPartOf self.now part }
         ensures { option_in result ≡ part_options part (length self.now.payload.now) }
@@ -247,8 +248,8 @@ impl<'a> ClientRequest<'a> {
         }
     }
 
-    // Returns the payload of a part's request: the body or a block of it. A request for a further
-    // block of the response has the body if it is a GET, and else no payload.
+    // Returns the payload of the request for `part`: the body, or the block of the body. A request
+    // for a further block of the response has the body if it is a GET, and else no payload.
     fn payload_of(&self, part: Part) -> &'a [u8]
         requires { IsPartOf self.now part }
         ensures { result.now ≡ part_payload self.now.method self.now.payload.now part }
@@ -276,8 +277,8 @@ fn encode_format(format: u16) -> UintBytes
     encode_uint(u64::from(format))
 }
 
-// Returns whether a part's request has the body, or a block of it. Of the requests for a further
-// block of the response, only a GET has the body.
+// Returns whether the request for `part` has the body or a block of it. A request for a further
+// block of the response has the body only if it is a GET.
 fn brings_body(method: Method, part: Part) -> bool
     ensures { result ≡ spec.brings_body method part }
 {
@@ -287,6 +288,7 @@ fn brings_body(method: Method, part: Part) -> bool
     }
 }
 
+// Returns the message type of a request.
 fn request_kind(confirmable: bool) -> MessageType
     ensures { result ≡ spec.request_kind confirmable }
 {
@@ -297,6 +299,7 @@ fn request_kind(confirmable: bool) -> MessageType
     }
 }
 
+// Returns the code of a method.
 fn method_code(method: Method) -> Code
     ensures { result.byte ≡ fields.method_code method }
 {
@@ -308,7 +311,7 @@ fn method_code(method: Method) -> Code
     }
 }
 
-// Returns the maximum number of bytes of a body of `count` bytes in one request.
+// Returns the maximum number of bytes of a body in one request, if the body has `count` bytes.
 fn most_at_once(method: Method, count: usize) -> usize
     ensures { result ≡ spec.most_at_once method count }
 {
@@ -318,8 +321,8 @@ fn most_at_once(method: Method, count: usize) -> usize
     }
 }
 
-// Returns the room reserved for options with these values, at most 2^64 - 1: for each the value's
-// length and five bytes.
+// Returns the room in bytes reserved for options with these values: the length of each value and
+// five bytes more. The sum stops at 2^64 - 1.
 fn room_of(values: &[&[u8]]) -> usize
     ensures { result ≡ min (sum_by option_room (slices_in values.entry.now)) 18446744073709551615 }
 {
@@ -330,7 +333,8 @@ fn room_of(values: &[&[u8]]) -> usize
     room
 }
 
-// Builds the options of a request: the path, the body's format, the query, and a block.
+// Builds the list of a request's options: the path, the Content-Format if there is one, the query,
+// and the block option if there is one. Returns `AllocError` if memory can't be allocated.
 fn options_with<'a>(
     alloc: Global,
     target: &'a RequestTarget<'a>,
@@ -348,7 +352,8 @@ fn options_with<'a>(
     Ok(options)
 }
 
-// Adds the option if there is one.
+// Appends the option to `options` if there is one. Returns `AllocError` if memory can't be
+// allocated.
 fn push_option<'a>(
     options: &mut Vec<(u16, &'a [u8])>,
     option: &'a Option<(u16, UintBytes)>,
@@ -361,7 +366,8 @@ fn push_option<'a>(
     Ok(())
 }
 
-// Adds an option of this number for each value.
+// Appends an option with this number for each value. Returns `AllocError` if memory can't be
+// allocated.
 pub(crate) fn push_options<'a>(
     options: &mut Vec<(u16, &'a [u8])>,
     number: u16,

@@ -1,4 +1,4 @@
-//! Fetches: one request after the other, each after the previous response.
+//! Fetches: sequences of requests, each sent after the response to the one before.
 ghost use Rattle.std.specs.Prelude.{◌≡◌, ℕ, ◌+◌, ◌++◌, ◌%◌, [], IfErr, IfOk, OnOk, if◌then◌else◌, length};
 ghost use Rattle.coap_client.specs.Requests.{IsPartOf};
 ghost use Rattle.coap_client.specs.Replies.{begins_exchange};
@@ -19,7 +19,9 @@ use std::alloc::{AllocError, Global};
 use std::io;
 use thiserror::Error;
 
-/// Number of requests, greater than the number of blocks of a body and a response.
+/// Maximum number of requests of a fetch.
+///
+/// It is more than the number of blocks that a body and a response can have together.
 const REQUESTS: u32 = 1 << 22;
 
 /// The errors of a fetch and of an observer.
@@ -33,17 +35,21 @@ pub enum FetchFault {
     Rejected,
     /// The response doesn't match the request.
     ///
-    /// A success doesn't say that the server took the block of the body, or a success doesn't have
-    /// the requested block of the response. Or a response has an unknown critical option.
+    /// A success doesn't say that the server took the block of the body, or doesn't have the
+    /// requested block of the response. Or a response has an unknown or repeated critical option.
+    /// Or the fetch didn't end within 4,194,304 requests.
     #[error("the answer doesn't fit the block that was sent or asked for, or has a critical option that isn't known")]
     Malformed,
     /// The response changed during the fetch.
     ///
-    /// A further block is of another version than the blocks before it. That happened for the
-    /// second time, or for the first time and the method isn't GET.
+    /// A further block had another ETag than the blocks before it. That happened in both attempts
+    /// of a GET, or in the only attempt of another method.
     #[error("the answer changed while its blocks were fetched")]
     Changed,
-    /// A notification has more blocks, or an unknown critical option.
+    /// A notification can't be shown.
+    ///
+    /// It has an unknown or repeated critical option, or is neither whole nor the first block of a
+    /// state.
     #[error("what is observed has more than one block, or a critical option that isn't known")]
     Part,
     /// Sending or receiving failed.
@@ -81,33 +87,33 @@ pub struct Fetched {
     pub body: Vec<u8>,
 }
 
-/// The result of one attempt.
+/// The outcome of one attempt at a fetch.
 #[derive(Drop)]
 pub enum FetchOutcome {
-    /// The fetch has its response.
+    /// The attempt got the whole response.
     Ended(Fetched),
-    /// The response changed during the fetch.
+    /// The response changed during the attempt.
     ///
-    /// Has the message ID of the next request, and the message IDs of the separate responses so
-    /// far.
+    /// The values are the message ID of the next request, and the message IDs of the separate
+    /// responses so far.
     Outdated(u16, Vec<u16>),
-    /// A response doesn't match its request.
+    /// A response doesn't match the request.
     Malformed,
 }
 
 /// Fetches the response to the client request.
 ///
-/// The message IDs count up from `first_id`.
+/// The message IDs of the requests count up from `first_id`.
 ///
-/// A body that is too large for one request is sent in blocks. A larger response is requested in
-/// blocks, of 1,024 bytes or of the smaller size that the server names (RFC 7959).
+/// The body of a PUT is sent in blocks if it has more than 1,024 bytes. A response in several
+/// blocks is requested block by block (RFC 7959).
 ///
-/// A confirmable request is retransmitted if there is no response within 2 seconds, then 4, 8 and
-/// 16. The client gives up 32 seconds after the last transmission. Once the request is
+/// A confirmable request is retransmitted after 2, 4, 8 and 16 seconds without a response or an
+/// acknowledgement. The client gives up 32 seconds after the last transmission. Once the request is
 /// acknowledged, the client waits 93 seconds for the response. It waits 32 seconds for the response
 /// to a non-confirmable request.
 ///
-/// If the response to a GET changes during the fetch, the fetch starts again, once.
+/// If the response to a GET changes during the fetch, the fetch starts again. It does so only once.
 ///
 /// # Errors
 /// Returns the [`FetchFault`] that ended the fetch.
@@ -137,8 +143,9 @@ pub fn fetch<P: Peer>(
     }
 }
 
-// Makes one attempt at a fetch, from the first part on, for `fetch`. `earlier` are the message IDs
-// of the separate responses of an attempt before.
+// Makes one attempt at a fetch, from the first part on. `earlier` are the message IDs of the
+// separate responses of an attempt before, if there was one. Returns the outcome, or an error other
+// than `Changed`.
 fn fetch_once<P: Peer>(
     alloc: Global,
     peer: &mut P,
@@ -192,9 +199,9 @@ pub enum Step {
     GoesOn,
     /// The fetch ends with this code.
     Ended(Code),
-    /// The fetch ends: the response changed.
+    /// The attempt ends, since the response changed.
     Outdated,
-    /// The fetch ends: the response doesn't match its request.
+    /// The attempt ends, since the response doesn't match the request.
     Malformed,
 }
 
@@ -223,8 +230,9 @@ impl FetchState {
         }
     }
 
-    // Handles `message`, the response to the outstanding request, and returns its effect. Sets the
-    // next request, unless the fetch ends.
+    // Handles `message`, the response to the outstanding request, and returns the effect on the
+    // fetch. Unless the fetch ends, the next request is then outstanding. Returns `AllocError` if
+    // memory can't be allocated.
     fn handle(
         &mut self,
         client_request: &ClientRequest<'_>,
@@ -254,7 +262,8 @@ impl FetchState {
         }
     }
 
-    // Counts a response: increments the message ID, and records the ID of a separate response.
+    // Increments the message ID for the next request, and records the ID of a separate response.
+    // Returns `AllocError` if memory can't be allocated.
     fn count(&mut self, message: &Message<'_>) -> Result<(), AllocError>
         ensures id { OnOk result (self.new.id ≡ (self.old.id + 1) % 65536) }
         ensures earlier { OnOk result (self.new.earlier.items ≡ with_taken_id message.now self.old.earlier.items) }
@@ -267,8 +276,9 @@ impl FetchState {
         Ok(())
     }
 
-    // Sets the next request, that of `part`. Adds the payload of `message`, the response before it,
-    // if `part` is a further block of the response.
+    // Makes the request for `part` the outstanding one. If `part` is a further block of the
+    // response, appends the payload of `message`, the block before it, and records the ETag of
+    // `message`. Returns `AllocError` if memory can't be allocated.
     fn go_on(&mut self, part: Part, message: &Message<'_>) -> Result<(), AllocError>
         ensures after { OnOk result (going_on part self.old.body.items self.old.etag.items message.now
             ≡ Out self.new.part self.new.body.items self.new.etag.items) }

@@ -21,7 +21,7 @@ const CLIENT_ERROR: u8 = 4;
 
 const SERVER_ERROR: u8 = 5;
 
-/// Half of the sequence numbers, which have 24 bits (RFC 7641, section 3.4).
+/// Half of the number of 24-bit sequence numbers (RFC 7641, section 3.4).
 const HALF: u32 = 1 << 23;
 
 /// Age in milliseconds above which any other state is newer.
@@ -44,17 +44,18 @@ pub enum ObserveOption {
 /// The classification of a response to an observer.
 #[derive(Clone, Copy, PartialEq, Eq)]
 pub enum NotificationClass {
-    /// A state of the resource with this sequence number; more may follow.
+    /// A state of the resource with this sequence number; further states may follow.
     State(u32),
-    /// A state no newer than the one shown last, or a message shown already.
+    /// A state no newer than the last one shown, or a duplicate of a shown message.
     Older,
     /// The last response: an error, or a state without a sequence number.
     ///
-    /// The server of such a state doesn't notify (RFC 7641, sections 3.2 and 4.2).
+    /// After either, the server sends no further notification (RFC 7641, sections 3.2 and 4.2).
     Last,
     /// A response that can't be shown.
     ///
-    /// It has an unknown critical option, or it is neither whole nor the first block of a state.
+    /// It has an unknown or repeated critical option, or is neither whole nor the first block of a
+    /// state.
     Malformed,
 }
 
@@ -72,7 +73,7 @@ pub fn is_reply_with(token: &[u8], id: u16, message: &Message<'_>) -> bool
 
 /// Returns whether `message` is a separate response with the token `token`.
 ///
-/// It is confirmable or non-confirmable (RFC 7641, section 3.2).
+/// A separate response is confirmable or non-confirmable (RFC 7641, section 3.2).
 pub fn is_notification(token: &[u8], message: &Message<'_>) -> bool
     ensures { IsTrue result ↔ IsOwnResponse token.now message.now }
 {
@@ -88,7 +89,7 @@ fn is_response(code: Code) -> bool
 
 /// Returns whether the second state is newer than the first.
 ///
-/// Each has a sequence number and a time of arrival in milliseconds (RFC 7641, section 3.4).
+/// Each state has a sequence number and a time of arrival in milliseconds (RFC 7641, section 3.4).
 pub fn is_newer(first: u32, first_at: u64, second: u32, second_at: u64) -> bool
     ensures { result ≡ spec.is_newer first first_at second second_at }
 {
@@ -97,7 +98,7 @@ pub fn is_newer(first: u32, first_at: u64, second: u32, second_at: u64) -> bool
         || second_at.saturating_sub(first_at) > OLD
 }
 
-/// Classifies a response to an observer, regardless of earlier ones.
+/// Classifies a response to an observer, regardless of earlier responses.
 ///
 /// The class is never `Older`: [`Observation::notice_of`](crate::Observation::notice_of) compares
 /// the response with earlier ones.
@@ -118,32 +119,34 @@ pub fn notice_of(message: &Message<'_>) -> NotificationClass
 
 /// Returns whether a response is the first of several blocks of a state.
 ///
-/// It is a success with a sequence number. Its other blocks are requested without Observe
-/// (RFC 7959, section 2.6).
+/// Such a response is a success with a sequence number. The other blocks are requested without
+/// Observe (RFC 7959, section 2.6).
 pub fn begins_state(message: &Message<'_>) -> bool
     ensures { result ≡ spec.begins_state message.now }
 {
     begins_blocks(message) && sequence_of(message).is_some()
 }
 
-// Returns whether a response is whole, or begins a state.
+// Returns whether a response can be shown: it has no unknown or repeated critical option, and is
+// whole or begins a state.
 fn can_be_shown(message: &Message<'_>) -> bool
     ensures { result ≡ spec.can_be_shown message.now }
 {
     (is_understood(message) && is_whole(message)) || begins_state(message)
 }
 
-/// Returns whether a response is a success of several blocks, without a sequence number.
+/// Returns whether a response begins several blocks without a sequence number.
 ///
-/// An Observe of more than three bytes counts as none. The server that sent the response doesn't
-/// notify of changes, or has no place for another observer (RFC 7641, section 4.1).
+/// Such a response is a success. A value of Observe with more than three bytes counts as no
+/// sequence number. The server doesn't notify of changes, or has no place for another observer (RFC
+/// 7641, section 4.1).
 pub fn is_unobserved(message: &Message<'_>) -> bool
     ensures { result ≡ spec.is_unobserved message.now }
 {
     begins_blocks(message) && sequence_of(message).is_none()
 }
 
-// Returns whether a response is a success that is the first of several blocks.
+// Returns whether a response is a success and the first of several blocks.
 fn begins_blocks(message: &Message<'_>) -> bool
     ensures { result ≡ spec.begins_blocks message.now }
 {
@@ -152,7 +155,8 @@ fn begins_blocks(message: &Message<'_>) -> bool
         && message.code().class() == SUCCESS
 }
 
-// Returns the sequence number of a state, or `None` if Observe is absent or has more than 3 bytes.
+// Returns the sequence number of a state. Returns `None` if the message has no Observe, or if the
+// value of Observe has more than 3 bytes.
 fn sequence_of(message: &Message<'_>) -> Option<u32>
     ensures { result ≡ spec.sequence_of message.now }
 {
@@ -171,7 +175,7 @@ fn decode(value: &[u8]) -> u32
 }
 
 // Returns whether a response is whole: it has no Block2, or a Block2 that names the first block and
-// says that no more follow.
+// says that no block follows.
 fn is_whole(message: &Message<'_>) -> bool
     ensures { result ≡ spec.is_last_part (replies.next_of_answer 0 6 message.now) }
 {

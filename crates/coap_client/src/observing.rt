@@ -38,7 +38,7 @@ pub const TOKEN: usize = 4;
 
 /// An observer of a resource.
 ///
-/// It has the client request that names the resource, the token that identifies its notifications,
+/// It has the client request that names the resource, the token that identifies the notifications,
 /// and the message ID of the registration. The deregistration has the next message ID.
 #[derive(Clone, Copy)]
 pub struct Observer<'a> {
@@ -47,20 +47,19 @@ pub struct Observer<'a> {
     pub id: u16,
 }
 
-/// A received notification.
+/// A received notification, at the start of a buffer.
 ///
-/// It has its length in bytes, from the start of the buffer, and its time of arrival in
-/// milliseconds.
+/// `count` is its length in bytes, and `time` is the time of its arrival in milliseconds.
 #[derive(Clone, Copy, PartialEq, Eq)]
 pub struct DatedMessage {
     pub count: usize,
     pub time: u64,
 }
 
-/// A notification to show.
+/// A notification that is to be shown, at the start of a buffer.
 ///
-/// It has its length in bytes, from the start of the buffer, its time of arrival in milliseconds,
-/// and whether it is the last.
+/// `count` is its length in bytes, and `time` is the time of its arrival in milliseconds. `last`
+/// says whether it is the last notification.
 #[derive(Clone, Copy, PartialEq, Eq)]
 pub struct NotedMessage {
     pub count: usize,
@@ -72,10 +71,10 @@ impl<'a> Observer<'a> {
     /// Registers the observer, and returns the length of the response in bytes.
     ///
     /// Sends a confirmable GET with Observe 0, and retransmits it as a fetch does. The response is
-    /// at the start of `buffer`. A confirmable response is acknowledged.
+    /// written to the start of `buffer`. A confirmable response is acknowledged.
     ///
     /// # Errors
-    /// Returns an error if there is no response, if the request is rejected, or if sending,
+    /// Returns an error if no response arrives, if the request is rejected, or if sending,
     /// receiving or allocating memory fails.
     pub fn register<P: Peer>(
         &self,
@@ -105,14 +104,14 @@ impl<'a> Observer<'a> {
         Ok(count)
     }
 
-    // Sends a request, and waits for its response or a notification. Retransmits the request until
-    // one of them arrives, the request is acknowledged, or the last wait ends.
+    // Sends the request `datagram`, and waits for a response to it or for a notification.
+    // Retransmits the request until one of them arrives, the request is acknowledged, or the last
+    // wait ends.
     //
-    // It is for `register` and `ask_block`, which acknowledge the message that arrived. The request
-    // has the token `own` and the message ID `id`; notifications have the observer's token. In a
-    // registration the two tokens are the same. Returns the length of the message, which is at the
-    // start of `buffer`, or `None` if neither arrived. After a Reset message for the request,
-    // returns `FetchFault::Rejected`.
+    // The request has the token `own` and the message ID `id`; notifications have the observer's
+    // token. Writes the response or the notification to the start of `buffer`, and returns its
+    // length in bytes. The caller has to acknowledge it. Returns `None` if neither arrives, and
+    // `FetchFault::Rejected` after a Reset message for the request.
     fn ask<P: Peer>(
         &self,
         own: &[u8],
@@ -142,8 +141,9 @@ impl<'a> Observer<'a> {
         Ok(None)
     }
 
-    // Waits for the response to an acknowledged request, or for a notification. Returns `None` if
-    // neither arrives.
+    // Waits for the response to an acknowledged request, or for a notification. Returns the length
+    // of the one that arrives, or `None` if neither arrives. Returns `FetchFault::Rejected` if the
+    // request is rejected.
     fn await_answer<P: Peer>(
         &self,
         own: &[u8],
@@ -164,9 +164,10 @@ impl<'a> Observer<'a> {
         }
     }
 
-    // Receives datagrams until one ends the wait or the wait is over; skips the others. `awaited`
-    // says whether the request was acknowledged; if it was, another acknowledgement is skipped.
-    // Returns `FetchFault::Rejected` if the request is rejected.
+    // Receives datagrams until one ends the wait or the wait is over; other datagrams are skipped.
+    // `awaited` says whether the request was acknowledged; if it was, another acknowledgement is
+    // skipped. Returns `Answer` for a response or a notification, `Acknowledged`, or `Nothing` if
+    // the wait is over. Returns `FetchFault::Rejected` if the request is rejected.
     fn listen<P: Peer>(
         &self,
         own: &[u8],
@@ -198,10 +199,10 @@ impl<'a> Observer<'a> {
 
     /// Requests a block of the observed resource, for [`Observation::complete`].
     ///
-    /// Sends a confirmable GET without Observe, and retransmits it as a fetch does. The response,
-    /// or a notification that arrives before it, is at the start of `buffer`. Whichever of the two
-    /// it is, it is acknowledged if it is confirmable. Returns its length in bytes, or `None` if
-    /// neither arrives.
+    /// Sends a confirmable GET without Observe, and retransmits it as a fetch does. Writes the
+    /// response, or a notification that arrives before the response, to the start of `buffer`. That
+    /// message is acknowledged if it is confirmable. Returns the message's length in bytes, or
+    /// `None` if neither arrives.
     ///
     /// # Errors
     /// Returns an error if the request is rejected, or if sending, receiving or allocating memory
@@ -236,10 +237,10 @@ impl<'a> Observer<'a> {
     /// Deregisters the observer.
     ///
     /// Sends a confirmable GET with Observe 1 until it is acknowledged. Confirmable notifications
-    /// that arrive in the meantime are acknowledged, and not shown.
+    /// that arrive before that are acknowledged, and not shown.
     ///
     /// # Errors
-    /// Returns an error if there is no acknowledgement, if the request is rejected, or if sending,
+    /// Returns an error if no acknowledgement arrives, if the request is rejected, or if sending,
     /// receiving or allocating memory fails.
     pub fn deregister<P: Peer>(
         &self,
@@ -276,11 +277,11 @@ impl<'a> Observer<'a> {
 
     /// Deregisters with the request from [`Observer::deregistration`].
     ///
-    /// It does the same as [`Observer::deregister`], and needs no memory.
+    /// It does the same as [`Observer::deregister`], but allocates no memory.
     ///
     /// # Errors
-    /// Returns an error if there is no acknowledgement, if the request is rejected, or if sending
-    /// or receiving fails. In each case the peer was called to send the request.
+    /// Returns an error if no acknowledgement arrives, if the request is rejected, or if sending or
+    /// receiving fails. With or without an error, the peer was called to send the request.
     pub fn deregister_by<P: Peer>(
         &self,
         peer: &mut P,
@@ -305,15 +306,16 @@ impl<'a> Observer<'a> {
 }
 
 impl Observation {
-    /// Waits for the next notification to show, and records a state as shown.
+    /// Waits until a notification arrives that is to be shown, and returns it.
     ///
-    /// Notifications have the token `token`. The notification to show is at the start of `buffer`.
-    /// Skips older notifications and duplicates. A confirmable notification is acknowledged,
-    /// whether it is shown or not. Returns `None` if the wait is over.
+    /// Notifications have the token `token`. Older notifications and duplicates are skipped. Each
+    /// confirmable notification is acknowledged. The notification to be shown is written to the
+    /// start of `buffer`. If it is a state, the observation records it as shown. Returns `None`,
+    /// and changes nothing in the observation, if the wait is over.
     ///
     /// # Errors
-    /// Returns an error if a notification can't be shown, or if sending, receiving or allocating
-    /// memory fails.
+    /// Returns `Part` if a notification can't be shown, or another error if sending, receiving,
+    /// reading the clock or allocating memory fails.
     pub fn next<P: Peer>(
         &mut self,
         peer: &mut P,
@@ -358,8 +360,9 @@ impl Observation {
     }
 }
 
-// Receives the next notification during a wait, for `Observation::next`. Acknowledges it if it is
-// confirmable, and then reads the clock. Returns `None` if the wait is over.
+// Receives the next notification during a wait, and skips other datagrams. Acknowledges the
+// notification if it is confirmable, and then reads the clock. The notification is at the start of
+// `buffer`. Returns its length and the time, or `None` if the wait is over.
 fn handle<P: Peer>(
     peer: &mut P,
     token: &[u8],
@@ -406,7 +409,8 @@ fn handle_datagram(token: &[u8], own: &[u8], id: u16, bytes: &[u8]) -> ReplyClas
     }
 }
 
-// Classifies a message, as `handle_datagram` does. A notification counts as `Reply`.
+// Classifies a message during the wait of `Observer::ask`. A response and a notification are
+// `Reply`.
 fn handle_message(token: &[u8], own: &[u8], id: u16, message: &Message<'_>) -> ReplyClass
     ensures { IsToldAs token.now own.now id message.now result }
 {
@@ -424,10 +428,10 @@ fn handle_message(token: &[u8], own: &[u8], id: u16, message: &Message<'_>) -> R
     }
 }
 
-// Waits for the acknowledgement of the deregistration with this message ID, with or without a
-// response. Returns `false` if the wait is over, and `FetchFault::Rejected` after a Reset message.
-// Confirmable notifications with the token are acknowledged: otherwise the server would retransmit
-// them (RFC 7641, section 3.5).
+// Waits for an acknowledgement of the deregistration with this message ID, with or without a
+// response. Returns `true` if one arrives, and `false` if the wait is over. Returns
+// `FetchFault::Rejected` after a Reset message. Confirmable notifications with the token are
+// acknowledged, since the server would otherwise retransmit them (RFC 7641, section 3.5).
 fn is_acknowledged<P: Peer>(
     peer: &mut P,
     token: &[u8],
@@ -492,8 +496,8 @@ pub(crate) fn tells_reset(id: u16, bytes: &[u8]) -> bool
     }
 }
 
-// Writes the registration or the deregistration: a GET of the client request's resource with
-// Observe. It replaces the contents of `datagram`.
+// Writes the registration or the deregistration over `datagram`: a GET of the client request's
+// resource with Observe. Returns `AllocError` if memory can't be allocated.
 fn write_request(
     alloc: Global,
     client_request: &ClientRequest<'_>,
@@ -519,7 +523,7 @@ fn write_request(
     Ok(())
 }
 
-// Returns the value of Observe (RFC 7641, section 2).
+// Returns the value of the Observe option: 0 to register, 1 to deregister (RFC 7641, section 2).
 fn value_of(interest: ObserveOption) -> UintBytes
     ensures { result.items ≡ uint_bytes (observe_value interest) }
 {
@@ -529,7 +533,8 @@ fn value_of(interest: ObserveOption) -> UintBytes
     })
 }
 
-// Builds the options: Observe with this value, and those that name a client request's resource.
+// Builds the list of options: Observe with this value, and the options that name the client
+// request's resource. Returns `AllocError` if memory can't be allocated.
 fn options_of<'a>(
     alloc: Global,
     client_request: &'a ClientRequest<'a>,

@@ -2,7 +2,7 @@
 
 /// The part of a fetch that one request carries or requests.
 ///
-/// A block is named by its number and its size. The size is the exponent less 4 (RFC 7959, section
+/// A block has a number and a size. `szx` is the exponent of the size, less 4 (RFC 7959, section
 /// 2.2).
 #[derive(Clone, Copy, PartialEq, Eq)]
 pub enum Part {

@@ -1,4 +1,4 @@
-//! Paths of resources, parsed from the text of a client's target.
+//! Paths of resources, which a client parses from text.
 ghost use Rattle.std.specs.Prelude.{◌≡◌, ◌∷◌, ◌<◌, ◌≤◌, IfErr, IfOk, MatchOption, length};
 ghost use Rattle.std.specs.List.{All};
 ghost use Rattle.coap_client.specs.Paths.{HasNoSlash, IsFirstSegment, IsSlashed, IsSegment, slices_in, slash};
@@ -42,7 +42,7 @@ impl<'a> Path<'a> {
     /// The empty text is the path without segments.
     ///
     /// # Errors
-    /// Returns [`PathError`] if the text isn't a path, or if memory can't be allocated for its
+    /// Returns [`PathError`] if the text isn't a path, or if memory can't be allocated for the
     /// segments.
     pub fn parse(alloc: Global, text: &'a [u8]) -> Result<Path<'a>, PathError>
         ensures path { IfOk result (λ p. IsSlashed text.entry.now (slices_in p.segments.items)) }
@@ -82,7 +82,7 @@ fn fault_of(segment: &[u8], number: usize) -> Option<PathError>
     }
 }
 
-// Returns the text after its first byte if that is a slash, or `None` if it isn't.
+// Returns the text after its first byte if that byte is a slash, and else `None`.
 fn after_slash(text: &[u8]) -> Option<&[u8]>
     ensures { MatchOption result (HasNoSlash text.now) (λ after. text.now ≡ slash ∷ after.now) }
 {
@@ -92,7 +92,7 @@ fn after_slash(text: &[u8]) -> Option<&[u8]>
     }
 }
 
-// Splits the text before its first slash; without a slash, the rest is empty.
+// Splits the text before its first slash. Without a slash, the second part is empty.
 fn first_segment(text: &[u8]) -> (&[u8], &[u8])
     ensures { IsFirstSegment text.now result.0.now result.1.now }
 {

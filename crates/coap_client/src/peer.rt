@@ -16,22 +16,22 @@ pub type Buffer = [u8; BUFFER];
 
 /// The server, as seen by a client.
 pub trait Peer {
-    // The datagrams passed to the peer: true of a datagram if it was sent.
+    // A property of all datagrams that were sent.
     ghost went: { List ℕ → Type 0 } = { λ _. ⊤ };
 
-    // The datagrams that the peer was called to send.
+    // A property of all datagrams that the peer was called to send, whether it sent them or not.
     ghost tried: { List ℕ → Type 0 } = { λ _. ⊤ };
 
-    // The datagrams that the peer received.
+    // A property of all datagrams that the peer received.
     ghost came: { List ℕ → Type 0 } = { λ _. ⊤ };
 
-    // The calls on the peer, newest first: true of a list if the calls are that list.
+    // A property of a list of calls: these are the calls on the peer so far, the newest first.
     ghost called: { Self → List PeerCall → Type 0 } = { λ peer calls. ⊤ };
 
-    // The times that the peer returned.
+    // A property of all times that the peer returned.
     ghost is_time: { ℕ → Type 0 } = { λ _. ⊤ };
 
-    // The errors that the peer returned.
+    // A property of all errors that the peer returned.
     ghost is_error: { PeerError → Type 0 } = { λ _. ⊤ };
 
     /// Sends a datagram to the server.
@@ -52,7 +52,7 @@ pub trait Peer {
         ensures called { OnOk result (Adds (called self.old) (called self.new) (Waits seconds ∷ [])) }
         ensures error { IfErr result is_error };
 
-    /// Reads the clock: returns the milliseconds since some start.
+    /// Reads the clock, and returns the milliseconds since some start.
     ///
     /// # Errors
     /// Returns an error if there is no clock.
@@ -63,11 +63,11 @@ pub trait Peer {
 
     /// Receives the next datagram, and returns its length in bytes.
     ///
-    /// The datagram is from the server and is at the start of `buffer`. One that fills the buffer
-    /// may be truncated, and is skipped. Returns `None` if the wait is over.
+    /// The datagram is from the server, and is written to the start of `buffer`. A datagram that
+    /// fills the buffer may be truncated, so it is skipped. Returns `None` if the wait is over.
     ///
     /// # Errors
-    /// Returns an error if nothing can be received.
+    /// Returns an error if receiving fails.
     fn receive(&mut self, buffer: &mut Buffer) -> io::Result<Option<usize>>
         ensures came { IfOk result (λ r. IfSome r (λ count. (count ≤ length buffer.new) × came (take count buffer.new))) }
         ensures whole { IfOk result (λ r. IfSome r (λ count. count < length buffer.new)) }

@@ -1,6 +1,4 @@
-//! Pings: a check that a server responds, without a request.
-//!
-//! The ping is that of RFC 7252, section 4.3.
+//! Pings: checks that a server responds, without a request (RFC 7252, section 4.3).
 ghost use Rattle.std.specs.Prelude.{◌≡◌, IfErr, IfOk, OnErr, OnOk};
 ghost use Rattle.std.specs.Bool.{OnTrue};
 ghost use Rattle.coap_client.specs.Faults.{IsOfPeer};
@@ -13,13 +11,13 @@ use crate::peer::{BUFFER, Buffer, Peer};
 use crate::transmission::{SENDINGS, ack_timeout, send};
 use coap_msg::{Code, Datagram, MessageType, Outgoing, write};
 
-/// Pings the server with an empty confirmable message of this message ID.
+/// Pings the server with an empty confirmable message with the message ID `id`.
 ///
-/// Retransmits it as a confirmable request, until a Reset message with that ID arrives.
+/// Retransmits the message like a confirmable request, until a Reset message with that ID arrives.
 ///
 /// # Errors
-/// Returns [`FetchFault::Silence`] if no such message arrived, or the error if sending or receiving
-/// failed.
+/// Returns [`FetchFault::Silence`] if no such Reset message arrives, or [`FetchFault::Socket`] if
+/// sending or receiving fails.
 pub fn ping<P: Peer>(peer: &mut P, id: u16) -> Result<(), FetchFault>
     ensures pong { OnOk result (HasPong P.went P.came id) }
     ensures called { OnOk result (MakesCalls (P.called peer.old) (P.called peer.new) (IsPinged id)) }
@@ -36,7 +34,8 @@ pub fn ping<P: Peer>(peer: &mut P, id: u16) -> Result<(), FetchFault>
     Err(FetchFault::Silence)
 }
 
-// Waits for the Reset message with this message ID; returns `false` if the wait is over.
+// Waits for the Reset message with this message ID. Returns `true` if it arrives, and `false` if
+// the wait is over. Other datagrams are skipped.
 fn is_rejected<P: Peer>(peer: &mut P, id: u16, buffer: &mut Buffer) -> Result<bool, FetchFault>
     ensures pong { IfOk result (λ is. OnTrue is (CamePong P.came id)) }
     ensures called { IfOk result (λ is. MakesCalls (P.called peer.old) (P.called peer.new) (IsOverUnlessPong id is)) }
@@ -53,7 +52,7 @@ fn is_rejected<P: Peer>(peer: &mut P, id: u16, buffer: &mut Buffer) -> Result<bo
     Ok(false)
 }
 
-// Writes the empty confirmable message with the message ID `id`.
+// Returns the datagram of the empty confirmable message with the message ID `id`.
 fn write_ping(id: u16) -> Datagram
     ensures { result.items ≡ ping_bytes id }
 {

@@ -23,27 +23,27 @@ const CLIENT_ERROR: u8 = 4;
 /// Class of the server error codes (RFC 7252, section 5.9.3).
 const SERVER_ERROR: u8 = 5;
 
-/// Number of block numbers.
+/// Number of possible block numbers, which have 20 bits (RFC 7959, section 2.2).
 const BLOCKS: u32 = 1 << 20;
 
 /// Maximum length of a block option's value, in bytes (RFC 7959, section 2.2).
 const BLOCK_VALUE: usize = 3;
 
-/// The next step after the response to a part.
+/// The next step of a fetch after the response to the request for a part.
 #[derive(Clone, Copy, PartialEq, Eq)]
 pub enum Next {
-    /// The request of this part.
+    /// A request for this part follows.
     ///
-    /// The response to a block of the body adds nothing to the result. The response to another part
-    /// adds a block.
+    /// If the part is a further block of the response, the payload of the response just received is
+    /// appended to the result. If it is a block of the body, nothing is appended.
     Ask(Part),
-    /// The end: this response has the last bytes.
+    /// The fetch ends, and this response has the last bytes of the result.
     Last,
-    /// The end: the code isn't a success, and this response is the result.
+    /// The fetch ends, since the code isn't a success. This response is the result.
     Refused,
-    /// The block is of another version than the blocks before it.
+    /// The response's block has another ETag than the blocks before it.
     Stale,
-    /// The response doesn't match the part.
+    /// The response doesn't match the request for the part.
     Malformed,
 }
 
@@ -56,9 +56,9 @@ pub fn is_reply(id: u16, message: &Message<'_>) -> bool
     message.kind() == MessageType::Acknowledgement && message.id() == id && is_response(message)
 }
 
-/// Returns whether `message` acknowledges a request without answering it.
+/// Returns whether `message` is an empty acknowledgement of a request.
 ///
-/// The request has this message ID. A separate response is to follow.
+/// The request has this message ID. A separate response may follow (RFC 7252, section 5.2.2).
 pub fn is_empty_acknowledgement(id: u16, message: &Message<'_>) -> bool
     ensures { IsTrue result ↔ IsEmptyAcknowledgement id message.now }
 {
@@ -69,7 +69,7 @@ pub fn is_empty_acknowledgement(id: u16, message: &Message<'_>) -> bool
 
 /// Returns whether `message` is a separate response without a token.
 ///
-/// It is confirmable or non-confirmable (RFC 7252, section 5.2.2).
+/// A separate response is confirmable or non-confirmable (RFC 7252, section 5.2.2).
 pub fn is_separate(message: &Message<'_>) -> bool
     ensures { IsTrue result ↔ IsSeparate message.now }
 {
@@ -89,7 +89,7 @@ fn is_response(message: &Message<'_>) -> bool
 
 /// Returns whether messages of this type begin an exchange.
 ///
-/// These are the confirmable and the non-confirmable messages.
+/// The result is `true` for confirmable and non-confirmable messages.
 pub fn begins_exchange(kind: MessageType) -> bool
     ensures { result ≡ spec.begins_exchange kind }
 {
@@ -108,9 +108,9 @@ pub fn is_reset(id: u16, message: &Message<'_>) -> bool
     message.kind() == MessageType::Reset && message.id() == id && message.code() == Code::EMPTY
 }
 
-/// Returns the next step of a fetch after the response to a part.
+/// Returns the next step of a fetch after a response.
 ///
-/// `message` is the response to the request of `part`, and `etag` the ETag of the response's blocks
+/// `message` is the response to the request for `part`. `etag` is the ETag of the response's blocks
 /// so far.
 pub fn next_of(
     client_request: &ClientRequest<'_>,
@@ -140,8 +140,8 @@ pub fn next_of(
     }
 }
 
-// Returns the next step of a joining after the response to a request for a further block. `etag` is
-// the ETag of the blocks before it.
+// Returns the next step after the response to a request for a further block, if the blocks of a
+// state are joined. `etag` is the ETag of the blocks before it.
 pub(crate) fn next_of_block(number: u32, szx: u8, etag: &[u8], message: &Message<'_>) -> Next
     requires { IsBlock number szx }
     ensures next { result ≡ spec.next_of 0 (Answer number szx) etag.now message.now }
@@ -156,9 +156,9 @@ pub(crate) fn next_of_block(number: u32, szx: u8, etag: &[u8], message: &Message
     }
 }
 
-/// Returns the ETag of a response; empty if there is none.
+/// Returns the first ETag of a response, or no bytes if it has none.
 ///
-/// The option is that of RFC 7252, section 5.10.6.
+/// See RFC 7252, section 5.10.6.
 pub fn etag_of<'a>(message: &Message<'a>) -> &'a [u8]
     ensures { result.now ≡ spec.etag_of message.now }
 {
@@ -168,7 +168,7 @@ pub fn etag_of<'a>(message: &Message<'a>) -> &'a [u8]
     }
 }
 
-// Returns whether no critical option is unknown, and neither Block1 nor Block2 is repeated.
+// Returns whether a message has no unknown critical option, and at most one Block1 and one Block2.
 pub(crate) fn is_understood(message: &Message<'_>) -> bool
     ensures { result ≡ spec.is_understood message.now }
 {
@@ -187,7 +187,7 @@ fn are_known(message: &Message<'_>) -> bool
     true
 }
 
-// Returns whether an option is elective, or a critical one that the client knows.
+// Returns whether the option with this number is elective, or critical and known to the client.
 fn is_known_option(number: u16) -> bool
     ensures { result ≡ spec.is_known_option number }
 {
@@ -202,15 +202,17 @@ fn is_single(number: u16, message: &Message<'_>) -> bool
     values.next().is_none() || values.next().is_none()
 }
 
-// Returns whether a response is 2.31 (Continue): the server took the body so far and expects more.
+// Returns whether a response has the code 2.31 (Continue): the server took the block and expects
+// more blocks.
 fn is_continue(message: &Message<'_>) -> bool
     ensures { result ≡ spec.is_continue message.now }
 {
     message.code() == Code::CONTINUE
 }
 
-// Returns the size exponent for the rest of the body, after a success that answers a block of the
-// body other than the last. `None` if the response doesn't say that the server took this block.
+// Returns the size exponent for the rest of the body, after a success in response to a block of the
+// body other than the last. Returns `None` if the response doesn't say that the server took that
+// block.
 fn next_size(number: u32, szx: u8, message: &Message<'_>) -> Option<u8>
     ensures size { result ≡ spec.next_size number szx (spec.is_continue message.now) (spec.block1_of message.now) }
     ensures smaller { IfSome result (λ smaller. smaller ≤ szx) }
@@ -232,8 +234,8 @@ fn size_by_block(number: u32, szx: u8, block: Block) -> Option<u8>
     (block.number() == number && block.szx() <= szx).then_some(block.szx())
 }
 
-// Returns the next block of the body, in a size that is no greater. Returns `Next::Malformed` if no
-// block can have its number.
+// Returns the request for the next block of the body, with the size exponent `smaller`. Returns
+// `Next::Malformed` if the next block's number would have more than 20 bits.
 fn next_of_body(number: u32, szx: u8, smaller: u8) -> Next
     requires block { IsBlock number szx }
     requires smaller { smaller ≤ szx }
@@ -250,8 +252,9 @@ fn next_of_body(number: u32, szx: u8, smaller: u8) -> Next
     }
 }
 
-// Returns the next step after a success that answers the whole body or its last block, of this
-// number.
+// Returns the next step after a success in response to the whole body, or to its last block with
+// this number. Returns `Next::Malformed` if the success is 2.31 or its Block1 isn't the last
+// block's.
 fn next_of_whole(number: u32, message: &Message<'_>) -> Next
     ensures { result ≡ spec.next_of_whole number message.now }
 {
@@ -262,8 +265,8 @@ fn next_of_whole(number: u32, message: &Message<'_>) -> Next
     }
 }
 
-// Returns whether Block1, if there is one, names this block and says that the server has the whole
-// body.
+// Returns whether a Block1 names this block and says that no block follows. Returns `true` if there
+// is no Block1.
 fn says_last(number: u32, message: &Message<'_>) -> bool
     ensures { result ≡ spec.says_last number (spec.block1_of message.now) }
 {
@@ -280,8 +283,9 @@ fn names_last(number: u32, block: Block) -> bool
     block.number() == number && !block.more()
 }
 
-// Returns the next step after a success that answers a request for a further block of the response.
-// Returns `Next::Stale` if the block has another ETag than `etag`, that of the blocks before it.
+// Returns the next step after a success in response to a request for a further block. Returns
+// `Next::Stale` if the block has another ETag than `etag`, that of the blocks before it. Returns
+// `Next::Malformed` if the code is 2.31.
 fn next_of_further(number: u32, szx: u8, etag: &[u8], message: &Message<'_>) -> Next
     requires { IsBlock number szx }
     ensures { result ≡ spec.next_of_further number szx etag.now message.now }
@@ -295,8 +299,8 @@ fn next_of_further(number: u32, szx: u8, etag: &[u8], message: &Message<'_>) -> 
     next_of_answer(number, szx, message)
 }
 
-// Returns the next step after a success that answers a request for this block. A success without
-// Block2 answers the first block alone, and is the last.
+// Returns the next step after a success in response to a request for this block. A success without
+// Block2 is whole if block 0 was requested, and else malformed.
 pub(crate) fn next_of_answer(number: u32, szx: u8, message: &Message<'_>) -> Next
     requires { IsBlock number szx }
     ensures next { result ≡ spec.next_of_answer number szx message.now }
@@ -316,7 +320,7 @@ pub(crate) fn next_of_answer(number: u32, szx: u8, message: &Message<'_>) -> Nex
     }
 }
 
-// Returns whether a block begins at the start of the requested block, and is no larger.
+// Returns whether a block begins at the start of the requested block, and isn't larger than that.
 fn fits_place(number: u32, szx: u8, block: Block) -> bool
     requires { IsBlock number szx }
     ensures { result ≡ spec.fits_place number szx block }
@@ -326,7 +330,8 @@ fn fits_place(number: u32, szx: u8, block: Block) -> bool
         && block.size() * block.number() as usize == asked.size() * asked.number() as usize
 }
 
-// Returns the next step after this block of the response, whose payload has `count` bytes.
+// Returns the next step after this block of the response, whose payload has `count` bytes. Returns
+// `Next::Malformed` if `count` doesn't match the block size, or if no block number is left.
 fn after_block(count: usize, block: Block) -> Next
     ensures { result ≡ spec.by_more block count }
 {

@@ -1,6 +1,6 @@
-//! Transmission: sends a request until it has a response or an acknowledgement.
+//! The transmission of a request until a response or an acknowledgement arrives.
 //!
-//! [`ask`] does so for a fetch. Observers and pings use the steps of [`ask`].
+//! [`ask`] is for a fetch. Observers and pings use the functions that [`ask`] calls.
 ghost use Rattle.std.specs.Prelude.{◌≡◌, ◌<◌, ◌≤◌, [], ◌∷◌, IfErr, IfOk, IfSome, OnOk, false, length, take, true};
 ghost use Rattle.coap_msg.specs.Wire.{message_bytes};
 ghost use Rattle.coap_msg.specs.Reading.{reading_of};
@@ -51,7 +51,7 @@ pub struct SentRequest<'a> {
 /// The classification of a datagram with respect to the outstanding request.
 #[derive(Clone, Copy, PartialEq, Eq)]
 pub enum ReplyClass {
-    /// The response, piggybacked or identified by its token.
+    /// The response to the request, piggybacked or identified by its token.
     Reply,
     /// A separate response, without a token.
     Separate,
@@ -68,17 +68,17 @@ pub enum ReplyClass {
 /// The outcome of a wait.
 #[derive(Clone, Copy, PartialEq, Eq)]
 pub enum WaitOutcome {
-    /// A response of this length in bytes.
+    /// A response arrived, of this length in bytes.
     Answer(usize),
-    /// An acknowledgement without a response.
+    /// An acknowledgement without a response arrived.
     Acknowledged,
-    /// Neither of these.
+    /// Neither arrived.
     Nothing,
 }
 
-/// Returns the wait for a response after `sendings` other transmissions.
+/// Returns the wait in seconds after a transmission that follows `sendings` others.
 ///
-/// In seconds; it doubles each time (RFC 7252, section 4.2, without the random part).
+/// Each wait is twice the wait before (RFC 7252, section 4.2, without the random part).
 pub(crate) fn ack_timeout(sendings: u32) -> u64
     requires { sendings < most_sendings }
     ensures { result ≡ ack_timeout sendings }
@@ -86,11 +86,11 @@ pub(crate) fn ack_timeout(sendings: u32) -> u64
     ACK_TIMEOUT << sendings
 }
 
-/// Sends a request of a fetch, and returns the length of its response in bytes.
+/// Sends a request of a fetch, and returns the length of the response in bytes.
 ///
-/// Retransmits a confirmable request if it has no response or acknowledgement in time. The response
-/// is at the start of `buffer`. Returns `None` if there is no response, not even to the last
-/// transmission. A confirmable response is acknowledged.
+/// Retransmits a confirmable request if no response and no acknowledgement arrives in time. The
+/// response is written to the start of `buffer`. A confirmable response is acknowledged. Returns
+/// `None` if no response arrives until the last wait is over.
 ///
 /// # Errors
 /// Returns an error if the request is rejected, or if sending or receiving fails.
@@ -113,8 +113,9 @@ pub fn ask<P: Peer>(
     Ok(Some(count))
 }
 
-// Sends a confirmable or a non-confirmable request, and waits for its response, as `ask` does, but
-// doesn't acknowledge the response.
+// Sends a confirmable or a non-confirmable request, and waits for the response. Unlike `ask`, it
+// doesn't acknowledge the response. Returns the length of the response in bytes, or `None` if none
+// arrives. Returns `FetchFault::Rejected` after a Reset message.
 fn transmit<P: Peer>(
     peer: &mut P,
     request: &SentRequest<'_>,
@@ -134,7 +135,8 @@ fn transmit<P: Peer>(
     }
 }
 
-// Sends a confirmable request, up to five times, and waits for its response.
+// Sends a confirmable request up to five times, and waits for the response. Returns the length of
+// the response in bytes, or `None` if none arrives.
 fn ask_again<P: Peer>(
     peer: &mut P,
     request: &SentRequest<'_>,
@@ -161,7 +163,8 @@ fn ask_again<P: Peer>(
     Ok(None)
 }
 
-// Sends a non-confirmable request, once, and waits for its response.
+// Sends a non-confirmable request once, and waits for the response. Returns the length of the
+// response in bytes, or `None` if none arrives.
 fn ask_once<P: Peer>(
     peer: &mut P,
     request: &SentRequest<'_>,
@@ -179,7 +182,8 @@ fn ask_once<P: Peer>(
     await_separate(peer, request, buffer)
 }
 
-// Sends a request, and begins a wait of `seconds` seconds.
+// Sends a request, and begins a wait of `seconds` seconds. Returns `FetchFault::Socket` if the peer
+// returns an error.
 pub(crate) fn send<P: Peer>(
     peer: &mut P,
     request: &Datagram,
@@ -195,8 +199,8 @@ pub(crate) fn send<P: Peer>(
     Ok(())
 }
 
-// Waits for a separate response: the request was acknowledged or is non-confirmable. Returns `None`
-// if no response arrives.
+// Waits for a separate response, since the request was acknowledged or is non-confirmable. Returns
+// the length of the response in bytes, or `None` if none arrives.
 fn await_separate<P: Peer>(
     peer: &mut P,
     request: &SentRequest<'_>,
@@ -215,8 +219,10 @@ fn await_separate<P: Peer>(
     }
 }
 
-// Receives datagrams until one ends the wait or the wait is over; skips the others. `awaited` says
-// whether a separate response is awaited. Returns `FetchFault::Rejected` after a Reset message.
+// Receives datagrams until one ends the wait or the wait is over; other datagrams are skipped.
+// `awaited` says whether a separate response is awaited. Returns `Answer` for a response,
+// `Acknowledged` for an empty acknowledgement, or `Nothing` if the wait is over. Returns
+// `FetchFault::Rejected` after a Reset message.
 fn listen<P: Peer>(
     peer: &mut P,
     request: &SentRequest<'_>,
@@ -245,8 +251,8 @@ fn listen<P: Peer>(
 }
 
 // Returns whether a datagram of this class is skipped, so that the wait goes on. A separate
-// response ends the wait only if one is awaited. An acknowledgement ends it only if no separate
-// response is awaited.
+// response ends the wait only if one is awaited. An acknowledgement ends the wait only if no
+// separate response is awaited.
 pub(crate) fn is_passed_over(awaited: bool, handled: ReplyClass) -> bool
     ensures { result ≡ is_passed_over awaited handled }
 {
@@ -258,8 +264,8 @@ pub(crate) fn is_passed_over(awaited: bool, handled: ReplyClass) -> bool
     }
 }
 
-// Classifies a datagram with respect to a request. A confirmable response that was received before
-// is acknowledged again (RFC 7252, section 4.2).
+// Classifies a datagram with respect to a request. If it is a confirmable response that was
+// received before, acknowledges the response again (RFC 7252, section 4.2).
 fn handle_from<P: Peer>(
     peer: &mut P,
     request: &SentRequest<'_>,
@@ -277,7 +283,7 @@ fn handle_from<P: Peer>(
     Ok(handled)
 }
 
-// Classifies a datagram with respect to a request.
+// Classifies a datagram with respect to a request. A datagram that encodes no message is `Other`.
 fn handle_datagram(request: &SentRequest<'_>, bytes: &[u8]) -> ReplyClass
     ensures { TellsSent request.now bytes.now result }
 {

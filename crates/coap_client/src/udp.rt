@@ -16,10 +16,10 @@ use std::time::{Clock, Duration, Instant};
 
 /// A monotonic clock whose readings a contract can name.
 pub trait Ticks {
-    // The readings that it returned.
+    // A property of all readings that the clock returned.
     ghost is_read: { Reading → Type 0 } = { λ _. ⊤ };
 
-    // The errors that it returned.
+    // A property of all errors that the clock returned.
     ghost is_error: { PeerError → Type 0 } = { λ _. ⊤ };
 
     /// Reads the clock.
@@ -37,10 +37,10 @@ impl<C: Clock> Ticks for C {
     }
 }
 
-/// The server at an address and a port, on a socket of the client's own.
+/// The server at an address and a port, as seen through a socket of the client.
 ///
-/// The socket is connected to the server, so that it reports an error if nothing listens at the
-/// port.
+/// The socket is connected to the server, so that it can report an error if no server listens at
+/// the port.
 #[derive(Drop)]
 pub struct UdpPeer<'a, T: Ticks> {
     ticks: &'a T,
@@ -54,7 +54,7 @@ impl<'a, T: Ticks> UdpPeer<'a, T> {
     /// Connects to the server at this address and port.
     ///
     /// # Errors
-    /// Returns an error if there is no socket, or if the clock can't be read.
+    /// Returns an error if no socket can be bound or connected, or if the clock can't be read.
     pub fn at<R: Net>(net: &R, ticks: &'a T, address: SocketAddrV4) -> io::Result<UdpPeer<'a, T>> {
         let socket = UdpSocket::bind(net, SocketAddrV4::new(Ipv4Addr::UNSPECIFIED, 0))?;
         socket.connect(address)?;
@@ -68,7 +68,7 @@ impl<'a, T: Ticks> UdpPeer<'a, T> {
         })
     }
 
-    // Returns the rest of the wait from now on, or zero if the wait is over.
+    // Returns the time that is left of the wait, or zero if the wait is over.
     fn left(&self) -> io::Result<Duration>
         ensures left { IfOk result (IsLeftOf T.is_read self.now.until) }
         ensures error { IfErr result T.is_error }
@@ -77,16 +77,17 @@ impl<'a, T: Ticks> UdpPeer<'a, T> {
         Ok(self.until.duration_since(now))
     }
 
-    // Returns whether a datagram from this endpoint is the server's.
+    // Returns whether `from` is the server's address and port.
     fn is_from(&self, from: SocketAddr) -> bool
         ensures { IsTrue result ↔ (from ≡ self.now.address) }
     {
         from == self.address
     }
 
-    // Waits for a datagram for `left`, and returns its length in bytes. `None` if no datagram of
-    // the server arrived, or if a signal interrupted the wait. A datagram from before the
-    // connection may be another host's. A datagram that fills the buffer may be truncated.
+    // Waits up to `left` for a datagram, and returns its length in bytes. Returns `None` if nothing
+    // arrived, or if a signal interrupted the wait. A datagram from another host is ignored: it may
+    // have arrived before the socket was connected. A datagram that fills the buffer is ignored
+    // too, since it may be truncated.
     fn receive_once(&self, left: Duration, buffer: &mut Buffer) -> io::Result<Option<usize>>
         ensures whole { IfOk result (λ r. IfSome r (λ count. count < length buffer.new)) }
         ensures error { IfErr result (λ e. is_transient (error_kind e) ≡ false) }
@@ -162,14 +163,15 @@ fn is_over(error: &io::Error) -> bool
     )
 }
 
-// Returns the end of a wait of `seconds` seconds; `now` if the clock can't represent it.
+// Returns the end of a wait of `seconds` seconds from `now` on, or `now` if the clock can't
+// represent the end.
 fn end_of(now: Instant, seconds: u64) -> Instant
     ensures { FitsClock (instant_nanos now + seconds * 1_000_000_000) → instant_nanos result ≡ instant_nanos now + seconds * 1_000_000_000 }
 {
     now.checked_add(Duration::from_secs(seconds)).unwrap_or(now)
 }
 
-// Returns the duration in whole milliseconds, and at most 2^64 - 1.
+// Returns the duration in whole milliseconds, at most 2^64 - 1.
 fn millis_of(elapsed: Duration) -> u64
     ensures { result ≡ min (as_nanos elapsed / 1_000_000) 18446744073709551615 }
 {

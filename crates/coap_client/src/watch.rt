@@ -13,7 +13,7 @@ use std::alloc::{AllocError, Global};
 
 /// The mark of a separate response that was shown.
 ///
-/// It has the message ID, and the time in milliseconds.
+/// It has the message ID of the response, and the time of its arrival in milliseconds.
 #[derive(Clone, Copy, PartialEq, Eq)]
 pub struct ShownMark {
     pub id: u16,
@@ -22,8 +22,9 @@ pub struct ShownMark {
 
 /// The latest state shown, and the messages shown in the last 247 seconds.
 ///
-/// The state has its sequence number and its time in milliseconds. The messages are separate
-/// responses; one of them that is received again is a duplicate (RFC 7252, section 4.5).
+/// `sequence` and `at` are the sequence number of that state and its time in milliseconds. `marks`
+/// are those of the messages, which are separate responses. If one of these messages is received
+/// again, it is a duplicate (RFC 7252, section 4.5).
 #[derive(Drop)]
 pub struct Observation {
     pub sequence: u32,
@@ -35,10 +36,10 @@ impl Observation {
     /// Begins an observation after the first message shown.
     ///
     /// `message` is the response to a registration: a state with this sequence number, shown at
-    /// `at` in milliseconds.
+    /// `at`, in milliseconds. A mark is made if the response is separate.
     ///
     /// # Errors
-    /// Returns `AllocError` if memory can't be allocated for its mark.
+    /// Returns `AllocError` if memory can't be allocated for the mark.
     pub fn first(
         alloc: Global,
         sequence: u32,
@@ -88,14 +89,14 @@ impl Observation {
             .any(|mark| mark.id == id && is_kept(mark, at))
     }
 
-    /// Records that a state is shown.
+    /// Records that a state is shown, and removes marks that are at least 247 s old.
     ///
-    /// It has this sequence number and is shown at `at`, in milliseconds, in a separate response
-    /// with this message ID.
+    /// The state has this sequence number and is shown at `at`, in milliseconds. It is a separate
+    /// response with the message ID `id`.
     ///
     /// # Errors
-    /// Returns `AllocError` if memory can't be allocated for its mark. Then the observation is
-    /// unchanged, except that older marks are gone; no clause says so.
+    /// Returns `AllocError` if memory can't be allocated for the mark. Then the observation changes
+    /// only by the removal of old marks; the contract doesn't say so.
     pub fn keep(&mut self, sequence: u32, at: u64, id: u16) -> Result<(), AllocError>
         ensures shown { OnOk result ((self.new.sequence ≡ sequence) × (self.new.at ≡ at)) }
         ensures marks { OnOk result (self.new.marks.items ≡ marked self.old.marks.items id at) }
@@ -108,7 +109,7 @@ impl Observation {
     }
 }
 
-// Returns whether a mark still counts at this time in milliseconds.
+// Returns whether a mark is less than 247 seconds old at `at`, in milliseconds.
 fn is_kept(mark: &ShownMark, at: u64) -> bool
     ensures { result ≡ within_window at mark.now.at }
 {

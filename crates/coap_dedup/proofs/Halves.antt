@@ -12,7 +12,8 @@ use Rattle.coap_dedup.specs.Requests.{AreAbove, AreBelow, left_after}
 use Rattle.coap_dedup.proofs.Index.{Entry, rises}
 use Rattle.coap_dedup.proofs.Keys.{key_total}
 
--- the key is between these places after this many comparisons
+-- after `comparisons` comparisons, the insertion point of the key is from `low` to `high`. The
+-- number of keys between these places is at most that of `left_after`
 pub record IsBetween (ks : List Key) (k : Key) (low high comparisons : ℕ) : Type 0 where
   pub below : AreBelow ks k low
   pub above : AreAbove ks k high
@@ -45,7 +46,7 @@ none_left n = let le = at_most 65536 n in omega (arith, le)
 none_left_of_few : (n : ℕ) → left_after 1024 (suc (suc (suc (suc (suc (suc (suc (suc (suc (suc (suc n))))))))))) ≡ 0
 none_left_of_few n = let le = at_most 1024 n in omega (arith, le)
 
--- while a key is left, fewer than 17 were compared
+-- while a key is left to compare, fewer than 17 keys were compared
 pub fewer : (ks : List Key) (k : Key) (low high comparisons : ℕ) → IsBetween ks k low high comparisons → low < high → comparisons < 17
 fewer ks k low high comparisons b lt =
     let left = b.left in
@@ -57,7 +58,7 @@ fewer ks k low high comparisons b lt =
     absurd (omega (arith, left, lt, none)))
     (cases_lt comparisons 17)
 
--- of at most 1,024 keys, fewer than 11 were compared
+-- while one of at most 1,024 keys is left to compare, fewer than 11 keys were compared
 pub fewer_than_eleven : (ks : List Key) (k : Key) (low high comparisons : ℕ) → IsBetween ks k low high comparisons → low < high → length ks ≤ 1024 → comparisons < 11
 fewer_than_eleven ks k low high comparisons b lt small =
     let left = b.left_of_few small in

@@ -1,4 +1,4 @@
--- The index: the place of a key in the order of keys, and the request of the key.
+-- The index of the stored requests: the place of a request's key in the order of keys.
 use Rattle.std.proofs.Common.{◌≡◌, ℕ, zero, suc, ◌+◌, ◌%◌, ◌<◌, ◌≤◌, List, [], ◌∷◌, ◌++◌, length, length-append, length-drop, map, drop, Bool, true, false, cond, T, Option, Some, None, refl, sym, ap, subst, ◌∙◌, ⊎_elim, arith}
 use Rattle.std.specs.Prelude.{◌&&◌, find, slice_get, slice_index_or, option_map, is_some}
 use Rattle.std.specs.List.{insert, position_or_len, remove}
@@ -31,7 +31,7 @@ Entry = Key × ℕ
 abbrev entry_of : Opened → Entry
 entry_of o = (o.key, o.number)
 
--- ---- a request by its key
+-- ---- the search for a request by its key
 
 entry_found : (k : Key) (os : List Opened) → entry_list.find key_cmp k (map entry_of os) ≡ option_map (λ o. o.number) (find (has_key k) os)
 entry_found k [] = refl
@@ -62,7 +62,7 @@ same_of k x e = key_antisymmetric k x (equal_of (key_cmp k x) e)
 itself : (k : Key) → eq_by_cmp key_cmp k k ≡ true
 itself k = ap is_eq (tied_itself key_total k)
 
--- the request of an entry
+-- the request that a search for an entry's key finds has that key
 record IsFound (os : List Opened) (e : Entry) : Type 0 where
   request : Opened
   found : find (has_key e.0) os ≡ Some request
@@ -73,7 +73,7 @@ found_by : (os : List Opened) (e : Entry) (x : Option Opened) → find (has_key 
 found_by os e None found is = absurd (cc is)
 found_by os e (Some o) found is = record { request = o; found = found; key_is = sym (same_of e.0 o.key (holds e.0 os o found)); number_is = cc is }
 
--- ---- entries with increasing keys
+-- ---- entries in the order of their keys
 
 apart : (r : Ordering) → r ≡ Less → is_eq r ≡ false
 apart r e = ap is_eq e
@@ -151,7 +151,7 @@ there_is [] i lt = absurd (omega (arith, lt))
 there_is (x ∷ xs) zero lt = (x, refl)
 there_is (x ∷ xs) (suc i) lt = there_is xs i (omega (arith, lt))
 
--- the request at an index, by its entry
+-- if an entry is at index `i` in the order of keys, the place at index `i` is that of its request
 at_entry : (os : List Opened) (places : List ℕ) (i d : ℕ) (e : Entry) → IsIndex os places → slice_get (entries (by_key os)) i ≡ Some e → IsAt os (slice_index_or places i d) i
 at_entry os places i d e is entry =
     let got = entry_at (entries (by_key os)) i e (entries_sorted (by_key os)) entry in
@@ -177,7 +177,7 @@ numbered_at number since now i [] o a is = absurd (cc is)
 numbered_at number since now zero (x ∷ os) o a is = let same : o ≡ x = cc is in let n = a.0 in ap (λ (y : Opened). y.number) same ∙ omega (arith, n)
 numbered_at number since now (suc i) (x ∷ os) o a is = let n = numbered_at (number + 1) x.at now i os o a.3 is in omega (arith, n)
 
--- it is found in the ring, at its distance from the oldest
+-- the request at a place is found in the ring at `after`, its distance from the oldest request
 pub found_after : (os : List Opened) (place i after : ℕ) (oldest : Opened) → InOrder os → length os ≤ 65536 → slice_get os 0 ≡ Some oldest → (a : IsAt os place i)
     → ((number : ℕ) → oldest.number ≤ number → number < oldest.number + 65536 → number % 65536 ≡ place → oldest.number + after ≡ number) → slice_get os after ≡ Some a.request
 found_after os place i after oldest order few front a counts =
@@ -207,9 +207,9 @@ keys_length os places is = length-map (entries (by_key os)) (λ (e : Entry). e.0
 pub key_at : (os : List Opened) (i : ℕ) (k : Key) (n : ℕ) → slice_get (entries (by_key os)) i ≡ Some (k, n) → slice_get (keys (by_key os)) i ≡ Some k
 key_at os i k n is = slice_get-map (λ (e : Entry). e.0) (entries (by_key os)) i ∙ ap (option_map (λ (e : Entry). e.0)) is
 
--- ---- results of a search
+-- ---- the results of a search for a key
 
--- two requests with the key at one index are the same
+-- if a key and a request's entry are at the same index, the request has that key
 pub same_key_at : (os : List Opened) (i : ℕ) (k : Key) (o : Opened) → slice_get (keys (by_key os)) i ≡ Some k → slice_get (entries (by_key os)) i ≡ Some (o.key, o.number) → o.key ≡ k
 same_key_at os i k o at_i entry = let there = key_at os i o.key o.number entry in cc (at_i, there)
 
@@ -217,7 +217,7 @@ few_or_more : (b : Bool) (n m : ℕ) → n ≤ m → cond b n (n + 1) ≤ suc m
 few_or_more true n m le = omega (arith, le)
 few_or_more false n m le = omega (arith, le)
 
--- there are no more keys than requests
+-- the number of keys is at most the number of requests
 pub keys_few : (os : List Opened) → len (by_key os) ≤ length os
 keys_few [] = let none = len-empty key_cmp ℕ in omega (arith, none)
 keys_few (o ∷ os) =
@@ -244,7 +244,7 @@ absent : (k : Key) (es : List Entry) → ((i : ℕ) (x : Key) → slice_get (map
 absent k [] other = refl
 absent k (e ∷ es) other = ap (λ (b : Bool). cond b (Some e.1) (entry_list.find key_cmp k es)) (other 0 e.0 refl) ∙ absent k es (λ i x is. other (suc i) x is)
 
--- no request has a key with an insertion point
+-- if a key has an insertion point, no request has that key
 pub none_found : (os : List Opened) (k : Key) (i : ℕ) → IsGap (keys (by_key os)) k i → find (has_key k) os ≡ None
 none_found os k i gap =
     let other : (j : ℕ) (x : Key) → slice_get (keys (by_key os)) j ≡ Some x → eq_by_cmp key_cmp k x ≡ false = λ j x is. (eq_by_cmp_equiv key_total).symm k x ∙ ⊎_elim
@@ -253,7 +253,7 @@ none_found os k i gap =
     (cases_lt j i) in
     no_request (find (has_key k) os) (sym (get_is k os) ∙ (get-entries (by_key os) k ∙ absent k (entries (by_key os)) other))
 
--- a request has each key of the index
+-- each key of the index is that of a request
 pub some_found : (os : List Opened) (k : Key) (i : ℕ) → slice_get (keys (by_key os)) i ≡ Some k → find (has_key k) os ≡ None → ⊥
 some_found os k i at_i none =
     let there = key_entry (entries (by_key os)) i k at_i in
@@ -261,7 +261,7 @@ some_found os k i at_i none =
     let not : entry_list.find key_cmp k (entries (by_key os)) ≡ None = sym (get-entries (by_key os) k) ∙ (get_is k os ∙ ap (option_map (λ o. o.number)) none) in
     cc (got, not)
 
--- ---- one request more, or one less
+-- ---- the index after a request is added or removed
 
 put_in_gap : (k : Key) (n : ℕ) (es : List Entry) (i : ℕ) → IsGap (map (λ e. e.0) es) k i → entry_list.put key_cmp k n es ≡ insert es i (k, n)
 put_in_gap k n [] zero gap = refl
@@ -278,7 +278,7 @@ inserted_places es zero e = refl
 inserted_places [] (suc i) e = refl
 inserted_places (x ∷ es) (suc i) e = ap (λ (l : List ℕ). x.1 % 65536 ∷ l) (inserted_places es i e)
 
--- the index after one more request
+-- if a request with a new key is added, the index with its place at the insertion point is right
 pub pushed : (os : List Opened) (places : List ℕ) (o : Opened) (i : ℕ) → IsIndex os places → find (has_key o.key) os ≡ None → IsGap (keys (by_key os)) o.key i → IsIndex (os ++ o ∷ []) (insert places i (o.number % 65536))
 pushed os places o i is new gap =
     let none : entry_list.find key_cmp o.key (map entry_of os) ≡ None = entry_found o.key os ∙ ap (option_map (λ x. x.number)) new in
@@ -310,7 +310,8 @@ first_taken : (k : Key) (n : ℕ) (es : List Entry) (i : ℕ) → entry_list.fin
 first_taken k n es zero none is = refl
 first_taken k n es (suc i) none is = absurd (not_there k es i none is)
 
--- removing an inserted entry restores the list
+-- if an entry with a new key is inserted and then removed, the list of entries is the same as
+-- before
 taken_out : (k : Key) (n : ℕ) (es : List Entry) (i : ℕ) → entry_list.find key_cmp k es ≡ None → slice_get (map (λ e. e.0) (entry_list.put key_cmp k n es)) i ≡ Some k → remove (entry_list.put key_cmp k n es) i ≡ es
 taken_out k n [] zero none is = refl
 taken_out k n [] (suc i) none is = absurd (cc is)
@@ -339,7 +340,7 @@ missing : (x : Option ℕ) → is_some x ≡ false → x ≡ None
 missing None e = refl
 missing (Some n) e = absurd (cc e)
 
--- the index after the oldest request was removed
+-- if the oldest request is removed, the index without the place of its key is right
 pub popped : (o : Opened) (os : List Opened) (places : List ℕ) (i : ℕ) → IsIndex (o ∷ os) places → slice_get (keys (by_key (o ∷ os))) i ≡ Some o.key → IsIndex os (remove places i)
 popped o os places i is at_i =
     let m = by_key os in
@@ -367,7 +368,7 @@ front_found (o ∷ os) k i front gap =
     let some : find (has_key k) (o ∷ os) ≡ Some o = ap (λ (b : Bool). cond b (Some o) (find (has_key k) os)) first in
     cc (some, none)
 
--- the ring and the index after the oldest request was removed
+-- if the oldest request is removed from the ring and from the index, both agree
 pub are_popped : (ring rest : Buffer Opened) (index fewer : Vec ℕ) (i : ℕ) (k : Key) → AreRequests ring index → option_map (λ o. o.key) (slice_get ring.items 0) ≡ Some k → slice_get (keys (by_key ring.items)) i ≡ Some k
     → rest ≡ buffer (drop 1 ring.items) ring.capacity → fewer.items ≡ remove index.items i → vec_capacity fewer ≡ vec_capacity index → AreRequests rest fewer
 are_popped ring rest index fewer i k are front at_i is removed same =
@@ -390,7 +391,7 @@ no_entries : (es : List Entry) → length es ≡ 0 → [] ≡ map place_of (map 
 no_entries [] none = refl
 no_entries (e ∷ es) none = absurd (omega (arith, none))
 
--- the initial ring and index
+-- an empty ring and an empty index agree
 pub none_indexed : (n : ℕ) (ring : Buffer Opened) (index : Vec ℕ) → n ≤ 65536 → ring ≡ buffer [] n → index.items ≡ [] → n ≤ vec_capacity index → AreRequests ring index
 none_indexed n ring index most is none room =
     let items : ring.items ≡ [] = ap (λ (b : Buffer Opened). b.items) is in
@@ -404,7 +405,7 @@ none_indexed n ring index most is none room =
       is_index = subst (λ (os : List Opened). IsIndex os index.items) (sym items) (record { distinct = len-empty key_cmp ℕ; sorted = none ∙ no_entries (entries (by_key [])) (sym (len-entries (by_key [])) ∙ len-empty key_cmp ℕ) });
     }
 
--- the ring and the index after one more request
+-- if a request with a new key is added to the ring and to the index, both agree
 pub are_pushed : (ring more : Buffer Opened) (index longer : Vec ℕ) (o : Opened) (i : ℕ) → AreRequests ring index → length ring.items < ring.capacity → find (has_key o.key) ring.items ≡ None → InOrder (ring.items ++ o ∷ []) → IsGap (keys (by_key ring.items)) o.key i
     → more ≡ buffer (keep_last ring.capacity (ring.items ++ o ∷ [])) ring.capacity → longer.items ≡ insert index.items i (o.number % 65536) → vec_capacity index ≤ vec_capacity longer → AreRequests more longer
 are_pushed ring more index longer o i are few new order gap is added roomy =

@@ -48,7 +48,7 @@ bytes_to q a b c d lb lc ld e =
     (and_from _ _ (eq-eqb (q / 256 % 256) c (omega (arith, e, lb, lc, ld)))
     (and_from _ _ (eq-eqb (q % 256) d (omega (arith, e, lb, lc, ld))) refl)))
 
--- an address is that of a key exactly if its number is
+-- a key's endpoint has an address exactly if the key's high 32 bits are the address's number
 pub same_address : (ip : List ℕ) (k : Key) → AreBytes ip → pointwise nat_eq (endpoint_of k).ip ip ≡ is_key_at ip k
 same_address ip k w =
     let q = k.number / 4294967296 in
@@ -58,7 +58,7 @@ same_address ip k w =
     (λ e. eq-eqb q (address_number ip) (bytes_from q w.a w.b w.c w.d e ∙ sym number))
     (λ e. bytes_to q w.a w.b w.c w.d w.fit.1 w.fit.2 w.fit.3 (eqb-true q (address_number ip) e ∙ number))
 
--- ---- a key has an endpoint and a message ID exactly if both are equal
+-- ---- two requests have the same key exactly if they have the same endpoint and message ID
 
 parts_from : (n a p m : ℕ) → n / 4294967296 ≡ a → n / 65536 % 65536 ≡ p → n % 65536 ≡ m → n ≡ a * 4294967296 + p * 65536 + m
 parts_from n a p m ea ep em = omega (arith, ea, ep, em)

@@ -1,4 +1,4 @@
--- All places, some of which were touched.
+-- The list of all places, of which only the first were touched.
 use Rattle.std.proofs.Common.{◌≡◌, ℕ, ◌+◌, ◌-◌, ◌<◌, ◌≤◌, ◌%◌, true, false, List, ◌++◌, length, replicate, set, refl, sym, ap, ◌∙◌, arith, length-append, length-set}
 use Rattle.std.specs.Prelude.{slice_index_or}
 use Rattle.std.proofs.lemmas.List.{append_assoc, get_or-append_right, get_or-replicate, get_or_append_left, get_or_default, length-replicate, replicate-append-replicate, set-append_left, set-get_or}
@@ -12,7 +12,8 @@ length_padded places kept le =
     let rest = length-replicate (places - length kept) no_answer in
     omega (arith, le, long, rest)
 
--- writing a touched place
+-- if place `i` was touched, a write at `i` in the list of all places is one in the list of touched
+-- places
 written : (places i : ℕ) (kept : List StoredResponse) (k : StoredResponse) → i < length kept → set (padded places kept) i k ≡ padded places (set kept i k)
 written places i kept k lt = set-append_left kept (replicate (places - length kept) no_answer) i k lt ∙ ap (λ (n : ℕ). set kept i k ++ replicate (places - n) no_answer) (sym (length-set kept i k))
 
@@ -22,7 +23,7 @@ untouched places i kept le lt =
     get_or-append_right kept (replicate (places - length kept) no_answer) (length kept) i no_answer refl le
     ∙ get_or-replicate (places - length kept) (i - length kept) no_answer no_answer (omega (arith, le, lt))
 
--- touching places changes none
+-- touching further places doesn't change the list of all places
 touched : (places n : ℕ) (kept : List StoredResponse) → length kept + n ≤ places → padded places (kept ++ replicate n no_answer) ≡ padded places kept
 touched places n kept le =
     let long = length-append kept (replicate n no_answer) in
@@ -39,7 +40,7 @@ forgotten_of : (places number : ℕ) (kept : List StoredResponse) → length kep
 forgotten_of places number kept le =
     ap (λ (n : ℕ). set (padded places kept) (number % n) (without (slice_index_or (padded places kept) (number % n) no_answer))) (sym (length_padded places kept le))
 
--- the response at a touched place is cleared
+-- if the place of a number is touched, marking it as without a response clears its response
 pub forgets : (places number : ℕ) (kept : List StoredResponse) (was : StoredResponse) → length kept ≤ places → number % places < length kept → was ≡ slice_index_or kept (number % places) was
     → padded places (set kept (number % places) (without was)) ≡ forgotten (padded places kept) number
 forgets places number kept was le lt is =
@@ -47,14 +48,14 @@ forgets places number kept was le lt is =
     sym (written places (number % places) kept (without was) lt)
     ∙ (ap (λ (k : StoredResponse). set (padded places kept) (number % places) (without k)) own ∙ forgotten_of places number kept le)
 
--- a place that wasn't touched has no response to clear
+-- if the place of a number wasn't touched, clearing its response changes nothing
 pub forgets_none : (places number : ℕ) (kept : List StoredResponse) → length kept ≤ places → length kept ≤ number % places → number % places < places → padded places kept ≡ forgotten (padded places kept) number
 forgets_none places number kept le over lt =
     let none = untouched places (number % places) kept over lt in
     sym (set-get_or (padded places kept) (number % places) no_answer)
     ∙ (ap (set (padded places kept) (number % places)) (none ∙ ap without (sym none)) ∙ forgotten_of places number kept le)
 
--- a response is stored at its place, once the place is touched
+-- if the place of a number is touched first, writing a response there stores the response
 pub keeps : (places number n : ℕ) (kept : List StoredResponse) (bytes : ArrayVec ℕ) → length kept + n ≤ places → number % places < length (kept ++ replicate n no_answer)
     → padded places (set (kept ++ replicate n no_answer) (number % places) (record { answered = true; bytes = bytes })) ≡ answered_at (padded places kept) number bytes
 keeps places number n kept bytes le lt =

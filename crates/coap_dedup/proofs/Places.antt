@@ -32,11 +32,11 @@ apart n p q lt near e =
     (λ (le : p / n ≤ q / n). let more = mul-le-mul_left n le in omega (arith, lt, e, at_p, at_q, more))
     (cases_lt (q / n) (p / n))
 
--- a write keeps the number of places
+-- after a write, an exchange has what is then at its number modulo the same number of places
 written_at : (kept : List StoredResponse) (i : ℕ) (k : StoredResponse) (o : Opened) → as_exchange (set kept i k) o ≡ with_answer (slice_index_or (set kept i k) (o.number % length kept) no_answer) o
 written_at kept i k o = ap (λ (n : ℕ). with_answer (slice_index_or (set kept i k) (o.number % n) no_answer) o) (length-set kept i k)
 
--- other places keep their contents
+-- a write at one place doesn't change the exchange of a request with another place
 elsewhere : (kept : List StoredResponse) (p : ℕ) (k : StoredResponse) (o : Opened) → (o.number % length kept ≡ p % length kept → ⊥) → as_exchange (set kept (p % length kept) k) o ≡ as_exchange kept o
 elsewhere kept p k o ne = written_at kept (p % length kept) k o ∙ ap (λ (x : StoredResponse). with_answer x o) (get_or-set_other kept (p % length kept) (o.number % length kept) k no_answer ne)
 
@@ -56,7 +56,7 @@ all_before number since now p kept k (o ∷ os) lt near a =
 
 -- ---- a response after the lifetime, or to no stored exchange
 
--- the exchange with this number, if it is among these, is past its lifetime
+-- if the exchange with number `p` is in the list, it is past its lifetime
 abbrev pub NoneLive : ℕ → ℕ → ℕ → List Opened → Type 0
 NoneLive number at p os = (i : ℕ) (o : Opened) → slice_get os i ≡ Some o → p ≡ number + i → request_is_live at o ≡ false
 
@@ -126,7 +126,7 @@ one_open number since now at (suc i) kept (x ∷ os) o found live a =
     ap (λ (n : ℕ). is_open at n (as_exchange kept x) || list_any (is_open at n) (map (as_exchange kept) os)) place
     ∙ (ap (λ (b : Bool). is_open at ((number + 1) + i) (as_exchange kept x) || b) (one_open (number + 1) x.at now at i kept os o found live a.3) ∙ or-true (is_open at ((number + 1) + i) (as_exchange kept x)))
 
--- the place of the request is written
+-- if a response is written at the place of a live request, that request's exchange has the response
 head_written : (at p : ℕ) (kept : List StoredResponse) (bytes : ArrayVec ℕ) (o : Opened) → 0 < length kept → o.number ≡ p → request_is_live at o ≡ true → as_exchange (set kept (p % length kept) (record { answered = true; bytes = bytes })) o ≡ answered at p bytes (as_exchange kept o)
 head_written at p kept bytes o some is live =
     let k : StoredResponse = record { answered = true; bytes = bytes } in
@@ -156,9 +156,9 @@ one_answered number since now at (suc i) kept bytes (x ∷ os) o few found live 
     let rest = ap (λ (n : ℕ). map (as_exchange (set kept (n % length kept) k)) os) (sym place) ∙ (one_answered (number + 1) x.at now at i kept bytes os o (omega (arith, few)) found live a.3 ∙ ap (λ (n : ℕ). map (answered at n bytes) (map (as_exchange kept) os)) place) in
     λ j. (head ∙ ap (λ (b : Bool). answered_if (b && request_is_live at x) bytes (as_exchange kept x)) (sym other)) j ∷ rest j
 
--- ---- a request of an endpoint and a message id
+-- ---- a request with an endpoint and a message ID
 
--- the view has as many requests of an address as the ring
+-- the view and the ring have the same number of requests of an address
 pub share_seen : (kept : List StoredResponse) (ip : List ℕ) (os : List Opened) → share_of ip (map (as_exchange kept) os) ≡ length (filter (is_of_address ip) os)
 share_seen kept ip [] = refl
 share_seen kept ip (o ∷ os) = elim (is_of_address ip o) as (λ b. length (cond b (as_exchange kept o ∷ filter (is_at ip) (map (as_exchange kept) os)) (filter (is_at ip) (map (as_exchange kept) os))) ≡ length (cond b (o ∷ filter (is_of_address ip) os) (filter (is_of_address ip) os))) [
@@ -170,7 +170,7 @@ pub few_of : (ip : List ℕ) (os : List Opened) → length (filter (is_of_addres
 few_of ip [] = omega arith
 few_of ip (o ∷ os) = let few = few_of ip os in elim (is_of_address ip o) as (λ b. length (cond b (o ∷ filter (is_of_address ip) os) (filter (is_of_address ip) os)) ≤ suc (length os)) [ true ↦ omega (arith, few) | false ↦ omega (arith, few) ]
 
--- it is found by its key
+-- a search for the key of an endpoint and a message ID finds the request that has both
 pub found_key : (to : Endpoint) (id : ℕ) (os : List Opened) → IsPeer to id → find (has_key (key_of to id)) os ≡ find (is_from to id) os
 found_key to id os w = λ i. find (λ o. ((eq_by_cmp_equiv key_total).symm (key_of to id) o.key ∙ sym (same_key to id o.key w)) i) os
 
@@ -202,7 +202,7 @@ place_in_room false place new = absurd (cc new)
 place_in_room true true new = refl
 place_in_room true false new = absurd (cc new)
 
--- no stored request has its key
+-- if a request is new, no stored request has its key
 pub new_key : (kept : List StoredResponse) (to : Endpoint) (id : ℕ) (room : Room) (os : List Opened) → IsPeer to id → look_by (find (is_of to id) (map (as_exchange kept) os)) room ≡ IsNew → find (has_key (key_of to id)) os ≡ None
 new_key kept to id room os w new = found_key to id os w ∙ not_found kept (find (is_from to id) os) room (sym (look_seen kept to id room os) ∙ new)
 
@@ -217,7 +217,7 @@ has_space (Some e) t ip new = absurd (not_again e.confirmable e.answer new)
 pub keeps_all : {X : Type 0} (n : ℕ) (xs : List X) → length xs ≤ n → keep_last n xs ≡ xs
 keeps_all n xs le = let none : length xs - n ≡ 0 = omega (arith, le) in ap (λ (k : ℕ). drop k xs) none
 
--- it is last in the view, without a response
+-- if a new request is added to the ring, the view has it as the last exchange, without a response
 pub opened_last : (first now p : ℕ) (kept : List StoredResponse) (bytes : ArrayVec ℕ) (os : List Opened) (o : Opened) → p ≡ first + length os → length os < length kept → o.number ≡ p → Arrives first 0 now os →
     map (as_exchange (set kept (p % length kept) (record { answered = false; bytes = bytes }))) (os ++ o ∷ []) ≡ map (as_exchange kept) os ++ with_answer no_answer o ∷ []
 opened_last first now p kept bytes os o count few is a =

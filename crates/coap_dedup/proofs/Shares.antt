@@ -1,4 +1,4 @@
--- The number of requests of an address: in the order of keys they are adjacent.
+-- The number of requests of an address, whose keys are adjacent in the order of keys.
 use Rattle.std.proofs.Common.{◌≡◌, ℕ, zero, suc, ◌+◌, ◌-◌, ◌*◌, ◌/◌, ◌<◌, ◌≤◌, List, [], ◌∷◌, length, map, Bool, true, false, cond, not, T, Option, Some, None, refl, sym, ap, ◌∙◌, ⊎_elim, arith}
 use Rattle.std.specs.Prelude.{◌==◌, filter, nat_lt, slice_get, is_some, ◌&&◌}
 use Rattle.std.specs.declared.cmp.Ordering.{Ordering}
@@ -18,7 +18,7 @@ use Rattle.coap_dedup.specs.Views.{is_of_address}
 use Rattle.coap_dedup.proofs.Index.{Entry, keys_few, rises}
 use Rattle.coap_dedup.proofs.Keys.{key_total, same_address, same_if}
 
--- ---- the requests of an address, from the entries of the index
+-- ---- the number of requests of an address, counted in the index
 
 counted_if : (b : Bool) (e : Entry) (es : List Entry) → length (cond b (e ∷ es) es) ≡ cond b 1 0 + length es
 counted_if true e es = omega arith
@@ -27,7 +27,7 @@ counted_if false e es = omega arith
 abbrev of_keys : (Key → Bool) → List Entry → List Entry
 of_keys p es = filter (λ e. p e.0) es
 
--- a new entry counts once, wherever it is inserted
+-- an entry with a new key adds one to the count if its key passes, at any place of insertion
 put_there : (p : Key → Bool) (k : Key) (n : ℕ) (e : Entry) (es : List Entry) (r : Ordering) → key_cmp k e.0 ≡ r → entry_list.find key_cmp k (e ∷ es) ≡ None
     → (entry_list.find key_cmp k es ≡ None → length (of_keys p (entry_list.put key_cmp k n es)) ≡ cond (p k) 1 0 + length (of_keys p es))
     → length (of_keys p (entry_list.by_order r ((k, n) ∷ e ∷ es) ((e.0, n) ∷ es) (e ∷ entry_list.put key_cmp k n es))) ≡ cond (p k) 1 0 + length (of_keys p (e ∷ es))
@@ -60,7 +60,7 @@ no_entries : (es : List Entry) → length es ≡ 0 → es ≡ []
 no_entries [] none = refl
 no_entries (e ∷ es) none = absurd (cc none)
 
--- the index has as many entries of an address as there are requests of it
+-- the number of entries whose keys pass a test is the number of requests whose keys pass
 pub entries_count : (p : Key → Bool) (os : List Opened) → len (by_key os) ≡ length os → length (of_keys p (entries (by_key os))) ≡ length (filter (λ o. p o.key) os)
 entries_count p [] distinct = ap (λ (es : List Entry). length (of_keys p es)) (no_entries (entries (by_key [])) (sym (len-entries (by_key [])) ∙ distinct))
 entries_count p (o ∷ os) distinct =
@@ -92,7 +92,7 @@ is_one a (Some k) = key_number_at a k
 abbrev pub keys_in : List Entry → List Key
 keys_in es = map (λ e. e.0) es
 
--- the keys before this place are below those of the address, and none from there on is
+-- the keys before place `i` are below those of the address, and the keys from `i` on aren't
 pub record IsFirst (a : ℕ) (ks : List Key) (i : ℕ) : Type 0 where
   pub below : (j : ℕ) (x : Key) → j < i → slice_get ks j ≡ Some x → x.number < a * 4294967296
   pub above : (j : ℕ) (x : Key) → i ≤ j → slice_get ks j ≡ Some x → a * 4294967296 ≤ x.number
@@ -102,7 +102,7 @@ suc_lt m n = same_if (nat_lt (suc m) (suc n)) (nat_lt m n)
     (λ e. let lt = ltb-true (suc m) (suc n) e in lt-ltb m n (omega (arith, lt)))
     (λ e. let lt = ltb-true m n e in lt-ltb (suc m) (suc n) (omega (arith, lt)))
 
--- the key at the head is of the address
+-- if the keys of an address come first in a list, they also do with one more of them in front
 head_counts : (a n others : ℕ) (k : Key) (ks : List Key) → key_number_at a k ≡ true → ((t : ℕ) → nat_lt n (suc t) ≡ not (is_one a (slice_get ks t)))
     → nat_lt (suc n) (suc others) ≡ not (is_one a (slice_get (k ∷ ks) others))
 head_counts a n zero k ks is rest = le-ltb (suc n) 1 (omega arith) ∙ sym (ap not is)
@@ -122,7 +122,7 @@ not_one : (a : ℕ) (x : Option Key) → ((k : Key) → x ≡ Some k → key_num
 not_one a None other = refl
 not_one a (Some k) other = other k refl
 
--- a key after one that is above the address is above it
+-- if a number isn't below an address's keys and isn't one of them, no greater number is one of them
 later_not : (a n m : ℕ) → a * 4294967296 ≤ n → (n / 4294967296 ≡ a → ⊥) → n < m → m / 4294967296 ≡ a → ⊥
 later_not a n m le ne lt is = ne (omega (arith, le, lt, is))
 
@@ -133,8 +133,8 @@ sorted_rest : (a b : Bool) → T (a && b) → T b
 sorted_rest true b t = t
 sorted_rest false b t = absurd t
 
--- from the least key of an address on, its keys come first; so the address has a share of them
--- exactly if the last of that many is its own
+-- the keys of an address come first among the keys from its least key on. So an address has fewer
+-- than `others` + 1 keys exactly if the key at place `others` isn't one of them
 counts_from : (a : ℕ) (es : List Entry) → T (entry_list.is_sorted key_cmp es) → ((j : ℕ) (x : Key) → slice_get (keys_in es) j ≡ Some x → a * 4294967296 ≤ x.number)
     → (others : ℕ) → nat_lt (length (of_keys (key_number_at a) es)) (suc others) ≡ not (is_one a (slice_get (keys_in es) others))
 counts_from a [] sorted above others = lt-ltb 0 (suc others) (omega arith)
@@ -161,7 +161,7 @@ counts a (e ∷ es) (suc i) others sorted first =
     ap (λ (b : Bool). nat_lt (length (cond b (e ∷ of_keys (key_number_at a) es) (of_keys (key_number_at a) es))) (suc others)) not_its
     ∙ (later ∙ ap (λ (k : ℕ). not (is_one a (slice_get (e.0 ∷ keys_in es) k))) {x = suc (i + others)} {y = suc i + others} (omega arith))
 
--- ---- the requests of an address
+-- ---- the number of requests of an address
 
 requests_at : (ip : List ℕ) (os : List Opened) → AreBytes ip → length (filter (λ o. key_number_at (address_number ip) o.key) os) ≡ length (filter (is_of_address ip) os)
 requests_at ip os w = λ i. length (filter (λ (o : Opened). sym (same_address ip o.key w) i) os)
@@ -174,7 +174,7 @@ fewer_at ip os i share others w distinct first is =
     ap (nat_lt (length (filter (is_of_address ip) os))) is
     ∙ (ap (λ n. nat_lt n (suc others)) (sym count) ∙ counts a (entries (by_key os)) i others (entries_sorted (by_key os)) first)
 
--- the keys of an address begin at the end of a search for its least key
+-- if a search for an address's least key finds it at place `i`, the address's keys begin at `i`
 pub start_found : (ip : List ℕ) (i : ℕ) (k : Key) (os : List Opened) → k ≡ first_key ip → slice_get (keys (by_key os)) i ≡ Some k → IsStart ip (keys (by_key os)) i
 start_found ip i k os is at =
     let within = slice_get_within (keys (by_key os)) i k at in
@@ -202,14 +202,15 @@ start_gap ip i k os is gap =
 first_of : (ip : List ℕ) (ks : List Key) (i : ℕ) → IsStart ip ks i → IsFirst (address_number ip) ks i
 first_of ip ks i w = record { below = w.below; above = w.above }
 
--- there are fewer if the end of a full share would be past the last key
+-- an address has fewer requests than a share if a full share of keys would end past the last key
 pub fewer_behind : (ip : List ℕ) (os : List Opened) (i share : ℕ) → AreBytes ip → len (by_key os) ≡ length os → IsStart ip (keys (by_key os)) i → 1 ≤ share → length (keys (by_key os)) < i + share
     → nat_lt (length (filter (is_of_address ip) os)) share ≡ true
 fewer_behind ip os i share w distinct start some behind =
     fewer_at ip os i share (share - 1) w distinct (first_of ip (keys (by_key os)) i start) (omega (arith, some))
     ∙ ap (λ (x : Option Key). not (is_one (address_number ip) x)) (slice_get_past (keys (by_key os)) (i + (share - 1)) (omega (arith, some, behind)))
 
--- otherwise the key at that place decides
+-- an address has fewer requests than a share exactly if the key that would be the last of a full
+-- share is that of another address
 pub fewer_there : (ip : List ℕ) (os : List Opened) (i share : ℕ) (k : Key) → AreBytes ip → len (by_key os) ≡ length os → IsStart ip (keys (by_key os)) i → 1 ≤ share
     → slice_get (keys (by_key os)) (i + (share - 1)) ≡ Some k → nat_lt (length (filter (is_of_address ip) os)) share ≡ not (is_key_at ip k)
 fewer_there ip os i share k w distinct start some there =

@@ -6,11 +6,11 @@ use Rattle.coap_dedup.specs.declared.exchanges.Closed.{Closed}
 use Rattle.coap_dedup.specs.declared.exchanges.Closed.TheVariants as answers
 use Rattle.coap_dedup.specs.Exchanges.{Exchange, Table, is_live, answered_if}
 
--- the exchanges past their lifetime are removed.
+-- the table at `now`, without the exchanges that are past their lifetime.
 abbrev pub expired : Table → ℕ → Table
 expired t now = record { limits = t.limits; now = now; opened = t.opened; held = filter (is_live now) t.held }
 
--- a new exchange is appended, without a response.
+-- the table at `now`, with a new exchange appended, which has no response.
 abbrev pub opened : Table → ℕ → Endpoint → ℕ → Bool → Table
 opened t now to id confirmable = record {
   limits = t.limits;
@@ -19,11 +19,12 @@ opened t now to id confirmable = record {
   held = t.held ++ record { endpoint = to; id = id; confirmable = confirmable; number = t.opened; at = now; answer = None } ∷ [];
 }
 
--- the exchange has this number, and is within its lifetime.
+-- the exchange has number `number`, and is within its lifetime at `now`.
 abbrev pub is_open : ℕ → ℕ → Exchange → Bool
 is_open now number e = (e.number == number) && is_live now e
 
--- an exchange, after the response of the exchange with this number was stored.
+-- the exchange after a response was stored for number `number`: it has the response if it has that
+-- number and is within its lifetime.
 abbrev pub answered : ℕ → ℕ → ArrayVec ℕ → Exchange → Exchange
 answered now number bytes e = answered_if (is_open now number e) bytes e
 

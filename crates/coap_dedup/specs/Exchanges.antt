@@ -1,5 +1,5 @@
--- The stored exchanges (after RFC 7252, section 4.5; the same lifetime for all requests is this
--- project's choice).
+-- The stored exchanges (RFC 7252, section 4.5). All requests have the same lifetime; that is this
+-- project's choice.
 use Rattle.std.specs.Prelude.{ℕ, ◌==◌, ◌&&◌, Bool, max, min, true, false, nat_eq, nat_lt, List, filter, length, find, Option, Some, None, if◌then◌else◌}
 use Rattle.std.specs.Cmp.Lexicographic.{pointwise}
 use Rattle.arrayvec.specs.ArrayVec.{ArrayVec}
@@ -24,8 +24,8 @@ pub record Exchange : Type 0 where
 abbrev pub places_of : Limits → ℕ
 places_of l = max 1 (min l.exchanges 65536)
 
--- the limits, the time, how many exchanges were opened, and the stored exchanges in order of
--- arrival.
+-- a table of exchanges: the limits, the time, the number of exchanges opened so far, and the stored
+-- exchanges in order of arrival.
 pub record Table : Type 0 where
   pub limits : Limits
   pub now : ℕ
@@ -40,15 +40,15 @@ is_live now e = within_window now e.at
 abbrev pub is_of : Endpoint → ℕ → Exchange → Bool
 is_of to id e = same_endpoint e.endpoint to && (e.id == id)
 
--- the exchange has this address.
+-- the exchange's endpoint has this address.
 abbrev pub is_at : List ℕ → Exchange → Bool
 is_at ip e = pointwise nat_eq e.endpoint.ip ip
 
--- how many of these exchanges have this address.
+-- the number of exchanges that have this address.
 abbrev pub share_of : List ℕ → List Exchange → ℕ
 share_of ip held = length (filter (is_at ip) held)
 
--- a place is free, and the count of opened exchanges isn't at its maximum.
+-- a place is free, and fewer than 2^64 - 1 exchanges were opened.
 abbrev pub has_place : Table → Bool
 has_place t = nat_lt (length t.held) (places_of t.limits) && nat_lt t.opened 18446744073709551615
 
@@ -56,7 +56,7 @@ has_place t = nat_lt (length t.held) (places_of t.limits) && nat_lt t.opened 184
 abbrev pub has_share : Table → List ℕ → Bool
 has_share t ip = nat_lt (share_of ip t.held) t.limits.share
 
--- the room for one more exchange of an address: the address's share is checked before the places.
+-- whether one more exchange of an address fits. The address's share is checked before the places.
 abbrev pub room_by : Bool → Bool → Room
 room_by false place = OverShare
 room_by true false = Full
@@ -65,9 +65,10 @@ room_by true true = Free
 abbrev pub room_at : Table → List ℕ → Room
 room_at t ip = room_by (has_share t ip) (has_place t)
 
--- the class of a request: new; a duplicate of a request in progress; a duplicate of a confirmable
--- request with this response; a duplicate of a non-confirmable request with a response; new,
--- without a free place; new, from an address with its full share.
+-- the class of a request, in the order of the variants: new; a duplicate of a request in progress;
+-- a duplicate of a confirmable request, which has the response `bytes`; a duplicate of a
+-- non-confirmable request, which has a response; new, but no place is free; new, but its address
+-- already has its share.
 pub data Look : Type 0 where
   IsNew : Look
   IsBusy : Look
@@ -76,7 +77,7 @@ pub data Look : Type 0 where
   IsFull : Look
   IsOverShare : Look
 
--- a duplicate of this exchange.
+-- the class of a duplicate, by its exchange: whether that is confirmable, and its response, if any.
 abbrev pub repeated_by : Bool → Option (ArrayVec ℕ) → Look
 repeated_by confirmable None = IsBusy
 repeated_by confirmable (Some bytes) = if confirmable then IsAgain bytes.items else IsSilent

@@ -19,18 +19,18 @@ pub record AreBytes (ip : List ℕ) : Type 0 where
   pub ip_is : ip ≡ a ∷ b ∷ c ∷ d ∷ []
   pub fit : (a < 256) × (b < 256) × (c < 256) × (d < 256)
 
--- an endpoint and a message ID that fit their types.
+-- the endpoint and the message ID fit their types: four bytes, and two numbers of 16 bits.
 pub record IsPeer (to : Endpoint) (id : ℕ) : Type 0 where
   pub bytes : AreBytes to.ip
   pub port_fits : to.port < 65536
   pub id_fits : id < 65536
 
--- the key of a request: its address, its port and its message ID, from the highest bits to the
--- lowest.
+-- the key of a request: the address in the high 32 bits, then 16 bits of the port, then 16 bits of
+-- the message ID.
 abbrev pub key_of : Endpoint → ℕ → Key
 key_of to id = record { number = address_number to.ip * 4294967296 + to.port * 65536 + id }
 
--- the inverse: the bytes of the address, the port, and the message ID.
+-- the four bytes of an address, from its number; the inverse of `address_number`.
 abbrev pub address_bytes : ℕ → List ℕ
 address_bytes n = (n / 16777216) ∷ (n / 65536 % 256) ∷ (n / 256 % 256) ∷ (n % 256) ∷ []
 
@@ -44,7 +44,7 @@ id_of k = k.number % 65536
 abbrev pub first_key : List ℕ → Key
 first_key ip = record { number = address_number ip * 4294967296 }
 
--- a key of this address.
+-- the key is that of a request from this address.
 abbrev pub is_key_at : List ℕ → Key → Bool
 is_key_at ip k = k.number / 4294967296 == address_number ip
 

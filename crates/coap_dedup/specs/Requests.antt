@@ -16,7 +16,7 @@ use Rattle.coap_dedup.specs.Views.{InOrder}
 abbrev pub has_key : Key → Opened → Bool
 has_key k o = eq_by_cmp key_cmp k o.key
 
--- the number of the request of each key.
+-- the map from each request's key to the request's number.
 abbrev pub by_key : List Opened → FinMap key_cmp ℕ
 by_key os = from_entries (map (λ o. (o.key, o.number)) os)
 
@@ -25,7 +25,8 @@ pub record IsIndex (os : List Opened) (places : List ℕ) : Type 0 where
   pub distinct : len (by_key os) ≡ length os
   pub sorted : places ≡ map (λ n. n % 65536) (values (by_key os))
 
--- a ring of at most 65,536 requests in order of arrival, and its index, which has room for as many.
+-- the ring has requests in order of arrival, at most 65,536, and the index is that of these
+-- requests. The index has room for as many places as the ring.
 pub record AreRequests (ring : Buffer Opened) (index : Vec ℕ) : Type 0 where
   pub capacity : ring.capacity ≤ 65536
   pub few : length ring.items ≤ ring.capacity
@@ -33,20 +34,22 @@ pub record AreRequests (ring : Buffer Opened) (index : Vec ℕ) : Type 0 where
   pub room : ring.capacity ≤ vec_capacity index
   pub is_index : IsIndex ring.items index.items
 
--- how many of `most` keys are left after this number of comparisons.
+-- the greatest number of keys left to compare after this number of comparisons, if `most` keys were
+-- left at first. Each comparison halves the number.
 abbrev pub left_after : ℕ → ℕ → ℕ
 left_after most zero = most
 left_after most (suc n) = left_after most n / 2
 
--- the keys before this place are less than the key.
+-- the keys before place `i` are less than the key.
 abbrev pub AreBelow : List Key → Key → ℕ → Type 0
 AreBelow ks k i = (j : ℕ) (x : Key) → j < i → slice_get ks j ≡ Some x → key_cmp x k ≡ Less
 
--- the keys from this place on are greater than the key.
+-- the keys from place `i` on are greater than the key.
 abbrev pub AreAbove : List Key → Key → ℕ → Type 0
 AreAbove ks k i = (j : ℕ) (x : Key) → i ≤ j → slice_get ks j ≡ Some x → key_cmp x k ≡ Greater
 
--- the key's insertion point is this place.
+-- place `i` is the key's insertion point: the keys before it are less, and those from it on
+-- greater.
 pub record IsGap (ks : List Key) (k : Key) (i : ℕ) : Type 0 where
   pub within : i ≤ length ks
   pub below : AreBelow ks k i

@@ -11,9 +11,9 @@ use std::marker::Model;
 ///
 /// The response of an exchange is at the exchange's number modulo the number of places.
 ///
-/// Memory is reserved for all places at the start. A place's memory is touched when a response is
-/// first stored there or at a later place. So a server that responds little has few of these pages
-/// resident. In contracts all places are visible; a place that wasn't touched has no response.
+/// Memory is reserved for all places at the start. A place's memory is first written when a
+/// response is stored there or at a later place. So few memory pages are resident if a server has
+/// stored few responses. Contracts see all places; a place that wasn't written yet has no response.
 #[derive(Drop)]
 pub(crate) struct Answers {
     places: usize,
@@ -33,7 +33,7 @@ impl Model for Answers {
 }
 
 impl Answers {
-    // Makes `places` places without a response.
+    // Makes `places` places without responses. Returns `AllocError` if memory can't be allocated.
     pub(crate) fn new(alloc: Global, places: usize) -> Result<Answers, AllocError>
         requires { 1 ≤ places }
         ensures { IfOk result (λ a. length a ≡ places) }
@@ -44,7 +44,8 @@ impl Answers {
         })
     }
 
-    // Returns the response of the stored exchange with this number, or `None` if it has none yet.
+    // Returns the response at the place of the exchange with this number, or `None` if the place
+    // has none.
     pub(crate) fn get(&self, number: u64) -> Option<&Datagram>
         ensures { let kept = kept_at self.now number in
             option_map (λ bytes. bytes.now) result ≡ answer_if kept.answered kept.bytes }
@@ -55,7 +56,8 @@ impl Answers {
         }
     }
 
-    // Clears the place of this number, for an exchange that is opened.
+    // Removes the response at the place of this number, since an exchange with that number is
+    // opened.
     pub(crate) fn forget(&mut self, number: u64)
         ensures { self.new ≡ forgotten self.old number }
     {
@@ -65,7 +67,7 @@ impl Answers {
         }
     }
 
-    // Stores the response of the exchange with this number.
+    // Stores `bytes` as the response of the exchange with this number, over the place's contents.
     pub(crate) fn keep(&mut self, number: u64, bytes: &Datagram)
         ensures { self.new ≡ answered_at self.old number bytes.now }
     {
@@ -77,7 +79,8 @@ impl Answers {
     }
 }
 
-// Touches the places up to this one; the newly touched have no response.
+// Appends places without a response to `kept`, until it has the place `place`. If `kept` already
+// has that place, nothing changes.
 fn touch(kept: &mut Vec<StoredResponse>, place: usize)
     requires { place < vec_capacity kept.old }
     ensures items { kept.new.items ≡ kept.old.items ++ replicate (place + 1 - length kept.old.items) no_answer }

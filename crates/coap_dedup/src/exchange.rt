@@ -11,10 +11,10 @@ pub const EXCHANGES: usize = 1024;
 
 /// Greatest possible number of stored exchanges.
 ///
-/// It is the limit of their index, which has numbers of 16 bits.
+/// The index of the exchanges has numbers of 16 bits.
 pub const MOST_EXCHANGES: usize = 65_536;
 
-/// Limits on the stored exchanges: in all, and of one IP address.
+/// Limits on the number of stored exchanges, in all and of one IP address.
 #[derive(Clone, Copy, Debug, PartialEq, Eq)]
 pub struct Limits {
     pub exchanges: usize,
@@ -49,7 +49,7 @@ pub(crate) struct Opened {
     pub(crate) at: u64,
 }
 
-/// The stored response of an exchange, once there is one.
+/// The place of an exchange's response; it has one if `answered` is `true`.
 #[derive(Drop)]
 pub(crate) struct StoredResponse {
     pub(crate) answered: bool,
@@ -63,8 +63,8 @@ pub(crate) fn is_live(now: u64, opened: &Opened) -> bool
     now < opened.at || now - opened.at < WINDOW
 }
 
-// Returns the place of the exchange with this number, of `places` places. No two stored exchanges
-// have the same place.
+// Returns the place of the exchange with this number: `number` modulo `places`. No two stored
+// exchanges have the same place.
 pub(crate) fn place(number: u64, places: usize) -> usize
     requires { 0 < places }
     ensures place { result ≡ number % places }
@@ -73,7 +73,7 @@ pub(crate) fn place(number: u64, places: usize) -> usize
     (number % places as u64) as usize
 }
 
-// Overwrites a datagram with `bytes`.
+// Replaces the contents of `written` by `bytes`.
 pub(crate) fn write_over(written: &mut Datagram, bytes: &Datagram)
     ensures { written.new ≡ bytes.now }
 {

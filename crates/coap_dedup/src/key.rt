@@ -6,7 +6,7 @@ use coap_msg::Endpoint;
 use std::cmp::Ordering;
 use std::marker::Model;
 
-/// The number of compared keys.
+/// A count of comparisons of keys.
 #[derive(Drop)]
 pub(crate) struct Comparisons {
     count: u32,
@@ -28,6 +28,7 @@ impl Comparisons {
         Comparisons { count: 0 }
     }
 
+    // Returns the number of comparisons so far.
     pub(crate) fn count(&self) -> u32
         ensures { result ≡ self.now }
     {
@@ -68,8 +69,8 @@ impl Key {
         }
     }
 
-    // Compares two keys, and counts the comparison. Only `is_of` also reads a key, and doesn't
-    // count that.
+    // Returns the order of two keys, and adds one to `comparisons`. (`is_of` reads a key too, and
+    // isn't counted.)
     pub(crate) fn order(&self, other: &Key, comparisons: &mut Comparisons) -> Ordering
         requires { comparisons.old < 4294967295 }
         ensures order { result ≡ key_cmp self.now other.now }

@@ -3,6 +3,6 @@ use Rattle.std.proofs.Common.{◌≡◌, ◌∷◌, refl}
 use Rattle.std.specs.Prelude.{replicate}
 use Rattle.fc_host.specs.Clocks.{clock_readings}
 
--- 258 ms are 2 and, in the second byte, 1.
+-- the readings at 258 ms begin with the bytes 2 and 1, since 258 is 2 + 1 * 256.
 the_least_byte_is_first : clock_readings 258 ≡ 2 ∷ 1 ∷ replicate 62 0
 the_least_byte_is_first = refl

@@ -10,8 +10,8 @@ pub record Incoming : Type 0 where
   pub from : Endpoint
   pub bytes : List ℕ
 
--- the datagram received into a buffer, if one was: this number of bytes at its start, and their
--- sender.
+-- the datagram in `buffer`, by the result of a receive: the number of bytes at the start of the
+-- buffer, and the sender. `None` if no datagram was received.
 abbrev pub incoming_in : List ℕ → Option (ℕ × Endpoint) → Option Incoming
 incoming_in buffer None = None
 incoming_in buffer (Some r) = Some (record { from = r.1; bytes = take r.0 buffer })
@@ -22,11 +22,12 @@ pub record Receive : Type 0 where
   pub wait : Option ℕ
   pub came : Option Incoming
 
--- these were a source's next receives, if its earlier receives are known.
+-- if the receives `before` are known, `after` are the receives `before`, followed by `more`.
 abbrev pub Comes : Option (List Receive) → Option (List Receive) → List Receive → Type 0
 Comes before after more = IfSome before (λ known. after ≡ Some (known ++ more))
 
--- a reply that a transmitter sends is passed to a sink, once. If a job ends, nothing is passed.
+-- a reply that the transmitter sends is passed to a sink once. If a job ends, nothing is passed to
+-- the sink.
 abbrev pub IsHanded : (Emission → Bool → CallLog → CallLog → Type 0) → WireCall → CallLog → CallLog → Type 0
 IsHanded Went (SendsReply number reply out) before after = Went reply out before after
 IsHanded Went (EndsJob number) before after = after ≡ before

@@ -1,4 +1,4 @@
-//! The monotonic clock: times since a start, and readings of a device with a clock.
+//! The monotonic clock, and the readings of a device with a clock.
 ghost use Rattle.std.specs.Prelude.{◌≡◌};
 ghost use Rattle.fc_host.specs.Clocks.{AreReadAt, device_readings};
 
@@ -9,12 +9,12 @@ use std::io;
 use std::sync::Wait;
 use std::time::{Clock, Instant};
 
-/// The number of bytes of the clock in the readings.
+/// The number of bytes that the clock's time has in the readings.
 const CLOCK: usize = 8;
 
-/// The milliseconds since a start, by the monotonic clock.
+/// A source of times in milliseconds since a start, by the monotonic clock.
 ///
-/// The time is 0 if the clock can't be read.
+/// A time is 0 if the clock can't be read.
 #[derive(Drop)]
 pub struct Elapsed<'a, R: Clock> {
     clock: &'a R,
@@ -22,7 +22,7 @@ pub struct Elapsed<'a, R: Clock> {
 }
 
 impl<'a, R: Clock> Elapsed<'a, R> {
-    /// Starts now: the present time is 0.
+    /// Makes a source of times that starts now, with time 0.
     ///
     /// # Errors
     /// Returns the system's error if the clock can't be read.
@@ -75,8 +75,7 @@ impl<'a, M: TimeSource, Z: Sensors> Device for SensingDevice<'a, M, Z> {
 
 /// Returns the readings at `now`, in milliseconds.
 ///
-/// They are the time in eight bytes, least significant first, and the sensor readings. Workers get
-/// them for each snapshot, and a server on one thread for each round.
+/// They are the time as eight bytes, least significant first, followed by the sensor readings.
 pub fn device_readings(now: u64, sensed: &Sensed) -> Readings
     ensures { result ≡ device_readings now sensed.now }
 {

@@ -8,8 +8,8 @@ use fc_workers::{CallLog, Device, TimeSource, Wire};
 use std::sync::atomic::{AtomicU64, Ordering};
 use std::sync::{Condvar, Mutex, Wait};
 
-// Whether a worker is running a line's job, the datagram it has sent, and the readings for
-// snapshots.
+// The state of a scripted host: whether a worker is running a line's job, the last datagram that
+// the worker sent, and the readings for snapshots.
 #[derive(Drop)]
 struct Work {
     busy: bool,
@@ -19,8 +19,9 @@ struct Work {
 
 /// The host of a server whose workers run the jobs of played lines.
 ///
-/// The player waits here for the worker that runs a line's job. The host keeps what this worker
-/// sends. Its time is that of the line, and its readings are those of the last line that set some.
+/// The player waits here for the worker that runs a line's job. The host keeps the last datagram
+/// that the worker sent. The host's time is that of the line. Its readings are those that were set
+/// last.
 #[derive(Drop)]
 pub struct ScriptedHost {
     work: Mutex<Work>,
@@ -43,15 +44,16 @@ impl ScriptedHost {
         }
     }
 
-    /// Sets the readings for snapshots from now on, as a played line gives them.
+    /// Sets the readings that snapshots get from this call on.
     pub fn set<R: Wait>(&self, rt: &R, readings: Readings) {
         let mut work = self.work.lock(rt);
         work.readings = readings;
     }
 
-    /// Sets the time to `now`, in milliseconds, and announces a job.
+    /// Sets the time to `now`, in milliseconds, and makes `wait` wait for a job to end.
     ///
-    /// The player calls it before each call that may produce a job. Earlier emissions are dropped.
+    /// The player calls it before each call that may produce a job. If the call produces no job,
+    /// the player doesn't call [`ScriptedHost::wait`]. An emission that was kept is dropped.
     pub fn begin<R: Wait>(&self, rt: &R, now: u64) {
         self.now.store(now, Ordering::SeqCst);
         let mut work = self.work.lock(rt);
@@ -59,9 +61,10 @@ impl ScriptedHost {
         work.reply = None;
     }
 
-    /// Waits until the job was run, and returns the last emission sent for it, if any.
+    /// Waits until a worker ends a job, and returns the last emission sent.
     ///
-    /// It waits for ever if the announced job was never produced.
+    /// Returns `None` if none was sent since [`ScriptedHost::begin`]. It returns immediately if a
+    /// job has ended since then, and never if no job ends.
     pub fn wait<R: Wait>(&self, rt: &R) -> Option<Emission> {
         let mut work = self
             .done
@@ -71,7 +74,8 @@ impl ScriptedHost {
 }
 
 impl Wire for ScriptedHost {
-    // Keeps a copy of the emission for the player, instead of an earlier one. It counts as sent.
+    // Keeps a copy of the emission for the player, in place of an earlier one. Returns `true`: the
+    // emission counts as sent.
     fn send<R: Wait>(&self, rt: &R, number: u64, emission: &Emission, log: &mut CallLog) -> bool {
         let _ = number;
         let _ = log;
@@ -80,7 +84,7 @@ impl Wire for ScriptedHost {
         true
     }
 
-    // Wakes the player.
+    // Marks the job as ended, and wakes the player.
     fn ended<R: Wait>(&self, rt: &R, number: u64, log: &mut CallLog) {
         let _ = number;
         let _ = log;
@@ -98,7 +102,7 @@ impl TimeSource for ScriptedHost {
         self.now.load(Ordering::SeqCst)
     }
 
-    // Returns 0, since the output is to be the same each time.
+    // Returns 0, so that the output is the same each time.
     fn random<R: Wait>(&self, rt: &R) -> u16 {
         let _ = rt;
         0
@@ -114,7 +118,8 @@ impl Device for ScriptedHost {
     }
 }
 
-// Copies an emission for the player; the worker writes its next one over the original.
+// Returns a copy of an emission for the player. The worker writes its next emission over the
+// original.
 fn copy(emission: &Emission) -> Emission {
     let mut copy = blank_emission();
     copy.to = emission.to;

@@ -1,6 +1,6 @@
 //! Sensors: the readings of a device after its clock.
 //!
-//! A driver or a script keeps the sensor readings in a file; or there are no sensors.
+//! The readings are those that a driver or a script keeps in a file, or zeros without sensors.
 ghost use Rattle.std.specs.Prelude.{◌≡◌, ⊤, ℕ, List, IfOk, OnErr};
 ghost use Rattle.fc_host.specs.Clocks.{AreSensed, no_sensors};
 
@@ -11,18 +11,18 @@ use std::sync::{Mutex, Wait};
 use std::{fs, io};
 use thiserror::Error;
 
-/// The number of bytes of the readings after the clock's.
+/// The number of bytes of the sensor readings, which follow those of the clock.
 pub const SENSED: usize = 56;
 
 /// The sensor readings.
 pub type Sensed = [u8; SENSED];
 
-/// The sensor readings if there are no sensors.
+/// The sensor readings without sensors: zeros.
 const NOTHING: Sensed = [0; SENSED];
 
 /// The sensors of a device.
 pub trait Sensors {
-    // The readings that they have returned.
+    // A property of all readings that the sensors return.
     ghost are_sensed: { List ℕ → Type 0 } = { λ _. ⊤ };
 
     /// Returns the sensor readings at `now`, in milliseconds.
@@ -30,7 +30,7 @@ pub trait Sensors {
         ensures { are_sensed result };
 }
 
-/// No sensors: zeros.
+/// Sensors of a device without any; the readings are zeros.
 #[derive(Clone, Copy)]
 pub struct NoSensors;
 
@@ -44,7 +44,7 @@ impl Sensors for NoSensors {
     }
 }
 
-// The reason why a file doesn't give the sensor readings.
+// The reason why a file doesn't give all 56 bytes of the sensor readings.
 #[derive(Debug, Drop, Error)]
 enum Trouble {
     #[error("{0}")]
@@ -56,7 +56,7 @@ enum Trouble {
 }
 
 impl Trouble {
-    // Returns the state of a file with this trouble.
+    // Returns the state of a file that has this trouble.
     fn state(&self) -> FileState {
         match self {
             Trouble::Unread(_) => FileState::Unread,
@@ -66,7 +66,7 @@ impl Trouble {
     }
 }
 
-// Whether a file gives the sensor readings.
+// The state of a file: it gives the 56 bytes (`Whole`), or the reason why it doesn't.
 #[derive(Clone, Copy, PartialEq, Eq)]
 enum FileState {
     Whole,
@@ -75,7 +75,7 @@ enum FileState {
     Short,
 }
 
-// The last readings of a file, their time, and the file's state then.
+// The last readings of a file, the time of the read, and the file's state at that read.
 #[derive(Drop)]
 struct KeptReadings {
     at: Option<u64>,
@@ -85,10 +85,10 @@ struct KeptReadings {
 
 /// Sensors whose readings are the first 56 bytes of a file.
 ///
-/// The file is read at the first call, and again at each later time. If times come out of order, a
-/// call with an earlier time gets the readings of a later one. Missing bytes are zeros. A line is
-/// written to standard error if the file can't be read, is a FIFO or is too short. Each later
-/// change of the file's state is reported too.
+/// The file is read at the first call, and at each call with a later time than at the last read.
+/// Any other call gets the readings of the last read. Missing bytes are zeros. A line is written to
+/// standard error if the file can't be read, is a FIFO or is too short. Each later change of the
+/// file's state is reported too.
 #[derive(Drop)]
 pub struct FileSensors<'a, F: Files + Eprint> {
     files: &'a F,
@@ -111,8 +111,8 @@ impl<'a, F: Files + Eprint> FileSensors<'a, F> {
         }
     }
 
-    // Reads the first bytes of the file over `sensed`; zeros follow them. Returns why there aren't
-    // 56; if no byte could be read, all are zeros.
+    // Reads up to 56 bytes from the start of the file over `sensed`; the missing bytes are zeros.
+    // Returns why there are fewer than 56 bytes.
     fn read(&self, sensed: &mut Sensed) -> Result<(), Trouble> {
         *sensed = NOTHING;
         if fs::metadata(self.files, self.path)?.file_type().is_fifo() {
@@ -125,7 +125,7 @@ impl<'a, F: Files + Eprint> FileSensors<'a, F> {
         }
     }
 
-    // Reports a change of the file's state, by its last read, to standard error.
+    // Writes a line about the result of the last read of the file to standard error.
     fn tell(&self, read: &Result<(), Trouble>) {
         let path = self.path;
         let _told = match read {
@@ -138,11 +138,11 @@ impl<'a, F: Files + Eprint> FileSensors<'a, F> {
 }
 
 impl<'a, F: Files + Eprint> Sensors for FileSensors<'a, F> {
-    // Reads the file at the first call, and if `now` is later than at its last read. Returns the
-    // last readings.
+    // Reads the file at the first call, and if `now` is later than the time of the last read.
+    // Returns the readings of the last read.
     fn sense<R: Wait>(&self, rt: &R, now: u64) -> Sensed {
         let mut kept = self.kept.lock(rt);
-        // an earlier time is that of a delayed run: the kept readings are newer
+        // an earlier time belongs to a delayed run, and the kept readings are newer
         if kept.at < Some(now) {
             kept.at = Some(now);
             let read = self.read(&mut kept.sensed);
@@ -159,8 +159,8 @@ impl<'a, F: Files + Eprint> Sensors for FileSensors<'a, F> {
     }
 }
 
-// Reads the bytes of one call of a reader, at most 56, over `sensed`; zeros follow them. Returns
-// the number of bytes read. If the call fails, all are zeros.
+// Reads up to 56 bytes by one call of the reader over `sensed`; the missing bytes are zeros.
+// Returns the number of bytes read. If the call fails, returns its error, and all bytes are zeros.
 fn read_sensed<R: Read>(reader: &mut R, sensed: &mut Sensed) -> io::Result<usize>
     ensures given { IfOk result (λ count. AreSensed (R.remaining reader.old) (R.remaining reader.new) count sensed.new) }
     ensures none { OnErr result (sensed.new ≡ no_sensors) }

@@ -1,4 +1,4 @@
-//! The source and the sink of a server's datagrams: a socket, or a test's stand-in.
+//! The source and the sink of a server's datagrams: sockets, or a test's scripts.
 ghost use Rattle.std.specs.Net.Addr.{ipv4_octets};
 ghost use Rattle.std.specs.Net.Socket.{v4_ip, v4_port};
 ghost use Rattle.std.specs.Prelude.{◌≡◌, ◌≤◌, ⊤, [], ◌∷◌, Bool, IfSome, List, None, Option, length};
@@ -16,10 +16,10 @@ use std::time::Duration;
 
 /// The shortest time that a receive waits for a datagram, in milliseconds.
 ///
-/// If no datagram is received in this time, time passes.
+/// If no datagram is received in this time, the server only advances its time.
 pub const SHORTEST_WAIT: u64 = 100;
 
-/// The length of a receive buffer: one byte more than a datagram may have.
+/// The length of a receive buffer, one byte more than a datagram may have.
 ///
 /// A longer datagram fills the buffer, so it is recognised as too long and ignored.
 pub const BUFFER: usize = DATAGRAM + 1;
@@ -29,19 +29,19 @@ pub type Buffer = [u8; BUFFER];
 
 /// A source of datagrams.
 pub trait Source {
-    // The receives so far, if they are known. Each has its timeout, and the part of the received
-    // datagram that fitted the buffer.
+    // The receives so far, if they are known. Each receive has its timeout and, if a datagram was
+    // received, the part of the datagram that fitted the buffer.
     ghost came: { Self → Option (List Receive) } = { λ _. None };
 
-    // The receives that the source was called for, each from one state of the caller's log to the
-    // next.
+    // A relation: the source was called for this receive, which led from the first state of the
+    // caller's log to the second.
     ghost received: { Receive → Log → Log → Type 0 } = { λ receive before after. ⊤ };
 
     /// Waits `wait` milliseconds for a datagram, or without limit if `wait` is `None`.
     ///
-    /// Returns the number of its bytes at the start of `buffer`, and its sender. Bytes that don't
-    /// fit the buffer are lost. Returns `None` if no datagram came in time or it couldn't be
-    /// received.
+    /// Writes the datagram to the start of `buffer`, and returns its number of bytes there and its
+    /// sender. Bytes that don't fit the buffer are lost. Returns `None` if no datagram was received
+    /// in time or if receiving failed.
     fn receive(
         &mut self,
         wait: Option<u64>,
@@ -55,8 +55,8 @@ pub trait Source {
 
 /// A sink of datagrams.
 pub trait Sink {
-    // The datagrams passed to the sink, each from one state of the caller's log to the next. The
-    // sink returns whether each was sent.
+    // A relation: the datagram was passed to the sink, which returned whether it was sent. The call
+    // led from the first state of the caller's log to the second.
     ghost went: { Emission → Bool → Log → Log → Type 0 } = { λ emission out before after. ⊤ };
 
     /// Sends a datagram, and returns whether it was sent.
@@ -72,7 +72,7 @@ pub struct Receiving<'a> {
 }
 
 impl<'a> Receiving<'a> {
-    /// Makes the source of a socket whose receives wait 100 ms, as [`open`] sets it.
+    /// Makes a source of a socket whose timeout of receives is 100 ms, as by [`open`].
     pub fn new(socket: &'a UdpSocket) -> Receiving<'a> {
         Receiving {
             socket,
@@ -80,8 +80,8 @@ impl<'a> Receiving<'a> {
         }
     }
 
-    // Sets the timeout of receives. If the system refuses that, the previous timeout stays, and the
-    // timeout is set again before the next receive.
+    // Sets the timeout of receives, if it differs from the current one. If the system refuses the
+    // new timeout, the current one stays, and the next receive tries to set its timeout again.
     fn set_wait(&mut self, wait: Option<u64>) {
         if self.wait != wait
             && self
@@ -94,11 +94,11 @@ impl<'a> Receiving<'a> {
     }
 }
 
-/// The datagrams received from a real socket are unknown.
+/// A source that receives from a real socket; contracts don't know its datagrams.
 impl<'a> Source for Receiving<'a> {
     ghost received = { λ receive before after. after ≡ before };
 
-    // A datagram from an IPv6 address is dropped, and the result is `None`.
+    // Receives a datagram. A datagram from an IPv6 address is dropped, and the result is `None`.
     fn receive(
         &mut self,
         wait: Option<u64>,
@@ -122,9 +122,9 @@ impl Sink for UdpSocket {
     }
 }
 
-/// Binds a UDP socket at an address and a port of this host, or at a free port.
+/// Binds a UDP socket at an address and a port of this host.
 ///
-/// Port 0 requests a free port. A receive waits 100 ms.
+/// Port 0 requests a free port. The timeout of receives is 100 ms.
 ///
 /// # Errors
 /// Returns the system's error if the address isn't one of this host, if the port is used or not
@@ -135,6 +135,7 @@ pub fn open<R: Net>(rt: &R, address: SocketAddrV4) -> io::Result<UdpSocket> {
     Ok(socket)
 }
 
+// Returns the endpoint with this address and port.
 fn endpoint_of(address: &SocketAddrV4) -> Endpoint
     ensures { (result.ip ≡ ipv4_octets (v4_ip address.now)) × (result.port ≡ v4_port address.now) }
 {
@@ -144,6 +145,7 @@ fn endpoint_of(address: &SocketAddrV4) -> Endpoint
     }
 }
 
+// Returns the socket address with this endpoint's address and port.
 fn address_of(endpoint: Endpoint) -> SocketAddrV4
     ensures { (ipv4_octets (v4_ip result) ≡ endpoint.ip) × (v4_port result ≡ endpoint.port) }
 {
@@ -153,7 +155,7 @@ fn address_of(endpoint: Endpoint) -> SocketAddrV4
 
 /// A transmitter that passes the workers' replies to a sink.
 ///
-/// No caller waits for a job.
+/// The end of a job has no effect, since no caller waits for it.
 #[derive(Drop)]
 pub struct Replying<'a, K: Sink> {
     pub sink: &'a K,

@@ -1,4 +1,4 @@
--- The number of entries, in all and per endpoint and token.
+-- The number of entries in a list, and of those with one endpoint and token.
 use Rattle.std.proofs.Common.{◌≡◌, ℕ, ◌≤◌, List, [], ◌∷◌, ◌++◌, length, Bool, true, false, cond, Option, Some, None, refl, sym, ap, ◌∙◌, arith, length-append}
 use Rattle.std.specs.Prelude.{count_by, max, nat_eq, nat_lt, not, sum_by, ◌==◌, ◌&&◌}
 use Rattle.std.specs.Cmp.Lexicographic.{pointwise, bytes_decides}
@@ -58,7 +58,7 @@ timed_sum m now o (Some emission) le = omega (arith, le)
 
 -- ---- only a registration adds an entry
 
--- the property that a registration must have
+-- if the call is a registration, the sum of `m` over the entries after it is at most `n`
 abbrev pub IfAdds : (Entry → ℕ) → ObserverCall → ObserverList → ℕ → Type 0
 IfAdds m (Register now to token request szx serial) t n = sum_by m (observers_after (Register now to token request szx serial) t).held ≤ n
 IfAdds m other t n = Unit {0}
@@ -76,7 +76,7 @@ sum_after m (Reset to id) t n here new le = let less = sum_left m (has_last_id t
 sum_after m (Acknowledge to id) t n here new le = let less = sum_each m (has_last_id to id) acknowledged here t.held in omega (arith, less, le)
 sum_after m (Tick now) t n here new le = let less = sum_first m (is_overdue (max t.time now)) (timed_out (max t.time now)) (λ o. timed_sum m (max t.time now) o (retransmission o) (here o)) t.held in omega (arith, less, le)
 
--- ---- at most 32
+-- ---- a list has at most 32 entries
 
 length-sum : (os : List Entry) → length os ≡ sum_by (λ (o : Entry). 1) os
 length-sum [] = refl
@@ -108,18 +108,18 @@ at_most_32 slot confirm_after (c ∷ h) =
     let all = length-sum (observers_after c t).held in
     omega (arith, after, all)
 
--- ---- at most one of an endpoint and token
+-- ---- a list has at most one entry of an endpoint and token
 
 kept_key_by : (to own : Endpoint) (token : List ℕ) (now id serial random : ℕ) (bytes : ArrayVec ℕ) (o : Entry) (b : Bool) → is_entry_of to token (notified_by b now id serial random bytes o) ≡ is_entry_of to token o
 kept_key_by to own token now id serial random bytes o true = refl
 kept_key_by to own token now id serial random bytes o false = refl
 
--- a call keeps an entry's endpoint and token
+-- an entry that a call changes keeps its endpoint and token
 pub kept_key : (to : Endpoint) (token : List ℕ) (c : ObserverCall) (t : ObserverList) (o : Entry) → is_entry_of to token (changed_by c t o) ≡ is_entry_of to token o
 kept_key to token (Notify now turn id serial random bytes) t o = kept_key_by to to token (max t.time now) id serial random bytes o (must_confirm t.confirm_after (max t.time now) o)
 kept_key to token other t o = refl
 
--- two keys of one entry are equal
+-- if two keys are equal, an entry has the one exactly if it has the other
 pub own_key : (to from : Endpoint) (token own : List ℕ) → (same_endpoint from to && pointwise nat_eq own token) ≡ true → (o : Entry) → is_entry_of to token o ≡ is_entry_of from own o
 own_key to from token own e o =
     let w = and_parts (same_endpoint from to) (pointwise nat_eq own token) e in
@@ -129,7 +129,7 @@ own_key to from token own e o =
     let tok = (bytes_decides own token).0 w.1 in
     sym (λ i. (pointwise nat_eq o.endpoint.ip (ip i) && (o.endpoint.port == port i)) && pointwise nat_eq o.token.items (tok i))
 
--- 1 for an entry that counts
+-- 1 for an entry that counts, and 0 for one that doesn't
 abbrev pub unit : Bool → ℕ
 unit b = cond b 1 0
 
@@ -141,7 +141,8 @@ count_gone : (p q : Entry → Bool) → ((o : Entry) → p o ≡ q o) → (os : 
 count_gone p q same [] = refl
 count_gone p q same (o ∷ os) = gone_by p q o (without_those q os) (q o) refl (same o) (count_gone p q same os)
 
--- with a new entry, once those of its key are removed
+-- if the entries with a new entry's key are removed and the new entry is appended, each key still
+-- has at most one entry
 joined_one : (to from : Endpoint) (token own : List ℕ) (o : Entry) (os : List Entry) (b : Bool) → (same_endpoint from to && pointwise nat_eq own token) ≡ b → is_entry_of to token o ≡ b → count_by (is_entry_of to token) os ≤ 1 → count_by (is_entry_of to token) (without_those (is_entry_of from own) os ++ o ∷ []) ≤ 1
 joined_one to from token own o os true e here le =
     let m = λ (x : Entry). cond (is_entry_of to token x) 1 0 in

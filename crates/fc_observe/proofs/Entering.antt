@@ -1,4 +1,4 @@
--- The registrations that are entered, and their places.
+-- The registrations that are entered, and the places of their entries.
 use Rattle.std.proofs.Common.{◌≡◌, ℕ, ◌<◌, ◌≤◌, [], ◌∷◌, ◌++◌, length, Bool, true, false, List, Option, cond, refl, sym, ap, ◌∙◌, subst, arith}
 use Rattle.std.specs.Prelude.{nat_lt, not, if◌then◌else◌}
 use Rattle.std.specs.List.{Any, list_any}
@@ -16,7 +16,7 @@ use Rattle.fc_observe.specs.Laws.{IsRegistrationOf, StandsLast}
 use Rattle.fc_observe.specs.Observers.{ObserverList, entered_by, registered, registration, registration_by, with_held, without_those}
 use Rattle.fc_observe.proofs.First.{or_false, some_passes}
 
--- if no entry passes, all stay; if one does, all others stay
+-- if no entry passes the test, the list without those that pass is the same list
 all_stay : (p : Entry → Bool) (os : List Entry) → list_any p os ≡ false → without_those p os ≡ os
 all_stay p [] none = refl
 all_stay p (o ∷ os) none =
@@ -59,7 +59,7 @@ module _ (to : Endpoint) (token : ArrayVec ℕ) (request : Request) (szx : Optio
   abbrev is_known : Entry → Bool
   is_known = is_entry_of to token.items
 
-  -- the registration is the last, after these entries
+  -- the registration's entry is the last in the list, after these other entries
   abbrev IsLast : List Entry → Type 0
   IsLast others = StandsLast others (IsRegistrationOf to token request szx serial) (registered to token request szx serial t).held
 

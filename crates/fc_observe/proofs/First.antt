@@ -11,7 +11,7 @@ pub or_false : (a b : Bool) → (a || b) ≡ false → (a ≡ false) × (b ≡ f
 or_false true b e = absurd (cc e)
 or_false false b e = (refl, e)
 
--- the first that passes is replaced, if none before it passes
+-- if an entry passes the test and no entry before it does, that entry is the one that is replaced
 first_passes : (p : Entry → Bool) (g : Entry → List Entry) (before : List Entry) (o : Entry) (after : List Entry) → list_any p before ≡ false → p o ≡ true → at_first p g (before ++ o ∷ after) ≡ before ++ (g o ++ after)
 first_passes p g [] o after none is = ap (λ (b : Bool). cond b (g o ++ after) (o ∷ at_first p g after)) is
 first_passes p g (x ∷ xs) o after none is =

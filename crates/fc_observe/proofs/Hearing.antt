@@ -50,7 +50,7 @@ found_by : (p : Entry → Bool) (o x : Entry) (os : List Entry) (b : Bool) → (
 found_by p o x os true rest found = let same : o ≡ x = cc in (0, omega arith, same)
 found_by p o x os false rest found = let there = rest found in let lt = there.1 in (suc there.0, omega (arith, lt), there.2)
 
--- a found entry is stored
+-- an entry that a search finds is in the list
 pub found_held : (p : Entry → Bool) (os : List Entry) (x : Entry) → find p os ≡ Some x → Contains os x
 found_held p [] x found = absurd (cc found)
 found_held p (o ∷ os) x found = found_by p o x os (p o) (found_held p os x) found
@@ -73,7 +73,7 @@ stays_gone to token h t none gone = none_any (is_entry_of to token) (after_calls
 
 -- ---- a lease that is no longer active
 
--- the time after a call
+-- the time of the list after a call
 abbrev time_after : ObserverCall → ObserverList → ℕ
 time_after (Advance now) t = max t.time now
 time_after (Register now to token request szx serial) t = max t.time now
@@ -83,8 +83,8 @@ time_after (GiveUp turn now) t = max t.time now
 time_after (Tick now) t = max t.time now
 time_after other t = t.time
 
--- the list after a call has the same slot, the same `confirm_after`, that time, and at least as
--- many leases
+-- the list after a call has the same slot, the same `confirm_after`, the time `now`, and at least
+-- as many granted leases
 record GoesOn (t after : ObserverList) (now : ℕ) : Type 0 where
   slot : after.slot ≡ t.slot
   confirm_after : after.confirm_after ≡ t.confirm_after
@@ -101,12 +101,12 @@ goes_on (NextDue now notify_serial) t =
     record { slot = g.slot; confirm_after = g.confirm_after; time = g.time; turns = g.turns }
 goes_on other t = record { slot = refl; confirm_after = refl; time = refl; turns = omega arith }
 
--- so the slot is that of the list's `new`, and a list that was called for a lease got the time
+-- after any calls, the list's slot is that of the new list
 pub slot_is : (slot confirm_after : ℕ) (h : List ObserverCall) → (observers slot confirm_after h).slot ≡ slot
 slot_is slot confirm_after [] = refl
 slot_is slot confirm_after (c ∷ h) = let g = goes_on c (observers slot confirm_after h) in g.slot ∙ slot_is slot confirm_after h
 
--- and so is `confirm_after`
+-- after any calls, the list's `confirm_after` is that of the new list
 pub confirm_after_is : (slot confirm_after : ℕ) (h : List ObserverCall) → (observers slot confirm_after h).confirm_after ≡ confirm_after
 confirm_after_is slot confirm_after [] = refl
 confirm_after_is slot confirm_after (c ∷ h) = let g = goes_on c (observers slot confirm_after h) in g.confirm_after ∙ confirm_after_is slot confirm_after h
@@ -138,7 +138,8 @@ over_if : (b : Bool) (x y : Bool) → (x ≡ false → y ≡ false) → (b && x)
 over_if true x y f over = f over
 over_if false x y f over = refl
 
--- a phase without a lease of this number
+-- if a phase doesn't have the active lease with a number, it doesn't have that lease after the mark
+-- as missing
 missed_over : (m k : ℕ) (p : Phase) → is_out_in m k p ≡ false → is_out_in m k (missed_phase p) ≡ false
 missed_over m k (TurnOut own at missing) over = over
 missed_over m k other over = over

@@ -1,4 +1,4 @@
--- Properties of each entry after a call, from properties of each entry before it.
+-- Properties of each entry after a call, from properties of each entry before the call.
 use Rattle.std.proofs.Common.{◌≡◌, ℕ, List, [], ◌∷◌, ◌++◌, Bool, true, false, cond, Option, Some, None, refl, inl, inr}
 use Rattle.std.specs.Prelude.{max, not, ◌&&◌, ◌⊎◌}
 use Rattle.std.specs.List.{All, Any, Contains}
@@ -37,7 +37,7 @@ all_without P Q p same os all = All-filter (λ o. not (p o)) Q os (All-weaker P 
 
 -- ---- calls
 
--- the property that an entry registered by the call must have
+-- if the call is a registration, the entry that it makes has the property `Q`
 abbrev pub IfRegisters : (Entry → Type 0) → ObserverCall → ObserverList → Type 0
 IfRegisters Q (Register now to token request szx serial) t = Q (new_entry (max t.time now) to token request szx serial)
 IfRegisters Q other t = Unit {0}

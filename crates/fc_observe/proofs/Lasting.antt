@@ -1,4 +1,4 @@
--- A lease whose snapshot found the slot empty stays marked while it is active, whatever is called.
+-- A lease whose snapshot found the slot empty stays marked as missing while it is active.
 use Rattle.std.proofs.Common.{◌≡◌, ℕ, ◌<◌, ◌≤◌, List, [], ◌∷◌, Bool, true, false, cond, Option, Some, refl, ap, ◌∙◌, arith}
 use Rattle.std.specs.Prelude.{count_by, find, is_some, max, ◌==◌}
 use Rattle.std.specs.List.{All}
@@ -19,11 +19,11 @@ use Rattle.fc_observe.proofs.Keeping.{IfRegisters, all_after}
 use Rattle.fc_observe.proofs.Serials.{acknowledged_out, notified_out, out_phase, resent_out}
 use Rattle.fc_observe.proofs.Turns.{one_turn, turns_of}
 
--- the entry's lease, if it has this number, is marked as missing
+-- if the entry has the lease with this number, that lease is marked as missing
 abbrev pub HasMissed : ℕ → Entry → Type 0
 HasMissed n o = (at : ℕ) (missing : Bool) → o.phase ≡ TurnOut n at missing → missing ≡ true
 
--- ---- calls after it
+-- ---- calls after the mark
 
 missed_true : (n at : ℕ) (missing : Bool) (p : Phase) → missed_phase p ≡ TurnOut n at missing → missing ≡ true
 missed_true n at missing (TurnOut own since before) is = cc is
@@ -42,7 +42,7 @@ new_missed : (n : ℕ) (c : ObserverCall) (t : ObserverList) → IfRegisters (Ha
 new_missed n (Register now to token request szx serial) t = λ at missing is. absurd (cc is)
 new_missed n other t = tt
 
--- all entries whose lease has this number
+-- if each lease with this number is marked as missing, each still is after any calls
 pub missed_last : (n : ℕ) (h : List ObserverCall) (t : ObserverList) → n < t.turns → All (HasMissed n) t.held → All (HasMissed n) (after_calls h t).held
 missed_last n [] t lt all = all
 missed_last n (c ∷ h) t lt all =
@@ -50,7 +50,7 @@ missed_last n (c ∷ h) t lt all =
     let given : n < (after_calls h t).turns = omega (arith, lt, more) in
     all_after (HasMissed n) (HasMissed n) c (after_calls h t) (λ o w. w) (λ o w may. changed_missed c (after_calls h t) n o given w may) (new_missed n c (after_calls h t)) (missed_last n h t lt all)
 
--- ---- the snapshot
+-- ---- the snapshot that found the slot empty
 
 numbered : (n at : ℕ) (missing : Bool) (o : Entry) → o.phase ≡ TurnOut n at missing → has_number n o ≡ true
 numbered n at missing o is = ap (has_number_in n) is ∙ eq-eqb n n refl
@@ -78,7 +78,8 @@ one_numbered : (slot m : ℕ) (turn : Turn) (os : List Entry) → is_some (find 
 one_numbered slot m turn [] out = absurd (cc out)
 one_numbered slot m turn (o ∷ os) out = one_numbered_by slot m turn o os (has_turn slot m turn o) refl (one_numbered slot m turn os) out
 
--- the first entry that has the active lease is the only one with its number
+-- if at most one entry has a lease with this number, and the lease is active, each lease with this
+-- number is marked as missing after the call
 all_missed_by : (slot m : ℕ) (turn : Turn) (o : Entry) (os : List Entry) (b : Bool) → has_turn slot m turn o ≡ b →
     count_by (has_number turn.number) (o ∷ os) ≤ 1 →
     (count_by (has_number turn.number) os ≤ 1 → is_some (find (has_turn slot m turn) os) ≡ true → All (HasMissed turn.number) (at_first (has_turn slot m turn) (λ o. missed o ∷ []) os)) →
@@ -102,7 +103,7 @@ missed_begin turn slot confirm_after h out =
     let t = observers slot confirm_after h in
     all_missed t.slot t.time turn t.held (one_turn slot confirm_after turn.number h) out
 
--- ---- its result
+-- ---- the result for a marked lease
 
 missing_by : (slot m : ℕ) (turn : Turn) (o : Entry) (x : Option Entry) (b : Bool) → has_turn slot m turn o ≡ b → HasMissed turn.number o → is_missing_by x ≡ is_some x → is_missing_by (cond b (Some o) x) ≡ is_some (cond b (Some o) x)
 missing_by slot m turn o x true e here rest =

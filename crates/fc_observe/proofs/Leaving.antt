@@ -12,7 +12,7 @@ use Rattle.fc_observe.specs.Entries.{is_entry_of}
 use Rattle.fc_observe.specs.Observers.{at_first, entry_out, is_out}
 use Rattle.fc_observe.proofs.Counting.{one_of_key, unit}
 
--- if the first that passes q is removed, and passes p, one fewer passes p
+-- if the first entry that passes q also passes p, and is removed, one entry fewer passes p
 less_by : (p q : Entry → Bool) (o x : Entry) (os : List Entry) (b : Bool) → (find q os ≡ Some x → count_by p (at_first q (λ y. []) os) + 1 ≡ count_by p os) → p x ≡ true → cond b (Some o) (find q os) ≡ Some x → count_by p (cond b ([] ++ os) (o ∷ at_first q (λ y. []) os)) + 1 ≡ count_by p (o ∷ os)
 less_by p q o x os true rest passes found =
     let same : o ≡ x = cc found in

@@ -44,7 +44,7 @@ first_missed slot m turn (o ∷ os) out = missed_by slot m turn o os (has_turn s
 pub missing_after : (turn : Turn) (t : ObserverList) → is_some (entry_out turn t) ≡ true → is_missing turn (observers_after (MarkMissing turn) t) ≡ true
 missing_after turn t out = first_missed t.slot t.time turn t.held out
 
--- ---- a new lease
+-- ---- a new lease isn't marked as missing
 
 found_new_by : (p : Entry → Bool) (o : Entry) (os : List Entry) (b : Bool) → p o ≡ b → (p o ≡ true → has_missed o ≡ false) → is_missing_by (find p os) ≡ false → is_missing_by (cond b (Some o) (find p os)) ≡ false
 found_new_by p o os true e here rest = here e
@@ -56,7 +56,7 @@ found_new p (o ∷ os) all =
     let P = λ (o : Entry). p o ≡ true → has_missed o ≡ false in
     found_new_by p o os (p o) refl (All-head P o os all) (found_new p os (All-tail P o os all))
 
--- the entry's lease, if it has this number, isn't marked as missing
+-- if the entry has the lease with this number, that lease isn't marked as missing
 abbrev NewIn : ℕ → Entry → Type 0
 NewIn n o = (at : ℕ) (missing : Bool) → o.phase ≡ TurnOut n at missing → missing ≡ false
 

@@ -1,4 +1,4 @@
--- A list without observers, which only a registration changes.
+-- A list without observers: only a registration enters one.
 use Rattle.std.proofs.Common.{◌≡◌, ℕ, List, [], ◌∷◌, Bool, true, false, ap}
 use Rattle.std.specs.Prelude.{max}
 use Rattle.fc_observe.specs.declared.entry.Entry.{Entry}

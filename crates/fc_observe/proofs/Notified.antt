@@ -12,7 +12,8 @@ use Rattle.fc_observe.specs.Observers.{ObserverList}
 use Rattle.fc_observe.specs.Views.{interest_of}
 use Rattle.fc_observe.proofs.Keeping.{come_from}
 
--- confirmable or not
+-- after a notification, confirmable or not, an entry has the same observer, and the notification's
+-- message ID. The time of the last confirmable notification changes if it is confirmable
 notified_last : (now id serial random : ℕ) (bytes : ArrayVec ℕ) (o : Entry) (b : Bool) → (interest_of (notified_by b now id serial random bytes o) ≡ interest_of o) × ((notified_by b now id serial random bytes o).id ≡ Some id) × ((notified_by b now id serial random bytes o).confirmed ≡ (if b then now else o.confirmed))
 notified_last now id serial random bytes o true = (refl, refl, refl)
 notified_last now id serial random bytes o false = (refl, refl, refl)

@@ -8,13 +8,13 @@ use Rattle.fc_observe.specs.declared.entry.Entry.{Entry}
 use Rattle.fc_observe.specs.declared.entry.Turn.{Turn}
 use Rattle.fc_observe.specs.Observers.{ObserverList, at_first, entry_out, gives_turn, is_out, next_turn, next_turn_by, with_held}
 
--- no entry passes
+-- no entry passes the test: a search finds none, and replacing the first one changes nothing
 pub record PassesNone (p : Entry → Bool) (os : List Entry) : Type 0 where
   pub any : list_any p os ≡ false
   pub found : find p os ≡ None
   pub change : (g : Entry → List Entry) → at_first p g os ≡ os
 
--- the first that passes is here
+-- the first entry that passes the test is at place `i`
 pub record IsFirst (p : Entry → Bool) (os : List Entry) (i : ℕ) : Type 0 where
   pub within : i < length os
   pub any : list_any p os ≡ true
@@ -68,20 +68,20 @@ first_passes p os j some =
     let same : r.0 ≡ j = omega (arith, r.1) in
     subst (λ (i : ℕ). IsFirst p os i) same r.2
 
--- ---- the code's actions there
+-- ---- the code's actions at the place of the first entry that passes
 
--- it is found there
+-- a search finds the entry at that place
 pub found_there : (p : Entry → Bool) (os : List Entry) (i : ℕ) (x : Entry) → IsFirst p os i → x ≡ get_or os i x → find p os ≡ Some x
 found_there p os i x f read = f.found x ∙ ap (λ (o : Entry). Some o) (sym read)
 
 there : (p : Entry → Bool) (g : Entry → List Entry) (os : List Entry) (i : ℕ) (x : Entry) (ys : List Entry) → IsFirst p os i → x ≡ get_or os i x → g x ≡ ys → at_first p g os ≡ take i os ++ (ys ++ drop (suc i) os)
 there p g os i x ys f read made = f.change g x ∙ ap (λ (l : List Entry). take i os ++ (l ++ drop (suc i) os)) (ap g (sym read) ∙ made)
 
--- it is overwritten
+-- if the entry at that place is overwritten, exactly the first entry that passes is changed
 pub changed_there : (p : Entry → Bool) (g : Entry → List Entry) (os : List Entry) (i : ℕ) (x y : Entry) → IsFirst p os i → x ≡ get_or os i x → g x ≡ y ∷ [] → set os i y ≡ at_first p g os
 changed_there p g os i x y f read made = set_split os i y f.within ∙ sym (there p g os i x (y ∷ []) f read made)
 
--- it is removed
+-- if the entry at that place is removed, exactly the first entry that passes is removed
 pub removed_there : (p : Entry → Bool) (g : Entry → List Entry) (os : List Entry) (i : ℕ) (x : Entry) → IsFirst p os i → x ≡ get_or os i x → g x ≡ [] → remove os i ≡ at_first p g os
 removed_there p g os i x f read made = sym (there p g os i x [] f read made)
 
@@ -90,7 +90,7 @@ remove-set [] i y = refl
 remove-set (o ∷ os) zero y = refl
 remove-set (o ∷ os) (suc i) y = ap (λ (l : List Entry). o ∷ l) (remove-set os i y)
 
--- ---- whether there is one
+-- ---- there is a place exactly if an entry passes
 
 some_by : (p : Entry → Bool) (k : ℕ) (os : List Entry) (b : Bool) → is_some (position_from p (k + 1) os) ≡ list_any p os → is_some (cond b (Some k) (position_from p (k + 1) os)) ≡ (b || list_any p os)
 some_by p k os true same = refl
@@ -121,26 +121,26 @@ is_some-next_turn notify_serial t = given_by t (gives_turn notify_serial t)
 -- ---- the entry with the active lease
 
 module _ (turn : Turn) (v w : ObserverList) (same : v ≡ w) where
-  -- it is found there
+  -- a search for the entry with the active lease finds the entry at the place
   pub out_there : (i : ℕ) (x : Entry) → Some i ≡ position (is_out turn w) w.held → x ≡ get_or v.held i x → entry_out turn w ≡ Some x
   out_there i x at read =
       found_there (is_out turn w) w.held i x (first_passes (is_out turn w) w.held i (sym at)) (read ∙ ap (λ (l : ObserverList). get_or l.held i x) same)
 
-  -- it is overwritten
+  -- if the entry at the place is overwritten, exactly the entry with the active lease is changed
   pub out_changed : (g : ObserverList → Entry → List Entry) (i : ℕ) (x y : Entry) → Some i ≡ position (is_out turn w) w.held → x ≡ get_or v.held i x → g v x ≡ y ∷ [] → with_held (set v.held i y) v ≡ with_held (at_first (is_out turn w) (g w) w.held) w
   out_changed g i x y at read made =
       (λ j. with_held (set (same j).held i y) (same j))
       ∙ ap (λ (h : List Entry). with_held h w)
       (changed_there (is_out turn w) (g w) w.held i x y (first_passes (is_out turn w) w.held i (sym at)) (read ∙ ap (λ (l : ObserverList). get_or l.held i x) same) (ap (λ (l : ObserverList). g l x) (sym same) ∙ made))
 
-  -- it is removed
+  -- if the entry at the place is removed, exactly the entry with the active lease is removed
   pub out_removed : (i : ℕ) (x : Entry) → Some i ≡ position (is_out turn w) w.held → x ≡ get_or v.held i x → with_held (remove v.held i) v ≡ with_held (at_first (is_out turn w) (λ o. []) w.held) w
   out_removed i x at read =
       (λ j. with_held (remove (same j).held i) (same j))
       ∙ ap (λ (h : List Entry). with_held h w)
       (removed_there (is_out turn w) (λ o. []) w.held i x (first_passes (is_out turn w) w.held i (sym at)) (read ∙ ap (λ (l : ObserverList). get_or l.held i x) same) refl)
 
--- no entry has the active lease
+-- if there is no place, no entry has the active lease
 pub none_out : (turn : Turn) (w : ObserverList) → None ≡ position (is_out turn w) w.held → entry_out turn w ≡ None
 none_out turn w none = (none_passes (is_out turn w) w.held (sym none)).found
 

@@ -11,21 +11,22 @@ use Rattle.fc_observe.specs.Quiet.{AreIdleUntil, IsIdle, IsIdleUntil}
 use Rattle.fc_observe.proofs.First.{or_false}
 use Rattle.fc_observe.proofs.Hearing.{none_any, none_found}
 
--- no time is before 0
+-- entries are idle until time 0, since no time is before 0
 pub never : (notify_serial : ℕ) (held : List Entry) → AreIdleUntil 0 notify_serial held
 never notify_serial [] = All-nil (IsIdleUntil 0 notify_serial)
 never notify_serial (o ∷ os) = All-cons (IsIdleUntil 0 notify_serial) o os (λ now lt. absurd (omega (arith, lt))) (never notify_serial os)
 
--- fewer entries are idle as long
+-- if entries are idle until a time, the list without some of them is too
 pub idle_without : (until notify_serial : ℕ) (p : Entry → Bool) (held : List Entry) → AreIdleUntil until notify_serial held →
     AreIdleUntil until notify_serial (without_those p held)
 idle_without until notify_serial p held idle = All-filter (λ (o : Entry). not (p o)) (IsIdleUntil until notify_serial) held idle
 
--- entries are idle until an earlier time
+-- if an entry is idle until a time, it is idle until an earlier time
 pub idle_before : (early overdue notify_serial : ℕ) (o : Entry) → early ≤ overdue → IsIdleUntil overdue notify_serial o → IsIdleUntil early notify_serial o
 idle_before early overdue notify_serial o le idle now lt = idle now (omega (arith, lt, le))
 
--- one more entry
+-- if entries are idle until one time and a further entry until another, all are until the earlier
+-- one
 pub idle_more : (early overdue until notify_serial : ℕ) (os : List Entry) (o : Entry) → until ≤ early → until ≤ overdue → AreIdleUntil early notify_serial os →
     IsIdleUntil overdue notify_serial o → AreIdleUntil until notify_serial (os ++ o ∷ [])
 idle_more early overdue until notify_serial os o first second idle next =
@@ -33,7 +34,7 @@ idle_more early overdue until notify_serial os o first second idle next =
     (λ x. idle_before until early notify_serial x first) os idle)
     (All-cons (IsIdleUntil until notify_serial) o [] (idle_before until overdue notify_serial o second next) (All-nil (IsIdleUntil until notify_serial)))
 
--- a lower noticed revision makes no further notification pending
+-- if no notification is pending about a revision, none is pending about a lower revision
 fewer_due : (now less notify_serial : ℕ) (o : Entry) (b : Bool) → less ≤ notify_serial → nat_lt o.serial less ≡ b →
     (nat_lt o.serial notify_serial && is_free now o.phase) ≡ false → (b && is_free now o.phase) ≡ false
 fewer_due now less notify_serial o false le e none = refl
@@ -42,14 +43,14 @@ fewer_due now less notify_serial o true le e none =
     let lt : o.serial < notify_serial = omega (arith, low, le) in
     ap (λ (b : Bool). b && is_free now o.phase) (sym (lt-ltb o.serial notify_serial lt)) ∙ none
 
--- facts about all times before `until`, up to a noticed revision, hold at each earlier time with a
+-- if entries are idle until `until`, for a revision, they are idle at each earlier time for each
 -- lower revision
 pub at_rest : (until notify_serial now less : ℕ) (held : List Entry) → now < until → less ≤ notify_serial → AreIdleUntil until notify_serial held → All (IsIdle now less) held
 at_rest until notify_serial now less held lt le idle =
     All-weaker (IsIdleUntil until notify_serial) (IsIdle now less)
     (λ o q. let here = q now lt in (here.0, fewer_due now less notify_serial o (nat_lt o.serial less) le refl here.1)) held idle
 
--- then no notification timed out, and no observer gets a lease
+-- if all entries are idle, no notification has timed out
 pub none_overdue : (now notify_serial : ℕ) (t : ObserverList) → All (IsIdle (max t.time now) notify_serial) t.held → overdue_entry (list_at_time now t) ≡ None
 none_overdue now notify_serial t idle =
     none_found (is_overdue (max t.time now)) t.held (All-weaker (IsIdle (max t.time now) notify_serial) (λ (o : Entry). is_overdue (max t.time now) o ≡ false)
@@ -66,7 +67,7 @@ pub is_idle : (now notify_serial : ℕ) (t : ObserverList) → All (IsIdle (max 
     (is_none (overdue_entry (list_at_time now t)) && is_none (next_turn notify_serial (list_at_time now t))) ≡ true
 is_idle now notify_serial t idle = λ i. is_none (none_overdue now notify_serial t idle i) && is_none (none_due now notify_serial t idle i)
 
--- no entry passes, so none is changed
+-- if no entry passes the test, no entry is changed
 pub none_each : (p : Entry → Bool) (f : Entry → Entry) (held : List Entry) → list_any p held ≡ false → at_each p f held ≡ held
 none_each p f [] none = refl
 none_each p f (o ∷ os) none =

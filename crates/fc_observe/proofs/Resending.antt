@@ -1,4 +1,4 @@
--- An outstanding notification that is retransmitted.
+-- Retransmissions of an outstanding notification, and their timeouts.
 use Rattle.std.proofs.Common.{◌≡◌, ℕ, ◌+◌, ◌<◌, List, [], ◌∷◌, length, Bool, true, false, Option, Some, None, refl, ap, ◌∙◌, arith}
 use Rattle.std.specs.Prelude.{nat_lt, if◌then◌else◌}
 use Rattle.std.proofs.lemmas.Bool.{false_from_ne_true, ltb-true, lt-ltb}
@@ -10,7 +10,7 @@ use Rattle.fc_observe.specs.declared.entry.Phase.TheVariants.{Outstanding}
 use Rattle.fc_observe.specs.Entries.{retransmission, retransmission_in, retransmitted_phase, timed_out, timed_out_by}
 use Rattle.fc_observe.specs.Laws.{IsSentAt, resent_entry}
 
--- the time at which it was last sent
+-- the time at which a notification sent at `s` was last sent, after these retransmissions
 abbrev latest : ℕ → List ℕ → ℕ
 latest s [] = s
 latest s (now ∷ before) = now

@@ -36,7 +36,8 @@ not_from : (b : Bool) → (b ≡ true → ⊥) → not b ≡ true
 not_from true f = absurd (f refl)
 not_from false f = refl
 
--- if a test recognises its own elements, just the others stay
+-- if a test holds exactly for entries with `Own`, the entries kept by its negation are those
+-- without
 just_others : (p : Entry → Bool) (Own : Entry → Type 0) → ((o : Entry) → Own o → p o ≡ true) → ((o : Entry) → p o ≡ true → Own o) → (held : List Entry) (o : Entry)
     → Contains (filter (λ (x : Entry). not (p x)) held) o ↔ (Contains held o × (Own o → ⊥))
 just_others p Own so is held o =
@@ -48,7 +49,7 @@ just_others p Own so is held o =
       λ w. kept q held o w.0.0 w.0.1 w.0.2 (not_from (p o) (λ e. w.1 (is o e))),
     )
 
--- ---- an endpoint
+-- ---- the test for an endpoint
 
 endpoint_so : (to : Endpoint) → same_endpoint to to ≡ true
 endpoint_so to =
@@ -63,7 +64,7 @@ endpoint_is from to e =
     let port = eqb-true from.port to.port v.1 in
     λ i. record { ip = ip i; port = port i }
 
--- ---- a last message id
+-- ---- the test for the last message ID
 
 id_is : (id : ℕ) (own : Option ℕ) → is_id id own ≡ true → own ≡ Some id
 id_is id None e = absurd (cc e)
@@ -79,7 +80,7 @@ so_is to id o e =
     let w = and_parts (same_endpoint o.endpoint to) (is_id id o.id) e in
     (endpoint_is o.endpoint to w.0, id_is id o.id w.1)
 
--- ---- an endpoint and a token
+-- ---- the test for an endpoint and a token
 
 entry_so : (to : Endpoint) (token : List ℕ) (o : Entry) → (o.endpoint ≡ to) × (o.token.items ≡ token) → is_entry_of to token o ≡ true
 entry_so to token o w =
@@ -91,7 +92,7 @@ entry_is to token o e =
     let w = and_parts (same_endpoint o.endpoint to) (pointwise nat_eq o.token.items token) e in
     (endpoint_is o.endpoint to w.0, (bytes_decides o.token.items token).0 w.1)
 
--- ---- the laws
+-- ---- the entries that are left
 
 pub just_those : (to : Endpoint) (id : ℕ) (t : ObserverList) (o : Entry) → Contains (after_reset to id t).held o ↔ (Contains t.held o × ((o.endpoint ≡ to) × (o.id ≡ Some id) → ⊥))
 just_those to id t o = just_others (has_last_id to id) (λ (x : Entry). (x.endpoint ≡ to) × (x.id ≡ Some id)) (is_so to id) (so_is to id) t.held o

@@ -1,4 +1,4 @@
--- The last revision sent to an observer doesn't decrease before it registers again.
+-- The last revision sent to an observer doesn't decrease until the observer registers again.
 use Rattle.std.proofs.Common.{◌≡◌, ℕ, ◌<◌, ◌≤◌, List, [], ◌∷◌, ◌++◌, Bool, true, false, cond, Option, Some, max, sym, ap, ◌∙◌, subst, arith}
 use Rattle.std.specs.Prelude.{count_by, find}
 use Rattle.std.specs.List.{All}
@@ -16,21 +16,21 @@ use Rattle.fc_observe.proofs.Counting.{kept_key, one_of_key, unit}
 use Rattle.fc_observe.proofs.Keeping.{IfRegisters, all_after}
 use Rattle.fc_observe.proofs.Serials.{notified_keeps}
 
--- this revision, or a later one, was the last sent to an entry of this endpoint and token
+-- if the entry has this endpoint and token, the last revision sent to its observer is at least `m`
 abbrev pub SentFrom : ℕ → Endpoint → List ℕ → Entry → Type 0
 SentFrom m to token o = is_entry_of to token o ≡ true → m ≤ o.serial
 
--- a notification has a later revision than the last one sent to its observer
+-- if the call is a notification for the entry's lease, its revision is above the last one sent
 abbrev pub Above : ObserverCall → ObserverList → Entry → Type 0
 Above (Notify now turn id serial random bytes) t o = is_out turn (list_at_time now t) o ≡ true → o.serial < serial
 Above other t o = Unit {0}
 
--- the same for each of these calls
+-- each notification of these calls has a revision above the last one sent to its observer
 abbrev pub AreAbove : List ObserverCall → ObserverList → Type 0
 AreAbove [] t = Unit {0}
 AreAbove (c ∷ h) t = All (Above c (after_calls h t)) (after_calls h t).held × AreAbove h t
 
--- ---- calls
+-- ---- the calls keep the last revision, or send a later one
 
 changed_from : (m : ℕ) (to : Endpoint) (token : List ℕ) (c : ObserverCall) (t : ObserverList) (o : Entry) → SentFrom m to token o → Above c t o → may_change c t o ≡ true → SentFrom m to token (changed_by c t o)
 changed_from m to token (Notify now turn id serial random bytes) t o from above may = λ own.
@@ -51,7 +51,7 @@ calls_from m to token (c ∷ h) t none above from =
     let u = after_calls h t in
     all_after (λ (o : Entry). SentFrom m to token o × Above c u o) (SentFrom m to token) c u (λ o w. w.0) (λ o w may. changed_from m to token c u o w.0 w.1 may) (new_from m to token c u none.0) (λ k d lt. (before k d lt, above.0 k d lt))
 
--- ---- the notification
+-- ---- a notification, and the end of a lease
 
 none_passes : (p : Entry → Bool) (Q : Entry → Type 0) (os : List Entry) → count_by p os ≡ 0 → All (λ o. p o ≡ true → Q o) os
 none_passes p Q [] none = All-nil (λ o. p o ≡ true → Q o)
@@ -71,7 +71,8 @@ one_passes : (p q : Entry → Bool) (x : Entry) (os : List Entry) → find q os 
 one_passes p q x [] found passes = absurd (cc found)
 one_passes p q x (o ∷ os) found passes = one_passes_by p o x os (find q os) (q o) (λ e. one_passes p q x os e passes) found passes
 
--- only the replaced entry passed p
+-- if at most one entry passes p, and it is replaced by entries with Q, each entry that then passes
+-- p has Q
 module _ (p q : Entry → Bool) (g : Entry → List Entry) (Q : Entry → Type 0) (x : Entry) (passes : p x ≡ true) (new : All (λ o. p o ≡ true → Q o) (g x)) where
   only_by : (o : Entry) (os : List Entry) (b : Bool) → count_by p (o ∷ os) ≤ 1 → (count_by p os ≤ 1 → find q os ≡ Some x → All (λ o. p o ≡ true → Q o) (at_first q g os)) → cond b (Some o) (find q os) ≡ Some x → All (λ o. p o ≡ true → Q o) (cond b (g o ++ os) (o ∷ at_first q g os))
   only_by o os true few rest found =

@@ -1,5 +1,5 @@
--- The last revisions sent to observers, and the noticed revisions for which their leases were
--- granted.
+-- The last revisions sent to observers, and the revisions `notify_serial` for which the observers'
+-- leases were granted.
 use Rattle.std.proofs.Common.{◌≡◌, ℕ, ◌+◌, ◌<◌, ◌≤◌, List, [], ◌∷◌, Bool, true, false, cond, refl, sym, ap, subst, inl, inr, arith}
 use Rattle.std.specs.Prelude.{max, nat_lt, ◌==◌, ◌&&◌, ◌⊎◌}
 use Rattle.std.specs.List.{All, Any}
@@ -17,15 +17,15 @@ use Rattle.fc_observe.specs.Observers.{ObserverList, list_at_time, gives_turn, i
 use Rattle.fc_observe.specs.Views.{interest_of}
 use Rattle.fc_observe.proofs.Keeping.{IfRegisters, all_after, come_from}
 
--- for a lease that was granted: it was counted, and the last revision sent to its observer is below
--- the noticed one
+-- lease `n` was granted, and the last revision sent to its observer, `serial`, is below the
+-- revision `notify_serial` for which the lease was granted
 abbrev pub IsGivenFor : ℕ → ℕ → ℕ → ℕ → Type 0
 IsGivenFor turns notify_serial n serial = (n < turns) × (serial < notify_serial)
 
 abbrev pub OutBelow : ℕ → ℕ → List ObserverCall → Entry → Type 0
 OutBelow slot confirm_after h o = (n at : ℕ) (missing : Bool) → o.phase ≡ TurnOut n at missing → IsGivenFor (observers slot confirm_after h).turns (noticed_for n slot confirm_after h) n o.serial
 
--- an older lease, if another may be granted
+-- what `IsGivenFor` says of an older lease still holds after a call that may grant a further lease
 older_by : (t : ObserverList) (notify_serial n old serial : ℕ) (b : Bool) → n < t.turns → serial < old → IsGivenFor (turn_given_by b notify_serial t).turns (cond (b && (t.turns == n)) notify_serial old) n serial
 older_by t notify_serial n old serial true lt below =
     let other : (t.turns == n) ≡ false = false_from_ne_true (t.turns == n) (λ e. let same = eqb-true t.turns n e in absurd (omega (arith, same, lt))) in
@@ -38,14 +38,14 @@ stays_below slot confirm_after h (NextDue now notify_serial) o below = λ n at m
     older_by (list_at_time now (observers slot confirm_after h)) notify_serial n (noticed_for n slot confirm_after h) o.serial (gives_turn notify_serial (list_at_time now (observers slot confirm_after h))) w.0 w.1
 stays_below slot confirm_after h other o below = below
 
--- the new lease
+-- what `IsGivenFor` says holds for a new lease
 newest : (t : ObserverList) (notify_serial old serial : ℕ) (b : Bool) → b ≡ true → serial < notify_serial → IsGivenFor (turn_given_by b notify_serial t).turns (cond (b && (t.turns == t.turns)) notify_serial old) t.turns serial
 newest t notify_serial old serial true e below =
     let same : (t.turns == t.turns) ≡ true = eq-eqb t.turns t.turns refl in
     (omega arith, subst (λ (b : Bool). serial < cond b notify_serial old) (sym same) below)
 newest t notify_serial old serial false e below = absurd (cc e)
 
--- other phases
+-- a phase that has a lease after the mark as missing had the same lease before
 missed_out : (n at : ℕ) (missing : Bool) (p : Phase) → missed_phase p ≡ TurnOut n at missing → (before : Bool) × (p ≡ TurnOut n at before)
 missed_out n at missing (TurnOut own given before) out = let number : own ≡ n = cc out in let since : given ≡ at = cc out in (before, λ i. TurnOut (number i) (since i) before)
 missed_out n at missing other out = (missing, out)
@@ -90,7 +90,7 @@ out_phase_by : (m k own at : ℕ) (b : Bool) → (own == k) ≡ b → (b && nat_
 out_phase_by m k own at true e out = eqb-true own k e
 out_phase_by m k own at false e out = absurd (cc out)
 
--- an active lease has its number
+-- if a phase has the active lease with a number, the phase is that lease
 pub out_phase : (m k : ℕ) (p : Phase) → is_out_in m k p ≡ true → (at : ℕ) × (missing : Bool) × (p ≡ TurnOut k at missing)
 out_phase m k (TurnOut own at missing) out = (at, missing, ap (λ (n : ℕ). TurnOut n at missing) (out_phase_by m k own at (own == k) refl out))
 out_phase m k other out = absurd (cc out)

@@ -18,13 +18,13 @@ use Rattle.fc_observe.proofs.Counting.{kept_key}
 use Rattle.fc_observe.proofs.Hearing.{all_fail}
 use Rattle.fc_observe.proofs.Resets.{endpoint_is}
 
--- ---- an entry that passes is still there, or it is the one that is replaced
+-- ---- an entry that passes a test is still in the list, or it was replaced or removed
 
 is_true_by : (b : Bool) → (b ≡ false → ⊥) → b ≡ true
 is_true_by true not = refl
 is_true_by false not = absurd (not refl)
 
--- an entry that is stored and passes is found
+-- if an entry in the list passes the test, some entry passes
 pub held_passes : (p : Entry → Bool) (os : List Entry) (x : Entry) → Contains os x → p x ≡ true → list_any p os ≡ true
 held_passes p os x there passes = is_true_by (list_any p os) (λ none.
     let not : p x ≡ false = ap p (sym there.2) ∙ all_fail p os none there.0 x there.1 in
@@ -34,7 +34,8 @@ or_right : (b : Bool) → (b || true) ≡ true
 or_right true = refl
 or_right false = refl
 
--- the first that passes q is replaced, which passed p, or an entry still passes p
+-- if the first entry that passes q is replaced, an entry still passes p, or the replaced one passed
+-- p and its replacement doesn't
 module _ (p q : Entry → Bool) (g : Entry → List Entry) where
   abbrev Stays : List Entry → Type 0
   Stays os = (list_any p (at_first q g os) ≡ true) ⊎ ((o : Entry) × (find q os ≡ Some o) × (p o ≡ true) × (list_any p (g o) ≡ false))
@@ -60,7 +61,7 @@ module _ (p q : Entry → Bool) (g : Entry → List Entry) where
   first_stays [] some = absurd (cc some)
   first_stays (o ∷ os) some = at_head o os (q o) (first_stays os) some
 
--- the entry that passes q is only changed
+-- if the first entry that passes q is changed so that p is unaffected, an entry still passes p
 changed_stays : (p q : Entry → Bool) (f : Entry → Entry) → ((o : Entry) → p (f o) ≡ p o) → (os : List Entry) → list_any p os ≡ true → list_any p (at_first q (λ o. f o ∷ []) os) ≡ true
 changed_stays p q f same os some = ⊎_elim
     (λ (w : list_any p (at_first q (λ o. f o ∷ []) os) ≡ true). w)
@@ -77,7 +78,7 @@ each_stays : (p q : Entry → Bool) (f : Entry → Entry) → ((o : Entry) → p
 each_stays p q f same [] = refl
 each_stays p q f same (o ∷ os) = λ i. each_by p f o (q o) (same o) i || each_stays p q f same os i
 
--- the entries that pass q are removed
+-- if the entries that pass q are removed, an entry still passes p, or a removed one passed p
 module _ (p q : Entry → Bool) where
   abbrev Remains : List Entry → Type 0
   Remains os = (list_any p (without_those q os) ≡ true) ⊎ ((o : Entry) × Contains os o × (p o ≡ true) × (q o ≡ true))
@@ -105,9 +106,9 @@ module _ (p q : Entry → Bool) where
   without_stays [] some = absurd (cc some)
   without_stays (o ∷ os) some = filtered o os (q o) (kept_by o os (p o) (q o) refl refl some (without_stays os))
 
--- ---- keys
+-- ---- keys of entries
 
--- two keys of one entry are equal
+-- if an entry has two keys, the keys are equal
 two_keys : (to from : Endpoint) (token own : List ℕ) (o : Entry) → is_entry_of to token o ≡ true → is_entry_of from own o ≡ true → (same_endpoint from to && pointwise nat_eq own token) ≡ true
 two_keys to from token own o of_to of_from =
     let w = and_parts (same_endpoint o.endpoint from) (pointwise nat_eq o.token.items own) of_from in

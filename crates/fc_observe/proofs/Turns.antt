@@ -21,7 +21,7 @@ use Rattle.fc_observe.proofs.Counting.{IfAdds, sum_after, sum_first, sum_left, u
 use Rattle.fc_observe.proofs.Serials.{all_below}
 use Rattle.fc_observe.proofs.Hearing.{notified_in}
 
--- 1 for an entry whose lease has the number
+-- 1 if the entry has a lease with the number, and else 0
 abbrev pub turns_of : ℕ → Entry → ℕ
 turns_of n o = unit (has_number n o)
 
@@ -43,7 +43,7 @@ resent_number : (n now : ℕ) (p : Phase) → unit (has_number_in n (retransmitt
 resent_number n now (Outstanding sent_at timeout k bytes) = omega arith
 resent_number n now other = omega arith
 
--- the property that a call must have that grants no lease
+-- if the call grants no lease, no entry has a lease with number `n` only after the call
 abbrev IfGivesNone : ℕ → ObserverCall → ObserverList → Type 0
 IfGivesNone n (NextDue now notify_serial) t = Unit {0}
 IfGivesNone n c t = (o : Entry) → turns_of n (changed_by c t o) ≤ turns_of n o
@@ -66,7 +66,7 @@ turns_added : (n : ℕ) (c : ObserverCall) (t : ObserverList) → sum_by (turns_
 turns_added n (Register now to token request szx serial) t le = entered_turns n (registration to token.items (list_at_time now t)) to token.items (new_entry (max t.time now) to token request szx serial) t.held refl le
 turns_added n other t le = tt
 
--- ---- the call that grants one
+-- ---- the call that grants a lease
 
 zero_sum : (m : Entry → ℕ) (os : List Entry) → All (λ o. m o ≡ 0) os → sum_by m os ≡ 0
 zero_sum m [] all = refl
@@ -144,7 +144,7 @@ unfound : (p : Entry → Bool) (os : List Entry) → count_by p os ≡ 0 → fin
 unfound p [] none = refl
 unfound p (o ∷ os) none = unfound_by p o os (p o) refl (unfound p os) none
 
--- an active lease has its number
+-- if a phase has the active lease with a number, the phase has that number
 out_numbered : (m k : ℕ) (p : Phase) (b : Bool) → unit (b && is_out_in m k p) ≤ unit (has_number_in k p)
 out_numbered m k p false = omega arith
 out_numbered m k (TurnOut own at missing) true = both (own == k)

@@ -1,4 +1,4 @@
--- The waits that an acknowledgement ends.
+-- The entries whose wait for an acknowledgement ends.
 use Rattle.std.proofs.Common.{◌≡◌, ℕ, List, [], ◌∷◌, Bool, true, false, refl, ap}
 use Rattle.std.specs.List.{AllZip}
 use Rattle.coap_msg.specs.declared.types.Endpoint.{Endpoint}

@@ -39,18 +39,18 @@ observers_after (Reset to id) t = after_reset to id t
 observers_after (Acknowledge to id) t = after_ack to id t
 observers_after (Tick now) t = after_tick (list_at_time now t)
 
--- the list after these calls, the latest first.
+-- the list after these calls on `t`, the latest first.
 abbrev pub after_calls : List ObserverCall → ObserverList → ObserverList
 after_calls [] t = t
 after_calls (c ∷ h) t = observers_after c (after_calls h t)
 
--- the list after calls since its `new`.
+-- the list of a slot after these calls on a new list, the latest first.
 abbrev pub observers : ℕ → ℕ → List ObserverCall → ObserverList
 observers slot confirm_after h = after_calls h (no_observers slot confirm_after)
 
 -- ---- the effect of a call on an entry
 
--- the entries that a call changes without removing them.
+-- the call may change the entry, without removing the entry from the list.
 abbrev pub may_change : ObserverCall → ObserverList → Entry → Bool
 may_change (NextDue now notify_serial) t o = gives_turn notify_serial (list_at_time now t) && is_due (max t.time now) notify_serial o
 may_change (MarkMissing turn) t o = is_out turn t o
@@ -60,7 +60,7 @@ may_change (Acknowledge to id) t o = has_last_id to id o
 may_change (Tick now) t o = is_overdue (max t.time now) o
 may_change other t o = false
 
--- an entry that the call changes, after the call.
+-- the entry after the call, if the call changes it.
 abbrev pub changed_by : ObserverCall → ObserverList → Entry → Entry
 changed_by (NextDue now notify_serial) t o = with_turn t.turns (max t.time now) o
 changed_by (MarkMissing turn) t o = missed o
@@ -70,7 +70,7 @@ changed_by (Acknowledge to id) t o = acknowledged o
 changed_by (Tick now) t o = retransmitted (max t.time now) o
 changed_by other t o = o
 
--- the call is the entry's registration.
+-- the call is a registration, and the entry is the one that it makes.
 abbrev pub IsRegisteredBy : ObserverCall → ObserverList → Entry → Type 0
 IsRegisteredBy (Register now to token request szx serial) t o = o ≡ new_entry (max t.time now) to token request szx serial
 IsRegisteredBy other t o = ⊥

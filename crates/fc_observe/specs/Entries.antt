@@ -17,7 +17,7 @@ use Rattle.fc_observe.specs.declared.entry.Turn.{Turn}
 abbrev pub is_entry_of : Endpoint → List ℕ → Entry → Bool
 is_entry_of to token o = same_endpoint o.endpoint to && pointwise nat_eq o.token.items token
 
--- the optional message ID is present, and is this one.
+-- the optional message ID is present, and is `id`.
 abbrev pub is_id : ℕ → Option ℕ → Bool
 is_id id None = false
 is_id id (Some own) = own == id
@@ -26,14 +26,15 @@ is_id id (Some own) = own == id
 abbrev pub has_last_id : Endpoint → ℕ → Entry → Bool
 has_last_id to id o = same_endpoint o.endpoint to && is_id id o.id
 
--- applies f if the test holds; else there is no change.
+-- the entry changed by `f` if the test holds, and else unchanged.
 abbrev pub changed_if : Bool → (Entry → Entry) → Entry → Entry
 changed_if true f o = f o
 changed_if false f o = o
 
 -- ---- leases
 
--- the lease with this number was granted less than EXCHANGE_LIFETIME ago: it is active.
+-- the phase has the lease with this number, and the lease is active: it was granted less than
+-- EXCHANGE_LIFETIME before `now`.
 abbrev pub is_out_in : ℕ → ℕ → Phase → Bool
 is_out_in now number (TurnOut own at missing) = (own == number) && within_window now at
 is_out_in now number other = false
@@ -42,29 +43,30 @@ is_out_in now number other = false
 abbrev pub has_turn : ℕ → ℕ → Turn → Entry → Bool
 has_turn slot now turn o = (turn.slot == slot) && is_out_in now turn.number o.phase
 
--- the snapshot of a lease, active or expired, found the slot empty.
+-- the phase has a lease, active or expired, whose snapshot found the slot empty.
 abbrev pub has_missed_in : Phase → Bool
 has_missed_in (TurnOut number at missing) = missing
 has_missed_in other = false
 
--- the same for the entry's lease.
+-- the entry has a lease, active or expired, whose snapshot found the slot empty.
 abbrev pub has_missed : Entry → Bool
 has_missed o = has_missed_in o.phase
 
--- no lease is active, no notification is outstanding, and the last lease was released before `now`.
--- A lease that is active for EXCHANGE_LIFETIME is released at the end of that time.
+-- the phase is free: no lease is active, no notification is outstanding, and the last lease was
+-- released before `now`. A lease that hasn't ended EXCHANGE_LIFETIME after its grant counts as
+-- released at that time.
 abbrev pub is_free : ℕ → Phase → Bool
 is_free now Idle = true
 is_free now (GivenUp at) = nat_lt at now
 is_free now (TurnOut number at missing) = nat_lt (at + window) now
 is_free now (Outstanding sent_at timeout retransmissions bytes) = false
 
--- the entry has a pending notification: the noticed revision is above the last revision sent to the
--- entry, and the entry's phase is free.
+-- the entry has a pending notification: the revision `notify_serial` is above the last revision
+-- sent to the entry, and the entry's phase is free.
 abbrev pub is_due : ℕ → ℕ → Entry → Bool
 is_due now notify_serial o = nat_lt o.serial notify_serial && is_free now o.phase
 
--- the lease with this number is active from now on, and its snapshot is still to be taken.
+-- the entry with a new lease, granted at `now`, whose snapshot is still to be taken.
 abbrev pub with_turn : ℕ → ℕ → Entry → Entry
 with_turn number now o = record o { phase = TurnOut number now false }
 
@@ -73,18 +75,18 @@ abbrev pub missed_phase : Phase → Phase
 missed_phase (TurnOut number at missing) = TurnOut number at true
 missed_phase other = other
 
--- the entry with this mark.
+-- the entry with its lease marked as missing, if it has a lease.
 abbrev pub missed : Entry → Entry
 missed o = record o { phase = missed_phase o.phase }
 
--- the lease is released.
+-- the entry with its lease released at `now`.
 abbrev pub given_up : ℕ → Entry → Entry
 given_up now o = record o { phase = GivenUp now }
 
 -- ---- notifications
 
--- the next notification is confirmable: `confirm_after` ms have passed since the registration or
--- the last confirmable notification.
+-- the next notification must be confirmable: `confirm_after` ms or more have passed since the
+-- registration or the last confirmable notification.
 abbrev pub must_confirm : ℕ → ℕ → Entry → Bool
 must_confirm confirm_after now o = nat_le (o.confirmed + confirm_after) now
 
@@ -98,12 +100,11 @@ notified_by true now id serial random bytes o =
     record o { serial = serial; id = Some id; confirmed = now; phase = Outstanding now (first_timeout random) 0 bytes }
 notified_by false now id serial random bytes o = record o { serial = serial; id = Some id; phase = Idle }
 
--- the notification is confirmable if `confirm_after` ms have passed since the last confirmable one
--- (RFC 7641, section 4.5).
+-- the entry after a notification, which is confirmable if it must be (RFC 7641, section 4.5).
 abbrev pub notified : ℕ → ℕ → ℕ → ℕ → ℕ → ArrayVec ℕ → Entry → Entry
 notified confirm_after now id serial random bytes o = notified_by (must_confirm confirm_after now o) now id serial random bytes o
 
--- an acknowledgement ends the wait, and changes nothing else.
+-- the phase after an acknowledgement: an outstanding notification isn't outstanding any more.
 abbrev pub acknowledged_phase : Phase → Phase
 acknowledged_phase (Outstanding sent_at timeout retransmissions bytes) = Idle
 acknowledged_phase other = other
@@ -114,44 +115,46 @@ acknowledged o = record o { phase = acknowledged_phase o.phase }
 
 -- ---- retransmission (RFC 7252, 4.2)
 
--- each retransmission doubles the timeout, at most four times.
+-- the timeout after this number of retransmissions: each one doubles it, at most four times.
 abbrev pub backoff : ℕ → ℕ → ℕ
 backoff timeout retransmissions = timeout * 2 ^ min retransmissions 4
 
--- the timeout of the phase has passed.
+-- the phase has an outstanding notification whose timeout has passed at `now`.
 abbrev pub is_overdue_in : ℕ → Phase → Bool
 is_overdue_in now (Outstanding sent_at timeout retransmissions bytes) = nat_le (sent_at + backoff timeout retransmissions) now
 is_overdue_in now other = false
 
--- the entry's notification is outstanding, and its timeout has passed.
+-- the entry has an outstanding notification whose timeout has passed at `now`.
 abbrev pub is_overdue : ℕ → Entry → Bool
 is_overdue now o = is_overdue_in now o.phase
 
--- the same bytes again, if they were retransmitted less than four times.
+-- the retransmission of the phase's notification, with the same bytes. `None` if no notification is
+-- outstanding, or if it was retransmitted four times.
 abbrev pub retransmission_in : Endpoint → Phase → Option Emission
 retransmission_in to (Outstanding sent_at timeout retransmissions bytes) =
     if nat_lt retransmissions 4 then Some (record { to = to; bytes = bytes }) else None
 retransmission_in to other = None
 
--- the retransmission of an entry's notification.
+-- the retransmission of the entry's outstanding notification, if there is one.
 abbrev pub retransmission : Entry → Option Emission
 retransmission o = retransmission_in o.endpoint o.phase
 
--- the timeout starts again.
+-- the phase after a retransmission at `now`: the timeout starts again.
 abbrev pub retransmitted_phase : ℕ → Phase → Phase
 retransmitted_phase now (Outstanding sent_at timeout retransmissions bytes) = Outstanding now timeout (retransmissions + 1) bytes
 retransmitted_phase now other = other
 
--- the entry after its retransmission.
+-- the entry after its notification was retransmitted at `now`.
 abbrev pub retransmitted : ℕ → Entry → Entry
 retransmitted now o = record o { phase = retransmitted_phase now o.phase }
 
--- an entry after its timeout: its notification is retransmitted, or the entry is removed.
+-- an entry after its timeout: the notification was retransmitted, or the entry is removed if there
+-- is no retransmission.
 abbrev pub timed_out_by : Option Emission → ℕ → Entry → List Entry
 timed_out_by None now o = []
 timed_out_by (Some emission) now o = retransmitted now o ∷ []
 
--- the same, with its own retransmission.
+-- an entry after its timeout: it is removed if it has no retransmission left.
 abbrev pub timed_out : ℕ → Entry → List Entry
 timed_out now o = timed_out_by (retransmission o) now o
 

@@ -17,7 +17,7 @@ abbrev pub RegistersNone : Endpoint → List ℕ → List ObserverCall → Type 
 RegistersNone to token [] = Unit {0}
 RegistersNone to token (c ∷ h) = (is_registration_of to token c ≡ false) × RegistersNone to token h
 
--- the noticed revision for which the lease with this number was granted.
+-- the revision `notify_serial` for which the lease with this number was granted, or 0 if none was.
 abbrev pub noticed_for : ℕ → ℕ → ℕ → List ObserverCall → ℕ
 noticed_for number slot confirm_after [] = 0
 noticed_for number slot confirm_after (NextDue now notify_serial ∷ h) =
@@ -26,8 +26,8 @@ noticed_for number slot confirm_after (NextDue now notify_serial ∷ h) =
     else noticed_for number slot confirm_after h
 noticed_for number slot confirm_after (other ∷ h) = noticed_for number slot confirm_after h
 
--- a confirmable notification with these bytes was sent at this time, and its first transmission has
--- this timeout.
+-- a confirmable notification with these bytes was sent at `sent_at` with this timeout. It is
+-- outstanding, and wasn't retransmitted.
 abbrev pub IsSentAt : ℕ → ℕ → ArrayVec ℕ → Entry → Type 0
 IsSentAt sent_at timeout bytes o = o.phase ≡ Outstanding sent_at timeout 0 bytes
 
@@ -38,17 +38,17 @@ resent_entry (now ∷ before) o = retransmitted now (resent_entry before o)
 
 -- ---- the last revision sent to an observer
 
--- the call notifies the entry's lease, with this revision.
+-- the call is a notification for the entry's active lease, with this revision.
 abbrev pub IsNotified : ObserverCall → ObserverList → Entry → ℕ → Type 0
 IsNotified (Notify now turn id sent random bytes) t o serial = (is_out turn (list_at_time now t) o ≡ true) × (serial ≡ sent)
 IsNotified other t o serial = ⊥
 
--- the observer of an entry is the same after a call. The entry's last revision is unchanged, or is
--- that of the call's notification.
+-- an entry `o` after a call has the same observer as `before`. The last revision sent to the
+-- observer is unchanged, or is that of the notification by the call.
 abbrev pub KeepsSerial : ObserverCall → ObserverList → Entry → Entry → Type 0
 KeepsSerial c t o before = (interest_of o ≡ interest_of before) × ((o.serial ≡ before.serial) ⊎ IsNotified c t before o.serial)
 
--- if the call is a registration or a notification, its revision is at most `n`.
+-- if the call is a registration or a notification, the revision that it passes is at most `n`.
 abbrev pub HandsInUpTo : ℕ → ObserverCall → Type 0
 HandsInUpTo n (Register now to token request szx serial) = serial ≤ n
 HandsInUpTo n (Notify now turn id serial random bytes) = serial ≤ n
@@ -67,35 +67,36 @@ abbrev pub IsTurnOut : ℕ → Phase → Type 0
 IsTurnOut now (TurnOut number at missing) = now < at + window
 IsTurnOut now other = ⊥
 
--- the last lease was released no earlier than `now`, by a call or at the end of EXCHANGE_LIFETIME.
+-- the last lease was released by a call at `now` or later, or it counts as released exactly at
+-- `now`, EXCHANGE_LIFETIME after its grant.
 abbrev pub IsGivenUpNow : ℕ → Phase → Type 0
 IsGivenUpNow now (GivenUp at) = now ≤ at
 IsGivenUpNow now (TurnOut number at missing) = now ≡ at + window
 IsGivenUpNow now other = ⊥
 
--- the lease of the phase has this number, active or expired.
+-- the phase has the lease with this number, active or expired.
 abbrev pub has_number_in : ℕ → Phase → Bool
 has_number_in number (TurnOut own at missing) = own == number
 has_number_in number other = false
 
--- the same for an entry.
+-- the entry has the lease with this number, active or expired.
 abbrev pub has_number : ℕ → Entry → Bool
 has_number number o = has_number_in number o.phase
 
 -- ---- the last notification
 
--- the call registers the entry at its time: no notification was sent yet.
+-- the call is a registration. The entry has no last notification, and its time is that of the call.
 abbrev pub IsNewAt : ObserverCall → ObserverList → Entry → Type 0
 IsNewAt (Register now to token request szx serial) t o = (o.id ≡ None) × (o.confirmed ≡ max t.time now)
 IsNewAt other t o = ⊥
 
--- the time of the last confirmable notification once a notification is sent at `now`. It is `now`
--- if `confirm_after` ms have passed since `before`, else `before`.
+-- the time of the last confirmable notification after a notification at `now`. It is `now` if
+-- `confirm_after` ms or more have passed since `before`, and else `before`.
 abbrev pub confirmed_at : ℕ → ℕ → ℕ → ℕ
 confirmed_at confirm_after now before = if nat_le (before + confirm_after) now then now else before
 
--- the observer of an entry is the same after a call. The entry's last notification is that of the
--- call, or is unchanged.
+-- an entry `o` after a call has the same observer as `before`. The data of the last notification
+-- are unchanged, or are those of the notification by the call.
 abbrev pub KeepsLast : ObserverCall → ObserverList → Entry → Entry → Type 0
 KeepsLast (Notify now turn id serial random bytes) t o before =
     (o ≡ before) ⊎ ((is_out turn (list_at_time now t) before ≡ true) × (interest_of o ≡ interest_of before) × (o.id ≡ Some id) × (o.confirmed ≡ confirmed_at t.confirm_after (max t.time now) before.confirmed))
@@ -107,17 +108,19 @@ KeepsLast other t o before = (interest_of o ≡ interest_of before) × (o.id ≡
 abbrev pub IsAwaited : Endpoint → ℕ → Entry → Type 0
 IsAwaited to id o = (o.endpoint ≡ to) × (o.id ≡ Some id) × IsOutstanding o.phase
 
--- an entry before an acknowledgement, and after it.
+-- `o` is the entry `before` after an acknowledgement: its phase is `Idle` if the acknowledgement
+-- was awaited, and else it is unchanged.
 abbrev pub IsAcknowledged : Endpoint → ℕ → Entry → Entry → Type 0
 IsAcknowledged to id before o = (IsAwaited to id before → o ≡ record before { phase = Idle }) × ((IsAwaited to id before → ⊥) → o ≡ before)
 
 -- ---- a registration
 
--- an entry for this client's GET, with this revision, no lease and no outstanding notification.
+-- the entry is for this client's GET, and this revision was sent to the client. It has no lease and
+-- no outstanding notification.
 abbrev pub IsRegistrationOf : Endpoint → ArrayVec ℕ → Request → Option ℕ → ℕ → Entry → Type 0
 IsRegistrationOf to token request szx serial o =
     (interest_of o ≡ record { endpoint = to; token = token; request = request; szx = szx }) × (o.serial ≡ serial) × (o.phase ≡ Idle)
 
--- the entry is the last, after a list of others.
+-- the list is `others` with one more entry at the end, which has the property `P`.
 abbrev pub StandsLast : List Entry → (Entry → Type 0) → List Entry → Type 0
 StandsLast others P held = (o : Entry) × P o × (held ≡ others ++ o ∷ [])

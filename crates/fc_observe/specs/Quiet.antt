@@ -4,7 +4,8 @@ use Rattle.std.specs.List.{All}
 use Rattle.fc_observe.specs.Entries.{is_due, is_overdue}
 use Rattle.fc_observe.specs.declared.entry.Entry.{Entry}
 
--- at `now` the entry hasn't timed out, and has no pending notification about this revision.
+-- at `now` the entry has no overdue notification, and no pending one about revision
+-- `notify_serial`.
 abbrev pub IsIdle : ℕ → ℕ → Entry → Type 0
 IsIdle now notify_serial o = (is_overdue now o ≡ false) × (is_due now notify_serial o ≡ false)
 

@@ -6,8 +6,8 @@ use Rattle.fc_help.specs.Request.{Request}
 use Rattle.fc_observe.specs.declared.entry.Entry.{Entry}
 use Rattle.fc_observe.specs.declared.entry.Observer.{Observer}
 
--- an observation: endpoint and token, and the GET that each notification executes, with its block
--- size.
+-- an observation: an endpoint and a token, the GET that is executed for each notification, and the
+-- size exponent of the GET's blocks.
 pub record Interest : Type 0 where
   pub endpoint : Endpoint
   pub token : ArrayVec ℕ

@@ -1,4 +1,4 @@
-//! An entry in the list of observers, for the list's methods.
+//! An entry in the list of observers, with the methods that the list calls.
 ghost use Rattle.std.specs.Prelude.{◌≡◌, ℕ, ◌<◌, false, is_some};
 ghost use Rattle.fc_observe.specs.Entries.{acknowledged, backoff, changed_if, first_timeout, given_up, has_last_id, has_missed, has_turn, is_due, is_entry_of, is_free, is_overdue, is_overdue_in, missed, must_confirm, notified, retransmission, retransmitted, with_turn};
 ghost use Rattle.fc_observe.specs.Quiet.{IsIdleUntil};
@@ -9,8 +9,8 @@ use fc_help::Request;
 
 /// Default interval between confirmable notifications, in milliseconds: 24 hours.
 ///
-/// Once this time has passed without one, the next notification is confirmable. RFC 7641, section
-/// 4.5 allows at most 24 hours.
+/// If this time has passed since the last confirmable notification, the next one is confirmable.
+/// RFC 7641, section 4.5 allows at most 24 hours.
 pub const CONFIRM_AFTER: u64 = 86_400_000;
 
 /// Minimum timeout of the first transmission, in milliseconds.
@@ -20,7 +20,8 @@ pub const ACK_TIMEOUT: u16 = 2000;
 
 /// Number of possible timeouts of the first transmission.
 ///
-/// They are a millisecond apart, up to ACK_TIMEOUT * ACK_RANDOM_FACTOR (RFC 7252, section 4.8).
+/// The timeouts are a millisecond apart, from ACK_TIMEOUT to ACK_TIMEOUT * ACK_RANDOM_FACTOR (RFC
+/// 7252, section 4.8).
 pub const ACK_TIMEOUTS: u16 = 1001;
 
 /// Maximum number of retransmissions of a confirmable notification.
@@ -30,12 +31,12 @@ pub const MAX_RETRANSMIT: u8 = 4;
 
 /// A notification lease: permission to notify one observer once.
 ///
-/// It has its slot, and its number among the leases of that slot, counted from 0.
+/// It has the slot, and the lease's number among the leases of that slot, counted from 0.
 #[derive(Clone, Copy, Default, PartialEq, Eq)]
 pub struct Turn {
     /// The slot.
     pub slot: u8,
-    /// Its number among the leases of the slot.
+    /// The lease's number among the leases of the slot.
     pub number: u64,
 }
 
@@ -44,28 +45,28 @@ pub struct Turn {
 /// Times and timeouts are in milliseconds.
 #[derive(Drop)]
 pub enum Phase {
-    /// No lease and no outstanding notification.
+    /// There is no lease and no outstanding notification.
     Idle,
-    /// The same as `Idle`; the last lease was released at this time.
+    /// As `Idle`, and the last lease was released at this time.
     GivenUp(u64),
-    /// A granted lease. 247,000 ms after its grant it counts as released.
+    /// There is a granted lease. It counts as released 247,000 ms after its grant.
     TurnOut {
         /// The lease's number.
         number: u64,
-        /// The time at which it was granted.
+        /// The time at which the lease was granted.
         at: u64,
         /// Whether the lease's snapshot found the slot empty.
         missing: bool,
     },
-    /// A confirmable notification without its acknowledgement (RFC 7252, section 4.2).
+    /// A confirmable notification isn't acknowledged yet (RFC 7252, section 4.2).
     Outstanding {
-        /// The time at which it was last sent.
+        /// The time at which the notification was last sent.
         sent_at: u64,
-        /// The timeout of its first transmission; each retransmission doubles it.
+        /// The timeout of the first transmission; each retransmission doubles the timeout.
         timeout: u16,
-        /// How many times it was retransmitted.
+        /// The number of retransmissions so far.
         retransmissions: u8,
-        /// Its bytes.
+        /// The bytes of the notification.
         bytes: Datagram,
     },
 }
@@ -75,39 +76,39 @@ pub enum Phase {
 pub struct Entry {
     /// The observer's endpoint.
     pub endpoint: Endpoint,
-    /// The token of its request, sent in each notification.
+    /// The token of the observer's request, sent in each notification.
     pub token: Token,
-    /// Its request, executed again for each notification.
+    /// The observer's request, executed again for each notification.
     pub request: Request,
-    /// The size exponent of its Block2 option, if it had one (RFC 7959, section 2.6).
+    /// The size exponent of the request's Block2, if any (RFC 7959, section 2.6).
     pub szx: Option<u8>,
-    /// The last revision sent to it, in the response to its registration or later.
+    /// The last revision sent to the observer, in its registration's response or later.
     pub serial: u64,
-    /// The message ID of its last notification.
+    /// The message ID of the last notification, or `None` if none was sent yet.
     pub id: Option<u16>,
-    /// The time of its registration or last confirmable notification, in milliseconds.
+    /// The time, in ms, of the registration or the last confirmable notification.
     pub confirmed: u64,
-    /// The state of its notification.
+    /// The state of the observer's notification.
     pub phase: Phase,
 }
 
-/// An observer, borrowed from its entry: the data for its notification.
+/// The data for an observer's notification, borrowed from the observer's entry.
 #[derive(Drop)]
 pub struct Observer<'a> {
-    /// Its endpoint.
+    /// The observer's endpoint.
     pub endpoint: Endpoint,
-    /// The token of its request.
+    /// The token of the observer's request.
     pub token: &'a Token,
-    /// Its request.
+    /// The observer's request.
     pub request: &'a Request,
-    /// The size exponent of its Block2 option, if it had one.
+    /// The size exponent of the request's Block2 option, if it had one.
     pub szx: Option<u8>,
-    /// Whether its notification must be confirmable (RFC 7641, section 4.5).
+    /// Whether the notification must be confirmable (RFC 7641, section 4.5).
     pub confirmable: bool,
 }
 
 impl Entry {
-    // Borrows the data for the entry's notification, with the result of `must_confirm`.
+    // Borrows the data for the entry's notification; it is confirmable if `must_confirm` says so.
     pub(crate) fn observer(&self, confirm_after: u64, now: u64) -> Observer<'_>
         ensures interest { interest result ≡ interest_of self.now }
         ensures confirmable { result.confirmable ≡ must_confirm confirm_after now self.now }
@@ -135,8 +136,8 @@ impl Entry {
         self.endpoint == endpoint && self.id == Some(id)
     }
 
-    // Returns whether the entry has the lease `turn`, and the lease is active; `slot` is the
-    // list's.
+    // Returns whether the entry has the lease `turn`, and the lease is active at `now`. `slot` is
+    // the slot of the entry's list.
     pub(crate) fn has_turn(&self, slot: u8, now: u64, turn: Turn) -> bool
         ensures { result ≡ has_turn slot now turn self.now }
     {
@@ -148,7 +149,8 @@ impl Entry {
         }
     }
 
-    // Returns whether the snapshot of the entry's lease, active or expired, found the slot empty.
+    // Returns whether the entry has a lease, active or expired, whose snapshot found the slot
+    // empty.
     pub(crate) fn has_missed(&self) -> bool
         ensures { result ≡ has_missed self.now }
     {
@@ -165,15 +167,15 @@ impl Entry {
         self.serial < notify_serial && is_free(now, &self.phase)
     }
 
-    // Returns whether the entry's next notification must be confirmable. It must if `confirm_after`
-    // milliseconds have passed since the registration or the last confirmable notification.
+    // Returns whether the entry's next notification must be confirmable: `confirm_after`
+    // milliseconds or more have passed since the registration or the last confirmable notification.
     pub(crate) fn must_confirm(&self, confirm_after: u64, now: u64) -> bool
         ensures { result ≡ must_confirm confirm_after now self.now }
     {
         self.confirmed <= now && now - self.confirmed >= confirm_after
     }
 
-    // Returns whether the entry's notification is outstanding, and its timeout has passed.
+    // Returns whether the entry has an outstanding notification whose timeout has passed at `now`.
     pub(crate) fn is_overdue(&self, now: u64) -> bool
         ensures { result ≡ is_overdue now self.now }
     {
@@ -201,7 +203,7 @@ impl Entry {
         }
     }
 
-    // Grants the entry the lease with this number.
+    // Grants the entry the lease with this number at `now`. Its snapshot is still to be taken.
     pub(crate) fn take_turn(&mut self, number: u64, now: u64)
         ensures { self.new ≡ with_turn number now self.old }
     {
@@ -212,7 +214,8 @@ impl Entry {
         };
     }
 
-    // Records that the snapshot of the entry's lease found the slot empty.
+    // Records that the snapshot of the entry's lease found the slot empty. Without a lease, nothing
+    // changes.
     pub(crate) fn mark_missing(&mut self)
         ensures { self.new ≡ missed self.old }
     {
@@ -221,7 +224,7 @@ impl Entry {
         }
     }
 
-    // Releases the entry's lease.
+    // Releases the entry's lease at `now`.
     pub(crate) fn give_up(&mut self, now: u64)
         ensures { self.new ≡ given_up now self.old }
     {
@@ -229,8 +232,8 @@ impl Entry {
     }
 
     // Records that the observer was sent a notification with this message ID, revision and bytes.
-    // The notification ends the entry's lease. A confirmable notification is then outstanding;
-    // `random` determines its timeout.
+    // The notification ends the entry's lease. If the notification must be confirmable, it is then
+    // outstanding, and `random` determines its timeout.
     pub(crate) fn notify(
         &mut self,
         confirm_after: u64,
@@ -258,8 +261,8 @@ impl Entry {
         }
     }
 
-    // Ends the entry's wait for an acknowledgement, if its last notification went to this endpoint
-    // with this message ID.
+    // Ends the entry's wait for an acknowledgement, if the entry's last notification went to this
+    // endpoint with this message ID. Otherwise nothing changes.
     pub(crate) fn acknowledge(&mut self, endpoint: Endpoint, id: u16)
         ensures { self.new ≡ changed_if (has_last_id endpoint id self.old) acknowledged self.old }
     {
@@ -270,8 +273,9 @@ impl Entry {
         }
     }
 
-    // Returns the entry's outstanding notification for retransmission, or `None` if there is none
-    // or it was retransmitted four times.
+    // Returns the entry's outstanding notification for retransmission, and starts its timeout
+    // again, doubled. Returns `None`, and changes nothing, if no notification is outstanding or if
+    // it was retransmitted four times already.
     pub(crate) fn retransmit(&mut self, now: u64) -> Option<Emission>
         ensures sent { result ≡ retransmission self.old }
         ensures after { self.new
@@ -296,8 +300,8 @@ impl Entry {
     }
 }
 
-// Returns whether a lease can be granted: none is active, no notification is outstanding, and the
-// last lease was released before `now`.
+// Returns whether a lease can be granted at `now`: no lease is active, no notification is
+// outstanding, and the last lease was released before `now`.
 fn is_free(now: u64, phase: &Phase) -> bool
     ensures { result ≡ is_free now phase.now }
 {
@@ -309,7 +313,7 @@ fn is_free(now: u64, phase: &Phase) -> bool
     }
 }
 
-// Returns a time before which the phase isn't free.
+// Returns a time before which no lease can be granted (`is_free` is `false`).
 fn free_from(phase: &Phase) -> u64
     ensures { (now : ℕ) → now < result → is_free now phase.now ≡ false }
 {
@@ -321,7 +325,8 @@ fn free_from(phase: &Phase) -> u64
     }
 }
 
-// Returns a time before which no retransmission is due, or 2^64 - 1 if none is outstanding.
+// Returns a time before which the phase's notification isn't overdue, or 2^64 - 1 if no
+// notification is outstanding.
 fn overdue_from(phase: &Phase) -> u64
     ensures { (now : ℕ) → now < result → is_overdue_in now phase.now ≡ false }
 {
@@ -336,7 +341,8 @@ fn overdue_from(phase: &Phase) -> u64
     }
 }
 
-// Returns the timeout of a transmission after this number of retransmissions.
+// Returns the timeout after this number of retransmissions: `timeout`, doubled for each of them, at
+// most four times.
 fn backoff(timeout: u16, retransmissions: u8) -> u64
     ensures { result ≡ backoff timeout retransmissions }
 {

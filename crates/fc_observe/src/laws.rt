@@ -23,13 +23,12 @@ pub fn entries_are_few()
         count_by (is_entry_of to token) (observers slot confirm_after h).held ≤ 1 }
 {}
 
-/// The exact condition for a pending notification.
+/// An observer has a pending notification exactly if all of these hold at `now`:
 ///
-/// An observer has one exactly if these conditions hold:
-///
-/// - The last revision sent to it is below the noticed one.
-/// - None of its confirmable notifications is outstanding.
-/// - None of its leases is active, and none was released at this time.
+/// - The last revision sent to the observer is below `notify_serial`.
+/// - No confirmable notification to the observer is outstanding.
+/// - The observer has no active lease.
+/// - The observer's last lease wasn't released at `now` or later.
 pub fn observers_are_due()
     ensures { (now notify_serial : ℕ) (o : Entry) → ((is_due now notify_serial o ≡ true)
         ↔ ((o.serial < notify_serial) × (IsOutstanding o.phase → ⊥) × (IsTurnOut now o.phase → ⊥)
@@ -38,7 +37,7 @@ pub fn observers_are_due()
 
 /// A lease belongs to one observer, and ends once.
 ///
-/// Once its notification is sent, or the lease is ended or released, the lease is no longer active.
+/// A lease is no longer active once the observer was notified, or the lease was ended or released.
 pub fn turns_end_once()
     ensures one { (slot confirm_after number : ℕ) (h : List ObserverCall) →
         count_by (has_number number) (observers slot confirm_after h).held ≤ 1 }
@@ -62,10 +61,10 @@ pub fn turns_keep_what_they_missed()
         is_missing turn (observers slot confirm_after (NextDue now notify_serial ∷ h)) ≡ false }
 {}
 
-/// The origin of each entry after a call.
+/// Each entry after a call was registered by it or was in the list before.
 ///
-/// The call registered the entry, or the entry was in the list before the call. In the second case
-/// it is unchanged, or changed as that call changes entries.
+/// In the second case the entry is unchanged, or changed in the way in which that call changes
+/// entries.
 pub fn entries_come_from_entries()
     ensures { (c : ObserverCall) (t : ObserverList) →
         All (ComesFrom c t) (observers_after c t).held }
@@ -73,9 +72,9 @@ pub fn entries_come_from_entries()
 
 /// A confirmable notification that timed out is retransmitted.
 ///
-/// The same bytes go to the same endpoint: t, then 2t, 4t and 8t milliseconds after they were last
-/// sent, where t is 2,000 to 3,000. If 16t milliseconds pass after the fourth time, the observer is
-/// removed.
+/// The same bytes go to the same endpoint. The first timeout is t milliseconds, where t is 2,000 to
+/// 3,000. The timeouts after the four retransmissions are 2t, 4t, 8t and 16t milliseconds. At the
+/// timeout after the fourth one the observer is removed.
 pub fn notifications_are_retransmitted()
     ensures sent { (confirm_after now id serial random : ℕ) (bytes : ArrayVec ℕ) (o : Entry) →
         must_confirm confirm_after now o ≡ true →
@@ -100,8 +99,8 @@ pub fn notifications_are_retransmitted()
 /// A released lease makes its observer wait until a later time.
 ///
 /// At the time of the release the observer has no pending notification. At a later time it has one
-/// if its revision is below the noticed one. A lease that is active for 247,000 ms is released at
-/// that millisecond.
+/// exactly if the last revision sent to it is below `notify_serial`. A lease that hasn't ended
+/// 247,000 ms after its grant counts as released at that time.
 pub fn given_up_turns_wait()
     ensures same { (now notify_serial : ℕ) (o : Entry) → is_due now notify_serial (given_up now o) ≡ false }
     ensures later { (now later notify_serial : ℕ) (o : Entry) → now < later →
@@ -113,16 +112,16 @@ pub fn given_up_turns_wait()
         is_due now notify_serial o ≡ nat_lt o.serial notify_serial }
 {}
 
-/// A Reset removes just the entries whose last notification it matches.
+/// A Reset removes exactly the entries whose last notification it matches.
 ///
-/// The notification went to the Reset's endpoint with its message ID.
+/// A notification matches if it went to the Reset's endpoint with the Reset's message ID.
 pub fn resets_remove_their_own()
     ensures { (to : Endpoint) (id : ℕ) (t : ObserverList) (o : Entry) →
         (Contains (after_reset to id t).held o
         ↔ (Contains t.held o × ((o.endpoint ≡ to) × (o.id ≡ Some id) → ⊥))) }
 {}
 
-/// A cancellation removes just the entry of its endpoint and token.
+/// A cancellation removes exactly the entries of its endpoint and token.
 ///
 /// See RFC 7641, section 3.6.
 pub fn cancellations_remove_their_own()
@@ -134,8 +133,8 @@ pub fn cancellations_remove_their_own()
 /// A removed observer gets no further notification.
 ///
 /// Until the observer registers again, no entry has its endpoint and token. A lease that is no
-/// longer active stays inactive. Only stored entries have active leases, and only their
-/// notifications are retransmitted.
+/// longer active stays inactive. Only stored entries have active leases, and only notifications of
+/// stored entries are retransmitted.
 pub fn removed_observers_receive_nothing()
     ensures gone { (to : Endpoint) (token : List ℕ) (h : List ObserverCall) (t : ObserverList) →
         RegistersNone to token h → list_any (is_entry_of to token) t.held ≡ false →
@@ -149,11 +148,11 @@ pub fn removed_observers_receive_nothing()
         Any (λ (o : Entry). retransmission o ≡ Some e) t.held }
 {}
 
-/// The revisions sent to an observer increase if each is at least its lease's.
+/// A notification's revision is above the last one sent to the same observer.
 ///
-/// Suppose that a notification's revision is at least the noticed one for which its lease was
-/// granted. Then that revision is above the last one sent to the lease's observer. In every other
-/// call an entry keeps its observer and its last sent revision.
+/// This holds if the revision is at least the `notify_serial` for which the notification's lease
+/// was granted. A call that doesn't notify an entry's observer leaves the last revision sent to it
+/// unchanged. No call changes the observer of an entry.
 pub fn serials_rise()
     ensures kept { (c : ObserverCall) (t : ObserverList) →
         All (λ (o : Entry). IsRegisteredBy c t o ⊎ Any (KeepsSerial c t o) t.held)
@@ -164,10 +163,10 @@ pub fn serials_rise()
         o.serial < serial) (observers slot confirm_after h).held }
 {}
 
-/// No observer was sent a revision above those passed to the calls.
+/// The revisions sent to observers are at most those passed to the calls.
 ///
-/// If no observer was sent a revision above `n`, this still holds after a call that passes no
-/// revision above `n`.
+/// If the last revisions sent to all observers are at most `n`, they still are after a call that
+/// passes no revision above `n`.
 pub fn serials_stay_below()
     ensures { (n : ℕ) (c : ObserverCall) (t : ObserverList) → HandsInUpTo n c →
         All (λ (o : Entry). o.serial ≤ n) t.held →
@@ -176,7 +175,7 @@ pub fn serials_stay_below()
 
 /// The first observer in the list with a pending notification gets the lease.
 ///
-/// The lease is numbered by how many were granted before it. The other entries don't change.
+/// The number of the lease is the number of leases granted before. The other entries don't change.
 pub fn the_first_due_gets_the_turn()
     ensures { (notify_serial : ℕ) (t : ObserverList) (before after : List Entry) (o : Entry) →
         t.turns < 18446744073709551615 → t.held ≡ before ++ o ∷ after →
@@ -187,8 +186,9 @@ pub fn the_first_due_gets_the_turn()
 /// An entry's message ID is that of its last notification.
 ///
 /// Before the first notification, the entry has no message ID. A notification is confirmable
-/// exactly if `confirm_after` ms or more have passed since the entry's registration, or since its
-/// last confirmable notification if there was one. A list keeps its initial `confirm_after`.
+/// exactly if `confirm_after` ms or more have passed since the entry's last confirmable
+/// notification. If there was none yet, the time since the registration counts. A list keeps its
+/// initial `confirm_after`.
 pub fn entries_keep_their_last_notification()
     ensures kept { (c : ObserverCall) (t : ObserverList) →
         All (λ (o : Entry). IsNewAt c t o ⊎ Any (KeepsLast c t o) t.held) (observers_after c t).held }
@@ -201,17 +201,17 @@ pub fn entries_keep_their_last_notification()
 
 /// An Acknowledgement ends the wait of the entries that it matches.
 ///
-/// These are the entries whose last notification went to its endpoint with its message ID. Nothing
-/// else changes.
+/// An entry matches if its last notification went to the Acknowledgement's endpoint with the
+/// Acknowledgement's message ID. Nothing else changes.
 pub fn acknowledgements_end_the_wait()
     ensures { (to : Endpoint) (id : ℕ) (t : ObserverList) →
         AllZip (IsAcknowledged to id) t.held (after_ack to id t).held }
 {}
 
-/// A registration is entered if there is room, or its entry exists.
+/// A registration is entered if there is room or an entry to be replaced.
 ///
-/// There is room if fewer than 32 observe the slot. If 32 others observe it, the registration
-/// changes nothing.
+/// There is room if the slot has fewer than 32 observers. An entry of the registration's endpoint
+/// and token is replaced. If there is neither room nor such an entry, nothing changes.
 pub fn registrations_are_entered()
     ensures room { (to : Endpoint) (token : ArrayVec ℕ) (request : Request) (szx : Option ℕ) (serial : ℕ) (t : ObserverList) →
         length t.held < 32 →
@@ -224,10 +224,10 @@ pub fn registrations_are_entered()
         registered to token request szx serial t ≡ t }
 {}
 
-/// A registration is the last entry.
+/// A registration becomes the last entry.
 ///
-/// A new one is appended to all entries. A renewed entry leaves its place and is appended to all
-/// others; they keep their order.
+/// A new entry is appended to all entries. A renewed entry is removed from its place and appended
+/// to all others, which keep their order.
 pub fn registrations_stand_last()
     ensures new { (to : Endpoint) (token : ArrayVec ℕ) (request : Request) (szx : Option ℕ) (serial : ℕ) (t : ObserverList) →
         length t.held < 32 → list_any (is_entry_of to token.items) t.held ≡ false →
@@ -240,7 +240,8 @@ pub fn registrations_stand_last()
 
 /// A tick retransmits the first notification in the list that timed out.
 ///
-/// The same bytes go to the same endpoint, if they were retransmitted less than four times.
+/// It does so if that notification was retransmitted less than four times. The same bytes go to the
+/// same endpoint.
 pub fn overdue_notifications_are_sent_again()
     ensures { (s wait : ℕ) (bytes : ArrayVec ℕ) (o : Entry) (at : List ℕ) (before after : List Entry) (t : ObserverList) →
         IsSentAt s wait bytes o → length at < 4 → is_overdue t.time (resent_entry at o) ≡ true →
@@ -250,7 +251,7 @@ pub fn overdue_notifications_are_sent_again()
 
 /// The end of a lease removes the observer that has it.
 ///
-/// No entry of its endpoint and token is left.
+/// No entry of the observer's endpoint and token is left.
 pub fn ended_turns_remove_their_observer()
     ensures { (slot confirm_after : ℕ) (turn : Turn) (o : Entry) (h : List ObserverCall) →
         entry_out turn (observers slot confirm_after h) ≡ Some o →

@@ -17,13 +17,13 @@ use Rattle.fc_service.specs.declared.replies.SentReplies.{SentReplies}
 use Rattle.fc_server.specs.declared.flush.Flushing.{Flushing}
 use Rattle.fc_workers.specs.declared.call_log.CallLog.{CallLog}
 
--- the text printed for the datagram that one step sent.
+-- the text printed for the datagram that one step sent, if it sent one, is that step's output.
 pub printed_of : (out : Option Emission) → flat_map printed (option_to_list out) ≡ output_of out
 printed_of None = refl
 printed_of (Some e) = append-nil (printed e)
 
 module _ {S : Type 0} (calls : IngressCalls S) where
-  -- the datagrams that they sent were passed to a sink.
+  -- if the steps so far sent no datagram, no datagram was passed to the sink so far.
   pub none_flushed : (Went : Emission → Bool → CallLog → CallLog → Type 0) (now : ℕ) (old new : S) (place : Flushing) (r : SentReplies)
       → ((steps : List FlushingStep) × AreStepsTo calls now steps old new place × (sent_in_steps steps ≡ [])) → Steps calls (λ es. Sends Went es r r) 0 now old new place
   none_flushed Went now old new place r w = (w.0, w.1, omega arith, subst (λ (es : List Emission). Sends Went es r r) (sym w.2) (none_sent Went r))
@@ -34,7 +34,7 @@ module _ {S : Type 0} (calls : IngressCalls S) where
   one_flushed Went taken now old mid new from to a b c out w x sends =
       next_step calls (λ es. Sends Went es a b) (λ es. Sends Went es a c) taken now old mid new from to out w x (λ es v. more_sent Went a b c es (option_to_list out) v sends)
 
-  -- the datagrams that they sent were printed.
+  -- if the steps so far sent no datagram, nothing was printed so far.
   pub none_printed : (now : ℕ) (old new : S) (place : Flushing) (a : Option (List ℕ))
       → ((steps : List FlushingStep) × AreStepsTo calls now steps old new place × (sent_in_steps steps ≡ [])) → Steps calls (λ es. Appends a a (flat_map printed es)) 0 now old new place
   none_printed now old new place a w = (w.0, w.1, omega arith, subst (λ (es : List Emission). Appends a a (flat_map printed es)) (sym w.2) (Appends-nil a))

@@ -13,7 +13,8 @@ period_suc (text ∷ texts) (suc k) first mid next d lt are is = (are.0, are.1, 
 one_more : (k : ℕ) → suc k ≡ k + 1
 one_more k = omega arith
 
--- one more text.
+-- if the first k texts give the period `mid`, and the next text changes `mid` to `next`, the first
+-- k + 1 texts give `next`.
 pub period_next : (texts : List (Bor (List ℕ))) (k : ℕ) (first mid next : Option ℕ) (d : Bor (List ℕ)) → k < length texts
     → ArePeriods (map (λ text. text.now) (take k texts)) first mid → IsPeriodAfter (slice_index_or texts k d).now mid next
     → ArePeriods (map (λ text. text.now) (take (k + 1) texts)) first next

@@ -27,12 +27,13 @@ use Rattle.fc_service.specs.Playing.{ArePlayedBy, HasPlayed, IsCarriedOutBy, IsF
 use Rattle.fc_server.specs.declared.alone.SingleThread.{SingleThread}
 use Rattle.fc_server.specs.Flushing.{AreFlushed, AreStepsBy, Asked, Passed, Resent, FlushingStep}
 
--- the next bytes of a reader.
+-- if a reader yields the piece before its next line feed, that piece is the reader's next text.
 pub next_text : {X E : Type 0} (bytes : X → List ℕ) (byte : ℕ) (had left : Option (List ℕ)) {r : Option (Result X E)} (x : X) {text : List ℕ} → text ≡ bytes x → byte ≡ 10 → r ≡ Some (Ok x) → YieldsKnownPiece bytes (first_piece byte) byte had r left → IsNextText text had left
 next_text {X} {E} bytes byte had left x same ten is y = subst (λ (t : List ℕ). IsNextText t had left) (sym same) (subst (λ (b : ℕ). YieldsKnownPiece {E = E} bytes (first_piece b) b had (Some (Ok x)) left) ten (subst (λ (r : Option (Result X E)). YieldsKnownPiece bytes (first_piece byte) byte had r left) is y))
 
 module _ {S : Type 0} (Hands : List ℕ → S → S → Type 0) (calls : IngressCalls S) where
-  -- a line that was read and executed, with its retransmissions and notifications.
+  -- a line was played if its text was parsed, its readings were set, it was executed, and the
+  -- server was flushed. The printed text is then the output of the played line.
   pub line_played : (text : List ℕ) (line : Line) (now : ℕ) (old handed mid new : S) (a b c : Option (List ℕ)) → IsLine text line → now ≡ time_of line
       → IsHandedBy Hands calls line old handed
       → ((sent : Option Emission) × IsCarriedOutBy Hands calls line handed sent mid × Appends a b (output_of sent))
@@ -53,7 +54,8 @@ module _ {S : Type 0} (Hands : List ℕ → S → S → Type 0) (calls : Ingress
     Appends-trans a b c (output_of w.0) (printed_steps x.0) w.2 x.2.1,
   )
 
-  -- one more line.
+  -- if lines were played, and the reader's next text was played too, the lines with that one were
+  -- played. The number of lines is one more.
   pub plays_on : (first old new : S) (had mid left before now after : Option (List ℕ)) (text : List ℕ) → (h : HasPlayed Hands calls first old had mid before now) → IsNextText text mid left
       → ((p : PlayedLine) × (p.text ≡ text) × IsPlayedBy Hands calls p old new × Appends now after (output_by p))
       → (more : HasPlayed Hands calls first new had left before after) × (length more.lines ≡ length h.lines + 1)
@@ -67,7 +69,8 @@ module _ {S : Type 0} (Hands : List ℕ → S → S → Type 0) (calls : Ingress
     omega arith,
   )
 
-  -- playing stopped at a line that changed nothing, and printed nothing.
+  -- if lines were played, and the next line changed nothing and printed nothing, playing stopped at
+  -- that next line.
   pub stops_at : (number : ℕ) (first old new : S) (had mid before now after : Option (List ℕ)) → (h : HasPlayed Hands calls first old had mid before now) → new ≡ old → after ≡ now
       → number ≡ saturated (length h.lines + 1) → StopsAt Hands calls number first new had before after
   stops_at number first old new had mid before now after h same unprinted is = record {
@@ -81,13 +84,13 @@ module _ {S : Type 0} (Hands : List ℕ → S → S → Type 0) (calls : Ingress
     number_is = is;
   }
 
--- on one thread.
+-- if all lines of a reader were played on a new single-threaded server, the lines were played out.
 pub played_out : {A E : Type 0} (begin : Begin) (first last : SingleThread) (had before after : Option (List ℕ)) (r : Result A E) → Serves (begin_of begin) first.engine [] → first.handed ≡ record { readings = no_readings; random = 0 }
     → OnOk r ((left : Option (List ℕ)) × HasPlayed HandsAlone alone_calls first last had left before after × IsAtEnd left) → OnOk r (IsPlayedOut begin had before after)
 played_out begin first last had before after (Ok x) begins handed w = record { first = first; last = last; begins = begins; handed = handed; left = w.0; played = w.1; end = w.2 }
 played_out begin first last had before after (Err e) begins handed w = tt
 
--- ---- a change of a holder of a server is a change of the server
+-- ---- calls on the holder of a server are calls on the server
 module _ {H S : Type 0} (held : H → S) (HandsIt : List ℕ → H → H → Type 0) (Hands : List ℕ → S → S → Type 0) (hands : (readings : List ℕ) (old new : H) → HandsIt readings old new → Hands readings (held old) (held new)) (calls : IngressCalls S) where
   steps_through : (now : ℕ) (steps : List FlushingStep) (old new : H) → AreStepsBy (calls_through held calls) now steps old new → AreStepsBy calls now steps (held old) (held new)
   steps_through now [] old new same = ap held same
@@ -124,7 +127,7 @@ module _ {H S : Type 0} (held : H → S) (HandsIt : List ℕ → H → H → Typ
   pub played_through : (old new : H) (had left before after : Option (List ℕ)) → HasPlayed HandsIt (calls_through held calls) old new had left before after → HasPlayed Hands calls (held old) (held new) had left before after
   played_through old new had left before after h = record { lines = h.lines; played = lines_through h.lines old new h.played; read = h.read; printed = h.printed }
 
--- a program whose status is that of bad input stopped at a bad line.
+-- if a program ends with the status `Bad`, playing stopped at a bad line.
 pub bad_line : (stop : Stop) (status told : Status) → status ≡ status_of stop → IsEnding status told → told ≡ Bad → (number : ℕ) × (stop ≡ BadLine number)
 bad_line (BadLine number) status told is ending bad = (number, refl)
 bad_line (Input error) status told is (inl same) bad = absurd (cc (is, same, bad))
@@ -134,7 +137,7 @@ bad_line (Output error) status told is (inr failed) bad = absurd (cc (failed, ba
 bad_line (Memory error) status told is (inl same) bad = absurd (cc (is, same, bad))
 bad_line (Memory error) status told is (inr failed) bad = absurd (cc (failed, bad))
 
--- lines fed to a holder of a server were fed to the server.
+-- if lines were played on the holder of a server, they were played on the server.
 pub fed_by_lines : {A E H S : Type 0} (held : H → S) (HandsIt : List ℕ → H → H → Type 0) → ((readings : List ℕ) (old new : H) → HandsIt readings old new → held new ≡ held old) → (calls : IngressCalls S)
     → (old new : H) (had before after : Option (List ℕ)) (r : Result A E)
     → OnOk r ((left : Option (List ℕ)) × HasPlayed HandsIt (calls_through held (waited_calls calls)) old new had left before after × IsAtEnd left) → OnOk r (IsFedByLines calls had (held old))

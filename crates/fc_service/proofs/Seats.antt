@@ -1,4 +1,4 @@
--- A property of all items: after the last was popped, in reverse, and of what each has.
+-- A property of all items of a list also holds for the first items, and in the reverse order.
 use Rattle.std.proofs.Common.{◌≡◌, ℕ, ◌-◌, List, [], ◌∷◌, length, map, take, subst, sym, arith}
 use Rattle.std.specs.Prelude.{reverse}
 use Rattle.std.specs.List.{All}
@@ -20,6 +20,6 @@ all_of_map : {X Y : Type 0} (P : X → Type 0) (f : Y → X) (ys : List Y) → A
 all_of_map P f [] all = All-nil (λ y. P (f y))
 all_of_map P f (y ∷ ys) all = All-cons (λ z. P (f z)) y ys (all 0 (f y) (omega arith)) (all_of_map P f ys (All-tail P (f y) (map f ys) all))
 
--- the seats have these logs, which are new.
+-- if the logs of the seats are these logs in reverse, and these logs are new, the seats' logs are.
 pub new_seats : {T : Type 0} (seats : List (WorkerSeed T)) (logs : List TrackedLog) → map (λ (s : WorkerSeed T). s.log) seats ≡ reverse logs → All IsNewLog logs → All (λ (s : WorkerSeed T). IsNewLog s.log) seats
 new_seats {T} seats logs are new = all_of_map IsNewLog (λ (s : WorkerSeed T). s.log) seats (subst (λ (l : List TrackedLog). All IsNewLog l) (sym are) (all_reversed IsNewLog logs new))

@@ -1,4 +1,4 @@
--- The results of a shard of a server on one thread are true.
+-- A single-threaded server's results for a shard say correctly that the shard has nothing to send.
 use Rattle.std.proofs.Common.{◌≡◌, ℕ, true, false, Option, Some, None, refl, ap, sym, ◌∙◌}
 use Rattle.std.specs.Prelude.{◌%◌, ◌↔◌, is_some}
 use Rattle.coap_msg.specs.declared.types.Emission.{Emission}
@@ -17,7 +17,7 @@ use Rattle.fc_server.specs.Steps.{shard_turn}
 use Rattle.fc_server.specs.SingleThread.{NotifiesAlone, ResendsAlone}
 use Rattle.fc_server.specs.declared.alone.SingleThread.{SingleThread}
 
--- ---- no notification has timed out
+-- ---- the result is `Quiet` exactly if no notification is overdue
 
 sends_or_removes : (again : Option Emission) → ticked_by again ≡ Quiet → ⊥
 sends_or_removes None e = absurd (cc e)
@@ -39,7 +39,7 @@ idle_is_told shard now old new ticked w =
       λ none. w.0 ∙ ap (λ (o : Option ℕ). ticked_in o at) none,
     )
 
--- ---- no observer has a pending notification
+-- ---- the result is `Nobody` exactly if no observer is due
 
 none_given : (o : Option Job) → false ≡ is_some o → o ≡ None
 none_given None e = refl

@@ -1,4 +1,5 @@
--- The datagrams received, those passed to a sink, and their counts, one after the other.
+-- Two lists of receives, or of datagrams passed to a sink, joined; and the counts of the joined
+-- list.
 use Rattle.std.proofs.Common.{◌≡◌, ℕ, ◌+◌, Bool, true, false, not, List, [], ◌∷◌, ◌++◌, append-nil, append_assoc, add_assoc, add-zero, Option, Some, None, arith, refl, ap, sym, subst, ◌∙◌}
 use Rattle.std.specs.Prelude.{IfSome, cond, count_by}
 use Rattle.std.proofs.lemmas.List.{map-append}
@@ -51,7 +52,7 @@ module _ (Went : Emission → Bool → CallLog → CallLog → Type 0) where
 
 -- ---- the number of datagrams sent
 
--- these numbers, each of which stops at its maximum.
+-- counts of `sent` and `failed` replies; each count stops at 2^64 - 1.
 abbrev replies_at : ℕ → ℕ → Replies
 replies_at sent failed = record { sent = saturated sent; failed = saturated failed }
 
@@ -72,7 +73,7 @@ counted_at (s ∷ ss) sent failed =
     ∙ (counted_at ss (sent + cond s.out 1 0) (failed + cond (not s.out) 1 0)
     ∙ λ i. replies_at (count_from (λ x. x.out) sent s ss i) (count_from (λ x. not x.out) failed s ss i))
 
--- one more for each.
+-- if each sending of the second list is counted after the first list, the counts are those of both.
 pub more_replies : (xs ss : List Sending) → counted_each ss (replies_to xs) ≡ replies_to (xs ++ ss)
 more_replies xs ss =
     counted_at ss (count_by (λ s. s.out) xs) (count_by (λ s. not s.out) xs)

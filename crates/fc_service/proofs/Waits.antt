@@ -5,7 +5,7 @@ use Rattle.std.proofs.lemmas.Bool.{cases_lt, lt-ltb}
 use Rattle.fc_service.specs.Rounds.{wait_until}
 use Rattle.fc_server.specs.Flushing.{AreTold, earliest}
 
--- up to a time, if it is one.
+-- a receive waits until a time below 2^64 - 1, and for at least 100 ms.
 pub wait_to : (now time : ℕ) → time < 18446744073709551615 → wait_until now time ≡ Some (max (time - now) 100)
 wait_to now time lt = ap (λ (b : Bool). if b then Some (max (time - now) 100) else None) (lt-ltb time 18446744073709551615 lt)
 
@@ -33,12 +33,12 @@ module _ (told : ℕ → ℕ) where
       let here : least ≤ told (length before) = each (length before) (omega arith) in
       omega (arith, le, here, is)
 
-  -- it is no later than 2^64 - 1.
+  -- the earliest time is at most 2^64 - 1.
   pub at_most : (times : List ℕ) → earliest times ≤ 18446744073709551615
   at_most [] = omega arith
   at_most (until ∷ before) = let le = at_most before in omega (arith, le)
 
--- whether a round was idle.
+-- a round was idle exactly if it handled nothing.
 pub handled_something : (idle some : Bool) → some ≡ not idle → some ≡ true → idle ≡ false
 handled_something true some is found = absurd (cc (is, found))
 handled_something false some is found = refl

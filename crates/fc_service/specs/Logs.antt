@@ -8,7 +8,7 @@ use Rattle.fc_lines.specs.Fields.{IsNumber}
 use Rattle.fc_service.specs.Every.{texts_by}
 use Rattle.fc_service.specs.declared.logging.LogOptions.{LogOptions}
 
--- the values of `--log`, in their order.
+-- the values of `--log`, in the order of the command line.
 abbrev pub log_texts : Found → List (List ℕ)
 log_texts f = texts_by (option_map raw_values (matched_of f (codes "log")))
 
@@ -16,7 +16,8 @@ log_texts f = texts_by (option_map raw_values (matched_of f (codes "log")))
 abbrev pub has_text : List (List ℕ) → List ℕ → Bool
 has_text texts text = list_any (λ t. bytes_eq t text) texts
 
--- the text of a period of 1 to 86,400 seconds, as `report:60`; the period is in milliseconds.
+-- `text` is `report:` with 1 to 86,400 seconds, for example `report:60`. `period` is the same time
+-- in milliseconds.
 pub record IsReportText (text : List ℕ) (period : ℕ) : Type 0 where
   pub digits : List ℕ
   pub seconds : ℕ
@@ -26,12 +27,13 @@ pub record IsReportText (text : List ℕ) (period : ℕ) : Type 0 where
   pub most : seconds ≤ 86400
   pub period_is : period ≡ 1000 * seconds
 
--- a text is about other records, and the period stays as it is; or the text gives the period.
+-- the text is `off`, `info` or `changes`, and the period stays the same; or the text gives the new
+-- period.
 abbrev pub IsPeriodAfter : List ℕ → Option ℕ → Option ℕ → Type 0
 IsPeriodAfter text before after =
     (((text ≡ codes "off") ⊎ ((text ≡ codes "info") ⊎ (text ≡ codes "changes"))) × (after ≡ before)) ⊎ ((period : ℕ) × IsReportText text period × (after ≡ Some period))
 
--- the texts, one after the other: the last period counts.
+-- the period after all texts: the last one that a text gives, or else the period before them.
 abbrev pub ArePeriods : List (List ℕ) → Option ℕ → Option ℕ → Type 0
 ArePeriods [] before after = after ≡ before
 ArePeriods (text ∷ texts) before after = (mid : Option ℕ) × IsPeriodAfter text before mid × ArePeriods texts mid after

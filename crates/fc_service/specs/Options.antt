@@ -14,10 +14,10 @@ abbrev pub HasNumber : Option (List ℕ) → ℕ → Type 0
 HasNumber None n = ⊥
 HasNumber (Some text) n = IsNumber text n
 
--- the server listens at the address of `--bind` and the port of `--port`. It logs according to the
--- values of `--log`, and reports its listening address if one of them is `info`. It has the number
--- of workers of `--workers`, and ends after the number of datagrams of `--limit`. It reads its
--- sensors from the file of `--readings`, if there is one.
+-- `o` has the values of the options that a command line gives. The listening address is that of
+-- `--bind` with the port of `--port`. It is reported if a value of `--log` is `info`. The numbers
+-- of workers and of datagrams are those of `--workers` and `--limit`. The path of the sensor file
+-- is that of `--readings`, if the option is given.
 pub record AreServeOptions (f : Found) (o : ServeOptions) : Type 0 where
   pub bind : List ℕ
   pub bind_is : first_value f (codes "bind") ≡ Some bind

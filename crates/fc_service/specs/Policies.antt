@@ -11,13 +11,13 @@ abbrev pub IsValueOr : ℕ → Option (List ℕ) → ℕ → Type 0
 IsValueOr default None n = n ≡ default
 IsValueOr default (Some text) n = IsNumber text n
 
--- an option is given, and its value isn't a number below 2^64.
+-- the option is given, and its value isn't a number below 2^64.
 abbrev pub IsNoValueOr : Option (List ℕ) → Type 0
 IsNoValueOr None = ⊥
 IsNoValueOr (Some text) = IsNoNumber text (2 ^ 64)
 
--- the policy of the values of `--managers`, `--exchanges`, `--share` and `--confirm-after`. The
--- defaults are 1,024 exchanges, a share of 65,536, and a notification that is confirmable after
+-- the policy has the values of `--managers`, `--exchanges`, `--share` and `--confirm-after`. The
+-- defaults are 1,024 exchanges, a share of 65,536 exchanges, and confirmable notifications after
 -- 86,400 s.
 pub record IsPolicyIn (f : Found) (p : Policy) : Type 0 where
   pub texts : List (List ℕ)
@@ -28,6 +28,7 @@ pub record IsPolicyIn (f : Found) (p : Policy) : Type 0 where
   pub confirm_after : IsValueOr 86400 (first_value f (codes "confirm-after")) seconds
   pub policy : IsPolicyOf texts p.limits.exchanges p.limits.share seconds p
 
--- the options' values are those of no policy whose share is below 2^64, as each `usize` is.
+-- no policy with a share below 2^64 has the options' values. (A share is a `usize`, so it is below
+-- 2^64.)
 pub record IsNoPolicyIn (f : Found) : Type 0 where
   pub none : (p : Policy) → p.limits.share < 2 ^ 64 → IsPolicyIn f p → ⊥

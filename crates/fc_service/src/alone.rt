@@ -1,4 +1,4 @@
-//! The input for jobs on one thread: a line's readings, or those of the sensors.
+//! Readings for jobs of a server on one thread, from a line or from the sensors.
 ghost use Rattle.fc_service.specs.SingleThread.{HandsAlone, ReadiesRecorded};
 
 use crate::lines::LineIngress;
@@ -12,7 +12,7 @@ use std::sync::Wait;
 
 /// A preparation that reads the sensors at the time of a round.
 ///
-/// The round's jobs get these readings. The random word is the low bits of the time.
+/// The round's jobs get these readings. The random word is the low 16 bits of the time.
 #[derive(Drop)]
 pub(crate) struct Sensed<'a, Z: Sensors> {
     pub(crate) sensors: &'a Z,

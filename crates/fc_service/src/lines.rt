@@ -1,6 +1,6 @@
 //! Playing lines: an ingress executes each line, and its output is printed.
 //!
-//! The ingress is a server on one thread, or one that waits for its workers.
+//! The ingress is a server on one thread, or a server whose workers are waited for.
 ghost use Rattle.std.specs.Prelude.{◌≡◌, ◌++◌, ⊤, ℕ, Err, List, Option, OnOk};
 ghost use Rattle.std.specs.Io.KnownBytes.{Appends, IsAtEnd};
 ghost use Rattle.coap_msg.specs.declared.types.Emission.{Emission};
@@ -25,24 +25,24 @@ use std::io::{BufRead, Write};
 
 /// An ingress whose jobs get the readings of the played lines.
 pub(crate) trait LineIngress: Ingress {
-    // Jobs get these readings from now on: the ingress before and after.
+    // A relation: from this call on, jobs get the readings. The states are those of the ingress
+    // before and after the call.
     ghost hands: { List ℕ → Self → Self → Type 0 } = { λ readings old new. ⊤ };
 
-    /// Sets the readings for the jobs from now on.
+    /// Sets the readings that jobs get from this call on.
     fn hand(&mut self, readings: &Readings)
         ensures { hands readings.now self.old self.new };
 }
 
-/// Reads lines, executes each of them, and prints the datagrams that it sends.
+/// Reads lines, executes each line, and prints the sent datagrams.
 ///
-/// For `fcd play`: on one thread, or with workers, waited for after each line. A line's output is
-/// printed before the next line is read. The output has the response to the line's datagram, then
-/// the retransmissions and the notifications at the line's time.
+/// A line's output is printed before the next line is read. The output has the response to the
+/// line's datagram, then the retransmissions and the notifications at the line's time.
 ///
 /// # Errors
-/// Returns `BadLine` if a line is bad. Then the lines before it were played, and exactly their
-/// output was printed. Returns `Input` or `Output` if reading or writing failed, and `Memory` if
-/// memory for a line can't be allocated.
+/// Returns `BadLine` with the number of the first bad line, counted from 1. Exactly the
+/// lines before the bad line were played, and exactly their output was printed. Returns `Input` or
+/// `Output` if reading or writing failed, and `Memory` if memory for a line can't be allocated.
 pub(crate) fn play_lines<N: LineIngress, R: BufRead + Drop, W: Write>(
     alloc: Global,
     ingress: &mut N,
@@ -66,8 +66,9 @@ pub(crate) fn play_lines<N: LineIngress, R: BufRead + Drop, W: Write>(
     Ok(())
 }
 
-// Reads the line with this number, executes it, and prints its output. Returns `BadLine` if the
-// line is bad; then nothing is executed or printed. The other errors are those of `play_lines`.
+// Parses `text`, executes the line, and prints the line's output. Returns `BadLine` with `number`
+// if the line is bad; nothing is executed or printed then. Returns `Output` if printing fails, and
+// `Memory` if memory for the line can't be allocated.
 fn play_line<N: LineIngress, W: Write>(
     alloc: Global,
     ingress: &mut N,
@@ -98,7 +99,7 @@ fn play_line<N: LineIngress, W: Write>(
     }
 }
 
-// Sets the readings of the jobs to those that a line gives, if it gives any.
+// Sets the readings that jobs get to those that the line gives. If it gives none, nothing changes.
 fn hand<N: LineIngress>(ingress: &mut N, line: &Line)
     ensures { IsHandedBy N.hands N.calls line.now ingress.old ingress.new }
 {
@@ -140,9 +141,9 @@ fn time(line: &Line) -> u64
     }
 }
 
-// Prints the retransmissions and the notifications at `now`, in milliseconds, until none is left,
-// no message ID is available, or 8,192 steps were taken. Each is written over `emission`. Returns
-// an error if printing fails.
+// Sends and prints the retransmissions and the notifications at `now`, in milliseconds. Stops if no
+// notification is left, if no message ID is available, or after 8,192 steps. Each datagram is
+// written over `emission`. Returns an error if printing fails.
 fn flush<N: Ingress, W: Write>(
     ingress: &mut N,
     now: u64,

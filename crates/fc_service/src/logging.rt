@@ -1,6 +1,6 @@
-//! The values of `--log` of `fcd serve`, in any number.
+//! The values of the option `--log` of `fcd serve`.
 //!
-//! They are `off`, `info`, `changes` and `report:SECONDS`.
+//! Each value is `off`, `info`, `changes` or `report:SECONDS`. There can be any number of values.
 ghost use Rattle.std.specs.Prelude.{◌≡◌, IfSome, None, map};
 ghost use Rattle.std.specs.List.{list_any};
 ghost use Rattle.std.specs.Str.{bytes_eq};
@@ -10,7 +10,7 @@ ghost use Rattle.fc_service.specs.Logs.{ArePeriods, AreLogsIn, IsPeriodAfter, Is
 use clap::ArgMatches;
 use fc_lines::line::number;
 
-/// The longest period of reports in seconds: a day.
+/// The longest period of reports, in seconds; it is a day.
 pub const LONGEST_REPORT: u64 = 86_400;
 
 /// The records that a server logs.
@@ -18,7 +18,7 @@ pub const LONGEST_REPORT: u64 = 86_400;
 pub struct LogOptions {
     /// The listening address, and, at the server's end, the number of replies sent.
     pub info: bool,
-    /// Each request to change a program that a job answers.
+    /// Each request to change a program, if a job answers the request.
     pub changes: bool,
     /// The period of reports of the counts, in milliseconds, or `None` for no reports.
     pub report: Option<u64>,
@@ -38,8 +38,8 @@ pub(crate) fn logs_in(matches: &ArgMatches<'_>) -> Option<LogOptions>
     })
 }
 
-// Reads the period of reports, in milliseconds: `Some(None)` if no value gives one. Returns `None`
-// if a value is refused, as `logs_in` does.
+// Reads the period of reports, in milliseconds. Returns `Some(None)` if no value gives a period.
+// Returns `None` if `logs_in` refuses a value.
 fn period_in(matches: &ArgMatches<'_>) -> Option<Option<u64>>
     ensures { IfSome result (ArePeriods (log_texts (found_of matches.now)) None) }
 {
@@ -49,8 +49,8 @@ fn period_in(matches: &ArgMatches<'_>) -> Option<Option<u64>>
     }
 }
 
-// Returns the period that the last text of reports gives, or `Some(None)` if none gives one.
-// Returns `None` if a text is refused.
+// Returns the period of the last text `report:SECONDS`, in milliseconds. Returns `Some(None)` if no
+// text gives a period, and `None` if a text is refused.
 fn period_among(texts: &[&str]) -> Option<Option<u64>>
     ensures { IfSome result (ArePeriods (map (λ text. text.now) texts.now) None) }
 {
@@ -61,8 +61,8 @@ fn period_among(texts: &[&str]) -> Option<Option<u64>>
     Some(period)
 }
 
-// Returns the period that a text gives, or `period` if the text is about other records. Returns
-// `None` if the text is refused.
+// Returns the period that the text gives, or `period` if the text is `off`, `info` or `changes`.
+// Returns `None` if the text is refused.
 fn period_after(text: &str, period: Option<u64>) -> Option<Option<u64>>
     ensures { IfSome result (IsPeriodAfter text.now period) }
 {

@@ -15,8 +15,8 @@ use thiserror::Error;
 
 /// The options of `fcd serve`.
 ///
-/// `limit` is a number of datagrams, and 0 is unlimited. `readings` is the path of a file. The
-/// server reports its listening address if `logs` has `info`.
+/// `limit` is the number of datagrams after which the server ends; 0 means unlimited. `readings` is
+/// the path of the sensor file. The server reports its listening address if `logs` has `info`.
 #[derive(Clone, Copy)]
 pub struct ServeOptions<'a> {
     pub listening: Listening,
@@ -33,10 +33,10 @@ pub enum BadOption {
     /// The value of `--bind` isn't an address.
     #[error("error: `--bind` is to be an IPv4 address, as 127.0.0.1")]
     Bind,
-    /// A value of `--managers` isn't a network, or there are more than four.
+    /// A value of `--managers` isn't a network, or there are more than four values.
     ///
-    /// It is also the reason if `--exchanges`, `--share` or `--confirm-after` is out of its range.
-    /// The command line's parser refuses that earlier.
+    /// `Managers` is also the reason if `--exchanges`, `--share` or `--confirm-after` is out of its
+    /// range. The command line's parser refuses such a number earlier.
     #[error("error: `--managers` takes an address and a number of bits, for example 192.0.2.0/24, at most four times")]
     Managers,
     /// A value of `--log` names no record, or its seconds aren't 1 to 86,400.
@@ -44,7 +44,7 @@ pub enum BadOption {
     Log,
     /// An option is missing, or its value isn't a number in its range.
     ///
-    /// The command line's parser refuses these earlier.
+    /// The command line's parser refuses both earlier.
     #[error("error: `{0}` takes a number")]
     Number(&'static str),
 }
@@ -52,7 +52,7 @@ pub enum BadOption {
 /// Reads the options of `fcd serve`.
 ///
 /// # Errors
-/// Returns the first of these that holds:
+/// Returns the first of these reasons that applies:
 ///
 /// - `Bind` if `--bind` isn't an IPv4 address.
 /// - `Number` if `--port` isn't given or isn't a number below 2^16.

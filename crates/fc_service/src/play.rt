@@ -12,7 +12,7 @@ use fc_server::{Begin, SingleThread};
 use std::alloc::Global;
 use std::io::{BufRead, Write};
 
-/// Plays lines on a new single-threaded server, and prints the datagrams it sends.
+/// Plays lines on a new single-threaded server, and prints the sent datagrams.
 ///
 /// A line's output is printed before the next line is read. The output has the response to the
 /// line's datagram, then the retransmissions and the notifications at the line's time. The result
@@ -20,10 +20,10 @@ use std::io::{BufRead, Write};
 ///
 /// - `Done` at the end of the input. Each line was executed once, in order, and exactly the lines'
 ///   output was printed.
-/// - `Bad` if a line is bad. The lines before it were executed in this way, and exactly their
-///   output was printed. The bad line's number, counted from 1, is written to `err`.
+/// - `Bad` if a line is bad. The lines before the bad line were executed once, in order, and
+///   exactly their output was printed. The bad line's number, counted from 1, is written to `err`.
 /// - `Failed` if reading or writing failed, or if memory for the server or a line couldn't be
-///   allocated. The reason is written to `err` as well.
+///   allocated. The reason is written to `err`.
 pub fn play<R: BufRead + Drop, W: Write, E: Write>(
     alloc: Global,
     input: R,

@@ -9,15 +9,15 @@ use fc_core::Policy;
 use fc_lines::line::number;
 use fc_lines::policy::{DEFAULT_SECONDS, policy};
 
-/// Returns the policy that the options give, or `None`.
+/// Returns the policy that the options give, or `None` if they give none.
 ///
-/// The result is `None` exactly if the options give no policy:
+/// The result is `None` exactly in these cases:
 ///
 /// - `--managers` has no value, a value that isn't a network, or more than four values.
 /// - `--exchanges` isn't 1 to 65,536.
 /// - `--share` is 0.
 /// - `--confirm-after` isn't 1 to 86,400.
-/// - One of these three isn't a number below 2^64.
+/// - `--exchanges`, `--share` or `--confirm-after` isn't a number below 2^64.
 pub fn policy_in(matches: &ArgMatches<'_>) -> Option<Policy>
     ensures { let found = found_of matches.now in MatchOption result (IsNoPolicyIn found) (IsPolicyIn found) }
 {
@@ -29,8 +29,8 @@ pub fn policy_in(matches: &ArgMatches<'_>) -> Option<Policy>
     )
 }
 
-// Returns the number of an option, or the default if it isn't given. Returns `None` if its value
-// isn't a number below 2^64.
+// Returns the number of an option, or `default` if the option isn't given. Returns `None` if the
+// option's value isn't a number below 2^64.
 fn value(matches: &ArgMatches<'_>, name: &str, default: u64) -> Option<u64>
     ensures { let text = first_value (found_of matches.now) name.now in
         MatchOption result (IsNoValueOr text) (IsValueOr default text) }

@@ -5,7 +5,7 @@ ghost use Rattle.fc_service.specs.Counting.{both_replies, counted, no_replies, r
 use fc_workers::{CallLog, Share};
 use std::fmt;
 
-/// The numbers of replies that were sent, and that failed.
+/// The number of sent replies, and the number of replies that couldn't be sent.
 ///
 /// Each count stops at 2^64 - 1.
 #[derive(Clone, Copy, PartialEq, Eq)]
@@ -22,7 +22,7 @@ impl Replies {
         Replies { sent: 0, failed: 0 }
     }
 
-    /// Returns the numbers of replies that a worker sent, and that it failed to send.
+    /// Returns the counts of the replies that a worker sent and failed to send.
     pub fn by<T: Drop, L: Drop>(share: &Share<T, L>) -> Replies
         ensures { result ≡ replies_by share.now }
     {
@@ -32,7 +32,7 @@ impl Replies {
         }
     }
 
-    /// Sums the replies of workers.
+    /// Returns the sums of the workers' counts; each sum stops at 2^64 - 1.
     pub fn of<T: Drop, L: Drop>(shares: &[Share<T, L>]) -> Replies
         ensures { result ≡ replies_of shares.now }
     {
@@ -43,7 +43,7 @@ impl Replies {
         replies
     }
 
-    /// Returns the sums of these numbers and of `others`.
+    /// Returns the sums of these counts and of `others`; each stops at 2^64 - 1.
     pub fn plus(self, others: Replies) -> Replies
         ensures { result ≡ both_replies self others }
     {
@@ -53,7 +53,9 @@ impl Replies {
         }
     }
 
-    /// Counts a reply, if there was one: `out` says whether it was sent or failed.
+    /// Counts a reply as sent (`Some(true)`) or failed (`Some(false)`), if any.
+    ///
+    /// `None` means that there was no reply; then nothing changes.
     pub fn count_if_any(&mut self, out: Option<bool>)
         ensures { self.new ≡ counted out self.old }
     {
@@ -65,7 +67,7 @@ impl Replies {
     }
 }
 
-/// The counts of the replies passed to a sink, and the log of these calls.
+/// The counts of the replies passed to a sink, and the log of the sink's calls.
 #[derive(Drop)]
 pub(crate) struct SentReplies {
     pub(crate) replies: Replies,
@@ -73,7 +75,7 @@ pub(crate) struct SentReplies {
 }
 
 impl SentReplies {
-    /// Returns the counts of no replies, and a new log.
+    /// Returns counts of zero, and a new log.
     pub(crate) fn new() -> SentReplies
         ensures { result.replies ≡ no_replies }
     {

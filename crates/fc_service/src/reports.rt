@@ -1,4 +1,4 @@
-//! Rounds of a server, with reports of its counts or without.
+//! Rounds of a server, with or without reports of the server's counts.
 ghost use Rattle.std.specs.Prelude.{◌≡◌};
 ghost use Rattle.fc_service.specs.Rounds.{HasReceivedBy, round_calls};
 
@@ -21,7 +21,7 @@ pub struct Reports<'a, Q: Reporter> {
     pub reporter: &'a Q,
 }
 
-// A sink whose reporter counts the datagrams, by whether they were sent.
+// A sink whose reporter counts each datagram as sent or failed.
 #[derive(Drop)]
 pub(crate) struct CountedSink<'a, K: Sink, Q: Reporter> {
     pub(crate) sink: &'a K,
@@ -40,9 +40,9 @@ impl<'a, K: Sink, Q: Reporter> Sink for CountedSink<'a, K, Q> {
 
 /// Receives datagrams as [`run_rounds`] does, and reports the counts.
 ///
-/// Without a period in `reports`, nothing is reported. A report is made at the first round after it
-/// is due. Each receive ends when a report is due, or up to 100 ms later. Returns the numbers of
-/// replies, as `run_rounds` does.
+/// Without a period in `reports`, nothing is reported. A due report is made in the next round. Each
+/// receive ends at the latest when a report is due, or up to 100 ms later. Returns the counts of
+/// the replies that were sent and that failed, as `run_rounds` does.
 pub(crate) fn run_reported<
     R: Wait,
     N: Ingress,

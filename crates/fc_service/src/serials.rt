@@ -1,6 +1,6 @@
-//! The first serial of a server, by the time of its start.
+//! The first serial of a server, from the time at which the server starts.
 //!
-//! The serial is to be higher than any that an earlier server reached. See [`serial_of_start`].
+//! It has to be higher than any serial that an earlier server reached. See [`serial_of_start`].
 ghost use Rattle.std.specs.Prelude.{◌≡◌, ◌≤◌, ◌/◌, min};
 ghost use Rattle.std.specs.Time.{system_time_nanos};
 ghost use Rattle.fc_registry.specs.Slots.{last_serial};
@@ -9,32 +9,33 @@ ghost use Rattle.fc_service.specs.Serials.{serial_of_start};
 use std::io;
 use std::time::{Clock, SystemTime, UNIX_EPOCH};
 
-/// The time from which on each start begins at the same serial.
+/// The time in milliseconds from which on each start has the same first serial.
 ///
-/// It is 2^48 ms since 1970, in the year 10889.
+/// It is 2^48 ms after the beginning of 1970, in the year 10889.
 const LAST_START: u64 = 0x1_0000_0000_0000;
 
-/// The serials of a millisecond.
+/// The amount by which the first serial rises in a millisecond.
 ///
-/// So the 24 bits of Observe rise by less than 2^23 in 256 s (RFC 7641, section 3.4).
+/// At 32, the 24-bit number of Observe rises by less than 2^23 in 256 s (RFC 7641, section 3.4).
 const OF_MILLISECOND: u64 = 32;
 
-/// The additional serials of a whole second.
+/// The additional amount by which the first serial rises in a whole second.
 ///
-/// They are a multiple of 2^24, which leaves the 24 bits of Observe.
+/// It is 2^24, so it doesn't change the 24-bit number of Observe.
 const OF_SECOND: u64 = 0x100_0000;
 
 /// Returns the milliseconds since the beginning of 1970, by the system's clock.
 ///
-/// It is the time of a start of `fcd serve`.
+/// `fcd serve` calls it when it starts.
 ///
 /// # Errors
-/// Returns an error if the clock can't be read, or is set to a time before 1970.
+/// Returns an error if the clock can't be read, or if it is set to a time before 1970.
 pub fn unix_milliseconds<R: Clock>(clock: &R) -> io::Result<u64> {
     Ok(milliseconds_of(SystemTime::now(clock)?))
 }
 
-// Returns the whole milliseconds from the beginning of 1970 to a time, at most 2^64 - 1.
+// Returns the whole milliseconds from the beginning of 1970 to `time`, or 2^64 - 1 if there are
+// more.
 fn milliseconds_of(time: SystemTime) -> u64
     ensures { result ≡ min (system_time_nanos time / 1000000) 18446744073709551615 }
 {
@@ -45,11 +46,11 @@ fn milliseconds_of(time: SystemTime) -> u64
     )
 }
 
-/// Returns the first serial of the slots of a server, by the time of its start.
+/// Returns the first serial of the slots of a server that starts at this time.
 ///
 /// The time is in milliseconds since the beginning of 1970. A later start begins at a higher serial
-/// than any that a server reached in between. This may fail if the clock was set back, or if a slot
-/// changed more than 32 times a millisecond in a run of less than a second.
+/// than any that a server reached before. This may not hold if the clock was set back. Nor may it
+/// hold if a slot changed more than 32 times a millisecond, and the server ended within a second.
 pub fn serial_of_start(milliseconds: u64) -> u64
     ensures value { result ≡ serial_of_start milliseconds }
     ensures bound { result ≤ last_serial }

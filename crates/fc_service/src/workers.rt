@@ -1,4 +1,4 @@
-//! Playing lines by workers: a worker runs a line's job before the next is read.
+//! Playing lines by workers: a line's job ends before the next line is read.
 ghost use Rattle.std.specs.Prelude.{◌≡◌, Bool, OnOk};
 ghost use Rattle.fc_cli.specs.declared.status.Status.TheVariants.{Done};
 ghost use Rattle.fc_server.specs.States.{CanBegin};
@@ -33,8 +33,9 @@ struct Player<'a, I: BufRead + Drop, W: Write> {
 impl<'a, I: BufRead + Drop, W: Write> Driver<Result<(), Stop>> for Player<'a, I, W> {
     ghost drives = { λ S calls self first last given. OnOk given (IsFedByLines calls (I.remaining self.input) first) };
 
-    // Plays all lines, and waits after each for the worker that has its job. The clause says which
-    // lines were played, and how. It doesn't say what `out` got, nor anything of an error.
+    // Plays all lines, and waits after each line for the worker that runs its job. The contract
+    // says which lines were played, and how. It doesn't say what was written to `out`, and says
+    // nothing if the result is an error.
     fn drive<N: Ingress, R: Wait>(self, rt: &R, ingress: &mut N) -> Result<(), Stop> {
         let Player {
             alloc,
@@ -53,10 +54,10 @@ impl<'a, I: BufRead + Drop, W: Write> Driver<Result<(), Stop>> for Player<'a, I,
 
 /// Plays lines on 1 to 16 workers, with the results of [`play`](crate::play::play).
 ///
-/// Each worker has its own thread. One of them runs the job of a line, and each lease of an
-/// observer. No line is read before the worker of the previous line has finished. If no thread can
-/// be created for a worker, this is written to `err`, and this thread runs the jobs. The clause is
-/// about `Done` alone, and doesn't say what was printed.
+/// Each worker has its own thread. A worker runs the job of each line and of each observer's lease.
+/// No line is read before the previous line's jobs have ended. If no thread can be created for a
+/// worker, a message is written to `err`, and the calling thread runs the jobs. The contract is
+/// only about the result `Done`, and doesn't say what was printed.
 pub fn play_by_workers<R: Threads + Wait + Sync, I: BufRead + Drop, W: Write, E: Write>(
     rt: &R,
     alloc: Global,

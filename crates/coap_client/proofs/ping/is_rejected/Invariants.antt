@@ -3,6 +3,6 @@ use Rattle.coap_client.specs.Pings.{IsNoPong}
 use Rattle.coap_client.specs.Transmissions.{MakesCalls}
 use Rattle.coap_client.proofs.ping.is_rejected.Given as goal
 
--- this number of datagrams arrived, and were skipped.
+-- exactly `received` datagrams arrived, and all of them were skipped.
 abbrev pub invariant-loop-received : goal.invariant-loop-received
 invariant-loop-received g l = MakesCalls (g.P.Peer.called l.fn.peer) (g.P.Peer.called l.peer) (ArePassedOver (IsNoPong l.id) l.received)

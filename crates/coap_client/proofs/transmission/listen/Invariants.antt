@@ -3,6 +3,6 @@ use Rattle.coap_client.specs.Listening.{ArePassedOver, IsPassedOver}
 use Rattle.coap_client.specs.Transmissions.{MakesCalls}
 use Rattle.coap_client.proofs.transmission.listen.Given as goal
 
--- this number of datagrams arrived, and were skipped.
+-- exactly `received` datagrams arrived, and all of them were skipped.
 abbrev pub invariant-loop-received : goal.invariant-loop-received
 invariant-loop-received g l = MakesCalls (g.P.Peer.called l.fn.peer) (g.P.Peer.called l.peer) (ArePassedOver (IsPassedOver (TellsSent l.request) l.awaited) l.received)

@@ -7,7 +7,7 @@ use Rattle.fc_server.proofs.FlushingSteps.{done_at_bound, done_at_end}
 use Rattle.fc_service.proofs.Flushed.{none_printed, one_printed}
 use Rattle.fc_service.proofs.lines.flush.Goals as goal
 
--- nothing is stated after an error.
+-- a statement about `Ok` holds if the result is an error.
 failed : {A E : Type 0} (r : Result A E) (P : Type 0) → IsErr r → OnOk r P
 failed (Ok x) P e = absurd (let n = e in cc)
 failed (Err x) P e = tt

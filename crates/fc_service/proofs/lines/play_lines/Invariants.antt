@@ -4,7 +4,7 @@ use Rattle.fc_service.specs.Playing.{HasPlayed}
 use Rattle.fc_workers.specs.Answers.{saturated}
 use Rattle.fc_service.proofs.lines.play_lines.Given as goal
 
--- the lines so far, which are counted.
+-- the lines read so far were played, and `number` is their number, at most 2^64 - 1.
 abbrev pub invariant-loop-text : goal.invariant-loop-text
 invariant-loop-text g l =
     (split_byte l.text-iterator ≡ 10)

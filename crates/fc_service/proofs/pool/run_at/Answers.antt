@@ -8,7 +8,7 @@ use Rattle.fc_workers.specs.OneOrder.{IsNewLog}
 use Rattle.fc_service.proofs.Seats.{all_before}
 use Rattle.fc_service.proofs.pool.run_at.Goals as goal
 
--- the handles except the last are the workers', whose shares were returned.
+-- the returned shares are those of workers at all seats except the last, which was popped.
 pub returns-clause-fed : goal.returns-clause-fed
 returns-clause-fed g c =
     let s = open_view g.B.Bench.changes g.B.Bench.ended g.B.Bench.called g.B.Bench.logged g.M.TimeSource.is_time g.M.TimeSource.is_random g.W.Wire.called in

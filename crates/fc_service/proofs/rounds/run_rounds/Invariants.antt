@@ -2,7 +2,7 @@ use Rattle.fc_service.proofs.Runs.{Runs}
 use Rattle.fc_service.specs.Rounds.{round_calls}
 use Rattle.fc_service.proofs.rounds.run_rounds.Given as goal
 
--- the rounds so far.
+-- the rounds so far received `received` datagrams, and led to these states.
 abbrev pub invariant-loop : goal.invariant-loop
 invariant-loop g l =
     (goal.iterator-loop g).can_next l.iterator' × (goal.iterator-loop g).is_finite l.iterator'

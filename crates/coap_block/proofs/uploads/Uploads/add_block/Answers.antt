@@ -4,7 +4,7 @@ use Rattle.coap_block.specs.Uploads.{is_transfer_of, others, is_full, before_of,
 use Rattle.coap_block.proofs.Rooms.{has_room}
 use Rattle.coap_block.proofs.uploads.Uploads.add_block.Goals as goal
 
--- src/uploads.rt:103:17
+-- when a block's transfer is stored, fewer than 16 other transfers are stored
 pub keep-requires-clause-few : goal.keep-requires-clause-few
 keep-requires-clause-few c =
     let held = c.expire.new.held.items in

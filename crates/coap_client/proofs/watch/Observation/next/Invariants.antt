@@ -4,7 +4,7 @@ use Rattle.coap_client.specs.Transmissions.{MakesCalls}
 use Rattle.coap_client.proofs.ObserverCalls.{HasPassed}
 use Rattle.coap_client.proofs.watch.Observation.next.Given as goal
 
--- nothing was shown so far: the datagrams that arrived were skipped.
+-- the observation is unchanged so far, since all datagrams that arrived were skipped.
 abbrev pub invariant-loop : goal.invariant-loop
 invariant-loop g l = (l.self ≡ l.fn.self)
     × MakesCalls (g.P.Peer.called l.fn.peer) (g.P.Peer.called l.peer) (HasPassed (IsPassedOverWatching g.P.Peer.is_time l.token l.fn.self) l.counter)

@@ -19,7 +19,7 @@ use Rattle.coap_dedup.proofs.exchanges.Exchanges.open.Goals as goal
 abbrev table : Limits → ℕ → ℕ → List Opened → List StoredResponse → Table
 table limits now count os kept = record { limits = limits; now = now; opened = count; held = map (as_exchange kept) os }
 
--- there is room for a new request
+-- if a request is new, fewer requests are stored than there are places
 space : (limits : Limits) (now count : ℕ) (os : List Opened) (kept : List StoredResponse) (t : Table) (to : Endpoint) (id : ℕ) → table limits now count os kept ≡ t → look_at t to id ≡ IsNew → length os < places_of limits
 space limits now count os kept t to id seen new =
     let few = has_space _ (table limits now count os kept) to.ip (ap (λ (x : Table). look_at x to id) seen ∙ new) in

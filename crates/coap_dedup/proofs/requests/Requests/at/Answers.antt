@@ -7,7 +7,7 @@ use Rattle.coap_dedup.specs.Requests.{IsOldest, by_key, has_key}
 use Rattle.coap_dedup.proofs.Index.{IsThere, at_place, index_length}
 use Rattle.coap_dedup.proofs.requests.Requests.at.Goals as goal
 
--- the request, and its place
+-- the request at an index in the order of keys, with its place in the ring
 there : (c : goal.In-Some) → IsThere c.self.inside.ring.items c.args.index c.after.result
 there c =
     let lt : c.args.index < length c.self.inside.ring.items = subst (λ (b : Buffer Opened). c.args.index < length b.items) (sym c.self.view_is) c.requires.index in
