@@ -17,3 +17,4 @@ pub mod Schedules
 pub mod Faults
 pub mod Pings
 pub mod Representations
+pub mod Completions

@@ -1,16 +1,12 @@
 -- The representation of an observed resource in a notification of several blocks: its further blocks
 -- are requested without Observe (RFC 7959, sections 2.6 and 3.4).
-use Rattle.std.specs.Prelude.{◌≡◌, ℕ, zero, suc, ◌≤◌, ◌⊎◌, max, true, false, List, [], ◌∷◌, ◌++◌, length, take, Option, Some, None, codes}
+use Rattle.std.specs.Prelude.{◌≡◌, ℕ, max, false, true, List, [], ◌∷◌, ◌++◌, Option, Some, None, codes}
 use Rattle.coap_msg.specs.Codes.{code_text}
 use Rattle.coap_msg.specs.Wire.{Message, message_bytes}
 use Rattle.coap_client.specs.declared.fetcher.FetchFault.{FetchFault}
 use Rattle.coap_client.specs.declared.fetcher.FetchFault.TheVariants as fault
 use Rattle.coap_client.specs.declared.fetcher.Step.{Step}
 use Rattle.coap_client.specs.declared.fetcher.Step.TheVariants as step
-use Rattle.coap_client.specs.declared.joining.BlockHandled.{BlockHandled}
-use Rattle.coap_client.specs.declared.joining.BlockHandled.TheVariants as handled
-use Rattle.coap_client.specs.declared.joining.Completion.{Completion}
-use Rattle.coap_client.specs.declared.joining.Completion.TheVariants as completion
 use Rattle.coap_client.specs.declared.joining.Joining.{Joining}
 use Rattle.coap_client.specs.declared.joining.Unfetched.{Unfetched}
 use Rattle.coap_client.specs.declared.joining.Unfetched.TheVariants as unfetched
@@ -21,13 +17,13 @@ use Rattle.coap_client.specs.declared.observing.NotedMessage.{NotedMessage}
 use Rattle.coap_client.specs.declared.observing.Observer.{Observer}
 use Rattle.coap_client.specs.declared.part.Part.TheVariants.{Answer}
 use Rattle.coap_client.specs.declared.watch.Observation.{Observation}
-use Rattle.coap_client.specs.Faults.{IsOfPeer, IsRejection, UnfitCame}
+use Rattle.coap_client.specs.Faults.{IsNewState, IsOfPeer, IsRejection, UnfitCame}
 use Rattle.coap_client.specs.Fetching.{State, Out, Ended, Outdated, Lost, after_reply, moved_on}
-use Rattle.coap_client.specs.Notes.{IsAwaitedBy, IsHandledFrom, IsNextNote, IsResponseWith, IsShownAs, TellsRequest}
-use Rattle.coap_client.specs.Notices.{is_first_part}
+use Rattle.coap_client.specs.Notes.{IsAwaitedBy, IsHandledFrom, IsResponseWith, IsShownAs, TellsRequest}
+use Rattle.coap_client.specs.Notices.{is_first_part, notice_after}
 use Rattle.coap_client.specs.Parts.{largest_szx}
-use Rattle.coap_client.specs.PeerCalls.{PeerCall, PeerError, Reads}
-use Rattle.coap_client.specs.Replies.{is_success, next_of_answer}
+use Rattle.coap_client.specs.PeerCalls.{PeerCall, PeerError}
+use Rattle.coap_client.specs.Replies.{next_of_answer}
 use Rattle.coap_client.specs.Requests.{IsBlock, block_request, block_token}
 use Rattle.coap_client.specs.Transmissions.{IsTransmission}
 
@@ -61,11 +57,14 @@ IsBlockFault is_error Makes o n szx id f =
 abbrev pub begun : Message → State
 begun m = moved_on (next_of_answer 0 largest_szx m) [] [] m
 
--- the state after the notification and these replies to the requests for further blocks, newest
--- first.
+-- the state after these replies to the requests for further blocks, newest first.
+abbrev pub joined_from : State → List Message → State
+joined_from state [] = state
+joined_from state (r ∷ rs) = after_reply 0 r (joined_from state rs)
+
+-- the same from the notification on.
 abbrev pub joined : Message → List Message → State
-joined m [] = begun m
-joined m (r ∷ rs) = after_reply 0 r (joined m rs)
+joined m rs = joined_from (begun m) rs
 
 -- the message is the response to the request for this block.
 pub record IsBlockReply (went came : List ℕ → Type 0) (o : Observer) (n szx id : ℕ) (r : Message) : Type 0 where
@@ -73,26 +72,6 @@ pub record IsBlockReply (went came : List ℕ → Type 0) (o : Observer) (n szx 
   pub bytes : List ℕ
   pub handled : IsHandledFrom went came bytes r
   pub own : IsResponseWith (block_token id) id r
-
--- the message is the response to the request for the block that follows.
-abbrev pub AnswersBlock : (List ℕ → Type 0) → (List ℕ → Type 0) → Observer → ℕ → State → Message → Type 0
-AnswersBlock went came o id (Out (Answer n szx) body etag) r = IsBlockReply went came o n szx id r
-AnswersBlock went came o id other r = ⊥
-
--- each message is the response to the request for the block that follows those before it.
-abbrev pub AreBlockReplies : (List ℕ → Type 0) → (List ℕ → Type 0) → Observer → Message → List Message → Type 0
-AreBlockReplies went came o m [] = Unit {0}
-AreBlockReplies went came o m (r ∷ rs) = AreBlockReplies went came o m rs × ((id : ℕ) × AnswersBlock went came o id (joined m rs) r)
-
--- such replies lead to this state.
-pub record HasBlocks (went came : List ℕ → Type 0) (o : Observer) (m : Message) (state : State) : Type 0 where
-  pub replies : List Message
-  pub are : AreBlockReplies went came o m replies
-  pub leads : joined m replies ≡ state
-
--- the body of a state whose first block is in a notification: all blocks of the state, joined.
-abbrev pub HasBody : (List ℕ → Type 0) → (List ℕ → Type 0) → Observer → Message → ℕ → List ℕ → Type 0
-HasBody went came o m code body = HasBlocks went came o m (Ended code body)
 
 -- ---- block after block
 
@@ -111,37 +90,18 @@ IsStateBy state j (step.Ended code) = state ≡ Ended code.byte j.body.items
 IsStateBy state j step.Outdated = state ≡ Outdated
 IsStateBy state j step.Malformed = state ≡ Lost
 
--- the response to the request for the next block leads from this joining to this state.
-pub record IsGrownBy (went came : List ℕ → Type 0) (o : Observer) (id : ℕ) (old : Joining) (state : State) : Type 0 where
-  pub reply : Message
-  pub is : IsBlockReply went came o old.number old.szx id reply
-  pub leads : after_reply 0 reply (state_of old) ≡ state
-
--- the result of a notification: it is to be shown, or else the watch is unchanged.
+-- the result of a notification: it is to be shown; or it isn't newer or is a duplicate, and the
+-- watch is unchanged.
 abbrev pub IsNotedAs : DatedMessage → Message → Observation → Observation → Option NotedMessage → Type 0
-IsNotedAs came m old new None = new ≡ old
+IsNotedAs came m old new None = (new ≡ old) × (notice_after old (max old.at came.time) m ≡ notice.Older)
 IsNotedAs came m old new (Some noted) = (noted.count ≡ came.count) × ((noted.time ≡ came.time) × IsShownAs noted.last old new (max old.at came.time) m)
 
--- a notification of this classification can't be shown, or memory for its mark can't be allocated.
+-- a notification of this classification can't be shown; or it is a newer state, and memory for its
+-- mark can't be allocated.
 abbrev pub IsNoteFault : NotificationClass → FetchFault → Type 0
 IsNoteFault n fault.Part = n ≡ notice.Malformed
-IsNoteFault n (fault.Memory error) = Unit {0}
+IsNoteFault n (fault.Memory error) = IsNewState n
 IsNoteFault n other = ⊥
-
--- the message that arrived while a block was requested: the block, or a notification. A
--- notification that isn't newer changes nothing.
-abbrev pub IsBlockHandled : (List ℕ → Type 0) → (List ℕ → Type 0) → (ℕ → Type 0) → Observer → ℕ → Joining → Joining → Observation → Observation → List ℕ → ℕ → BlockHandled → Type 0
-IsBlockHandled went came told o id old new before after bytes count handled.GoesOn =
-    (after ≡ before) × (IsBlock new.number new.szx × ((new ≡ old) ⊎ IsGrownBy went came o id old (state_of new)))
-IsBlockHandled went came told o id old new before after bytes count (handled.Ended code) =
-    (after ≡ before) × ((is_success code.byte ≡ true) × IsGrownBy went came o id old (Ended code.byte new.body.items))
-IsBlockHandled went came told o id old new before after bytes count (handled.Newer noted) =
-    (noted.count ≡ count) × IsNextNote went came told o.token bytes noted.time before after noted.last
-IsBlockHandled went came told o id old new before after bytes count (handled.Unfetched cause) = after ≡ before
-
--- nothing is called, or the clock is read.
-abbrev pub ReadsAtMost : List PeerCall → Type 0
-ReadsAtMost calls = (calls ≡ []) ⊎ ((time : ℕ) × (calls ≡ Reads time ∷ []))
 
 -- ---- a whole state
 
@@ -152,36 +112,6 @@ unfetched_text unfetched.Rejected = codes "a request for a further block was rej
 unfetched_text (unfetched.Refused code) = codes "a further block was refused by " ++ code_text code.byte
 unfetched_text unfetched.Changed = codes "it changed while its blocks were fetched"
 unfetched_text unfetched.Malformed = codes "a further block doesn't fit the request"
-
--- the result of the requests for the further blocks: the body; or a newer notification arrived; or
--- the blocks can't be fetched. Only a newer notification changes the watch.
-abbrev pub IsCompletion : (List ℕ → Type 0) → (List ℕ → Type 0) → (ℕ → Type 0) → Observer → Joining → Observation → Observation → List ℕ → Completion → Type 0
-IsCompletion went came told o j old new buffer (completion.Whole code body) =
-    (new ≡ old) × ((is_success code.byte ≡ true) × ((m : Message) → begun m ≡ state_of j → HasBody went came o m code.byte body.items))
-IsCompletion went came told o j old new buffer (completion.Newer noted) =
-    (noted.count ≤ length buffer) × IsNextNote went came told o.token (take noted.count buffer) noted.time old new noted.last
-IsCompletion went came told o j old new buffer (completion.Unfetched cause) = new ≡ old
-
--- a request for a block is transmitted, or sent until it is rejected, or the clock is read.
-abbrev pub IsFollowingStep : Observer → List PeerCall → Type 0
-IsFollowingStep o calls =
-    ((n szx id : ℕ) × (answer : Option (List ℕ)) × IsBlockTransmission o n szx id answer calls)
-    ⊎ (((n szx id : ℕ) × IsBlockRejection o n szx id calls) ⊎ ReadsAtMost calls)
-
-pub record IsOneMoreOf (Step Before : List PeerCall → Type 0) (calls : List PeerCall) : Type 0 where
-  pub older : List PeerCall
-  pub before : Before older
-  pub newer : List PeerCall
-  pub step : Step newer
-  pub is : calls ≡ newer ++ older
-
-abbrev pub AreFollowingSteps : Observer → ℕ → List PeerCall → Type 0
-AreFollowingSteps o zero calls = calls ≡ []
-AreFollowingSteps o (suc n) calls = IsOneMoreOf (IsFollowingStep o) (AreFollowingSteps o n) calls
-
--- the further blocks are requested, one after the other.
-abbrev pub IsFollowing : Observer → List PeerCall → Type 0
-IsFollowing o calls = (n : ℕ) × AreFollowingSteps o n calls
 
 -- the errors: an error of the peer, a failed allocation of memory, or a notification that can't be
 -- shown.

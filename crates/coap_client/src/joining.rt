@@ -1,10 +1,13 @@
 //! The joining of a state's blocks: the state's notification has the first block.
 //!
 //! See RFC 7959, section 2.6. `fcreq observe` calls it for each state of several blocks.
-ghost use Rattle.std.specs.Prelude.{◌≡◌, ◌≤◌, IfErr, IfOk, OnOk, length, max, take};
-ghost use Rattle.coap_client.specs.Notices.{notice_after};
+ghost use Rattle.std.specs.Prelude.{◌≡◌, ◌≤◌, IfErr, IfOk, OnErr, OnOk, length, max, take, true};
+ghost use Rattle.coap_client.specs.Completions.{IsBlockHandled, IsCompletion, block_id};
+ghost use Rattle.coap_client.specs.Notices.{is_first_part, notice_after};
 ghost use Rattle.coap_client.specs.Fetching.{after_reply, going_on};
-ghost use Rattle.coap_client.specs.Representations.{IsBegun, IsBlockAnswer, IsBlockHandled, IsCompletion, IsFollowing, IsFollowingFault, IsNoteFault, IsNotedAs, IsStateBy, ReadsAtMost, state_of};
+ghost use Rattle.coap_client.specs.Parts.{largest_szx};
+ghost use Rattle.coap_client.specs.Replies.{next_of_answer};
+ghost use Rattle.coap_client.specs.Representations.{IsBegun, IsBlockAnswer, IsFollowingFault, IsNoteFault, IsNotedAs, IsStateBy, state_of};
 ghost use Rattle.coap_client.specs.Requests.{IsBlock, IsFurther};
 ghost use Rattle.coap_client.specs.Transmissions.{MakesCalls};
 
@@ -101,9 +104,10 @@ impl Joining {
     /// Returns `None` if `message` isn't the first of several blocks.
     ///
     /// # Errors
-    /// Returns `AllocError` if memory can't be allocated for the block.
+    /// Returns `AllocError` if memory can't be allocated for the first of several blocks.
     pub fn begin(alloc: Global, message: &Message<'_>) -> Result<Option<Joining>, AllocError>
-        ensures { IfOk result (IsBegun message.now) }
+        ensures begun { IfOk result (IsBegun message.now) }
+        ensures refused { OnErr result (is_first_part (next_of_answer 0 largest_szx message.now) ≡ true) }
     {
         let Next::Ask(part) = next_of_answer(0, LARGEST_SZX, message) else {
             return Ok(None);
@@ -171,10 +175,12 @@ impl Joining {
 impl Observation {
     /// Requests the further blocks of a state, one after the other, and joins them.
     ///
-    /// The message IDs count up from `ids`, which is the next message ID afterwards; no clause says
-    /// so. Confirmable notifications that arrive meanwhile are acknowledged. A notification that is
-    /// to be shown ends the joining, and is at the start of `buffer`. It is recorded as shown if it
-    /// is a state.
+    /// Each block follows the response with the block before it. The message IDs count up from
+    /// `ids`, which is the next message ID afterwards; those of the registration and of the
+    /// deregistration are skipped. Confirmable notifications that arrive meanwhile are
+    /// acknowledged. A notification that is to be shown ends the joining, and is at the start of
+    /// `buffer`. It is recorded as shown if it is a state. After a notification that isn't newer,
+    /// the same block is requested again.
     ///
     /// # Errors
     /// Returns an error if a notification can't be shown, or if sending, receiving or allocating
@@ -189,13 +195,13 @@ impl Observation {
         buffer: &mut Buffer,
     ) -> Result<Completion, FetchFault>
         requires { IsBlock joining.number joining.szx }
-        ensures completed { IfOk result (IsCompletion P.went P.came P.is_time observer.now joining self.old self.new buffer.new) }
-        ensures called { OnOk result (MakesCalls (P.called peer.old) (P.called peer.new) (IsFollowing observer.now)) }
+        ensures completed { IfOk result (IsCompletion P.went P.came P.is_time (MakesCalls (P.called peer.old) (P.called peer.new)) observer.now
+            ids.old ids.new (state_of joining) self.old self.new buffer.new) }
         ensures fault { IfErr result (IsFollowingFault P.came P.is_error observer.now.token) }
     {
         let mut joining = joining;
         for requested in 0..REQUESTS {
-            let id = *ids;
+            let id = block_id(observer, *ids);
             *ids = id.wrapping_add(1);
             let (number, szx) = (joining.number, joining.szx);
             let count = match observer.ask_block(alloc, peer, number, szx, id, buffer) {
@@ -232,9 +238,8 @@ impl Observation {
         requires block { IsBlock joining.old.number joining.old.szx }
         requires long { count ≤ length buffer.now }
         requires arrived { IsBlockAnswer P.went P.came observer.now joining.old.number joining.old.szx id (take count buffer.now) }
-        ensures handled { IfOk result (IsBlockHandled P.went P.came P.is_time observer.now id joining.old joining.new self.old self.new
-            (take count buffer.now) count) }
-        ensures called { OnOk result (MakesCalls (P.called peer.old) (P.called peer.new) ReadsAtMost) }
+        ensures handled { IfOk result (IsBlockHandled P.went P.came P.is_time (MakesCalls (P.called peer.old) (P.called peer.new)) observer.now id
+            joining.old joining.new self.old self.new (take count buffer.now) count) }
         ensures fault { IfErr result (IsFollowingFault P.came P.is_error observer.now.token) }
     {
         let Ok(message) = read(&buffer[..count]) else {
@@ -287,5 +292,17 @@ impl Observation {
             NotificationClass::Malformed => Err(FetchFault::Part),
             NotificationClass::Older => Ok(None),
         }
+    }
+}
+
+// Returns the message ID of a request for a further block, if `next` is the next one. Skips the
+// IDs of the registration and of the deregistration.
+fn block_id(observer: &Observer<'_>, next: u16) -> u16
+    ensures { result ≡ block_id observer.now next }
+{
+    if next == observer.id || next == observer.id.wrapping_add(1) {
+        observer.id.wrapping_add(2)
+    } else {
+        next
     }
 }

@@ -23,10 +23,13 @@ ghost use Rattle.coap_client.specs.Notes.{TellsObserver};
 ghost use Rattle.coap_client.specs.Schedules.{AwaitsResponse, BeginsSchedule, EndsByReset, full_schedule, schedule, seconds_in};
 ghost use Rattle.coap_client.specs.ObserverCalls.{IsDeregistration, IsPassedOverLeaving, IsRegistration};
 ghost use Rattle.coap_client.specs.Transmissions.{AreInVain, IsLastSending, IsTransmission};
-ghost use Rattle.coap_client.specs.Fetching.{Ended, Out, after_reply, state_after};
+ghost use Rattle.coap_client.specs.Completions.{BlockOutcome, IsUnfetchedBy, IsStateEnd, OlderNotification, Response, Superseded, block_id, following_id, state_from};
+ghost use Rattle.coap_client.specs.Fetching.{Ended, Out, Outdated, after_reply, state_after};
+ghost use Rattle.coap_client.specs.Fetching as fetching;
 ghost use Rattle.coap_client.specs.Joined.{IsOneAnswer, SaysTaken};
-ghost use Rattle.coap_client.specs.Replies.{first_or_none, is_success, is_understood, next_of_answer};
-ghost use Rattle.coap_client.specs.Representations.{joined, unfetched_text};
+ghost use Rattle.coap_client.specs.Replies.{etag_of, first_or_none, is_success, is_understood, next_of_answer};
+ghost use Rattle.coap_client.specs.Representations.{begun, joined, unfetched_text};
+ghost use Rattle.coap_client.specs.declared.joining.Unfetched.{Unfetched};
 ghost use Rattle.coap_client.specs.declared.joining.Unfetched.TheVariants as unfetched;
 ghost use Rattle.coap_msg.specs.declared.code.Code.{Code};
 ghost use Rattle.coap_client.specs.Requests.{block_request};
@@ -78,6 +81,51 @@ pub fn further_blocks_are_requested_without_observe()
     ensures options { (e : ClientRequest) (id : ℕ) → slices_in e.target.path.segments.items ≡ codes "r" ∷ [] → slices_in e.target.query.items ≡ []
         → (block_request e 1 6 id).options ≡ (11, codes "r") ∷ (23, 22 ∷ []) ∷ [] }
     ensures token { (e : ClientRequest) (n szx : ℕ) → (block_request e n szx 258).token ≡ 1 ∷ 2 ∷ [] }
+{}
+
+/// A further block is requested after a response with the block before it.
+///
+/// A notification with block 0 of 1,024 bytes, after which more follow (Block2 is 14), is followed
+/// by a request for block 1, of that size. A success with block 1 (30), of the same ETag, is
+/// followed by a request for block 2. Without more (22) it ends the state. After a notification that
+/// isn't newer, the request is for the same block (RFC 7959, sections 2.2 and 2.4).
+pub fn each_further_block_follows_the_one_before()
+    ensures first { (m : Message) → length m.payload ≡ 1024 → first_or_none (values_in 23 m.options) ≡ Some (14 ∷ [])
+        → begun m ≡ Out (Answer 1 6) m.payload (etag_of m) }
+    ensures next { (r : Message) (body etag : List ℕ) → is_understood r ≡ true → r.code ≡ 69 → length r.payload ≡ 1024 → etag_of r ≡ etag
+        → first_or_none (values_in 23 r.options) ≡ Some (30 ∷ []) → state_from (Out (Answer 1 6) body etag) (Response r ∷ []) ≡ Out (Answer 2 6) (body ++ r.payload) (etag_of r) }
+    ensures last { (r : Message) (body etag : List ℕ) → is_understood r ≡ true → r.code ≡ 69 → length r.payload ≡ 1024 → etag_of r ≡ etag
+        → first_or_none (values_in 23 r.options) ≡ Some (22 ∷ []) → state_from (Out (Answer 1 6) body etag) (Response r ∷ []) ≡ Ended 69 (body ++ r.payload) }
+    ensures again { (state : fetching.State) (m : Message) (time : ℕ) (outcomes : List BlockOutcome)
+        → state_from state (OlderNotification m time ∷ outcomes) ≡ state_from state outcomes }
+{}
+
+/// The message IDs of the registration and deregistration are skipped.
+///
+/// No request for a further block has one of them (RFC 7252, section 4.4). If the registration has
+/// 7, the deregistration has 8, and the request after that with 6 has 9. If the registration has
+/// 65,535, the deregistration has 0, and the request after that with 65,534 has 1.
+pub fn further_blocks_have_ids_of_their_own()
+    ensures own { (o : Observer) (next : ℕ) → (block_id o next ≡ o.id → ⊥) × (block_id o next ≡ leaving_id o → ⊥) }
+    ensures up { (o : Observer) (x y : BlockOutcome) → o.id ≡ 7
+        → (following_id o 5 [] ≡ 5) × ((following_id o 5 (x ∷ []) ≡ 6) × (following_id o 5 (y ∷ x ∷ []) ≡ 9)) }
+    ensures around { (o : Observer) (x : BlockOutcome) → o.id ≡ 65535 → (following_id o 65534 [] ≡ 65534) × (following_id o 65534 (x ∷ []) ≡ 1) }
+{}
+
+/// The end of a state of several blocks follows from its last message.
+///
+/// A newer notification supersedes only a state that isn't whole. After fewer than 4,194,304
+/// requests, an error 4.04 is the reason why the state can't be fetched, and so is a block of
+/// another version. A state whose last response is 2.05 has no such reason. While a request is
+/// outstanding, the reason is that it has no response or is rejected.
+pub fn states_end_by_their_last_message()
+    ensures superseded { (code count time : ℕ) (body bytes : List ℕ) → IsStateEnd (Ended code body) count (Superseded bytes time) → ⊥ }
+    ensures refused { (count : ℕ) (body : List ℕ) (cause : Unfetched) → count < 4194304 → IsUnfetchedBy (Ended 132 body) count cause
+        → unfetched_text cause ≡ codes "a further block was refused by 4.04" }
+    ensures changed { (count : ℕ) (cause : Unfetched) → count < 4194304 → IsUnfetchedBy Outdated count cause → cause ≡ unfetched.Changed }
+    ensures whole { (count : ℕ) (body : List ℕ) (cause : Unfetched) → count < 4194304 → IsUnfetchedBy (Ended 69 body) count cause → ⊥ }
+    ensures outstanding { (n szx count : ℕ) (body etag : List ℕ) (cause : Unfetched) → count < 4194304 → IsUnfetchedBy (Out (Answer n szx) body etag) count cause
+        → (cause ≡ unfetched.Silence) ⊎ (cause ≡ unfetched.Rejected) }
 {}
 
 /// After the greatest sequence number, 0 is newer.

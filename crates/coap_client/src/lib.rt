@@ -55,9 +55,15 @@
 //! - The body consists of the payloads of the notification and of the responses to these requests,
 //!   joined. All have one ETag, or none, each begins at the end of those before it, and none
 //!   follows the last (RFC 7959, sections 2.4 and 2.6).
-//! - A notification that ends the joining is a newer state, which is recorded as shown, or the last
-//!   response. No clause says that each newer state ends it, nor which message IDs are used.
-//! - The reason why a state's blocks can't be fetched has an exact text.
+//! - The first request is for block 1, and each response with a block that is followed by others
+//!   leads to the request for the next one. After a notification that isn't newer, or is a
+//!   duplicate, the same block is requested again. No other notification lets the requests go on.
+//! - Message IDs count up from a given one, modulo 65,536. Those of the registration and of the
+//!   deregistration are skipped.
+//! - The joining ends in exactly one way. All blocks arrived; or a newer state, which is recorded
+//!   as shown, or the last response arrived before; or the blocks can't be fetched. The reason for
+//!   that is the one that the last response or its absence gives, and has an exact text. If there
+//!   was an error, no clause says which calls were made before it.
 //!
 //! *A fetch that fails, in terms of its calls:*
 //!

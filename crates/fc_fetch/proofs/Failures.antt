@@ -1,11 +1,12 @@
 -- Failures of an observer.
-use Rattle.std.proofs.Common.{◌≡◌, ◌⊎◌, ◌+◌, ◌++◌, ℕ, Bool, false, true, List, [], Option, Some, None, Result, Ok, Err, IfErr, OnErr, OnOk, is_some, inl, inr, refl, ap, sym, subst, ◌∙◌, append_assoc, if◌then◌else◌}
+use Rattle.std.proofs.Common.{◌≡◌, ◌⊎◌, ◌++◌, ℕ, Bool, false, true, List, ◌∷◌, Option, Some, None, Result, Ok, Err, IfErr, OnErr, OnOk, is_some, inl, inr, refl, ap, sym, subst, ◌∙◌, append_assoc, if◌then◌else◌}
 use Rattle.coap_client.specs.Faults.{EndsOnNotification, IsLeavingFault, IsNewState, IsNotificationFault, IsOfPeer, IsRegistrationFault, UnfitCame, deregistration_of}
 use Rattle.coap_client.specs.ObserverCalls.{IsDatedRegistration, IsDeregistration}
-use Rattle.coap_client.specs.Notes.{IsRegistered, IsResponseWith, IsWatching, Note}
+use Rattle.coap_client.specs.Notes.{IsRegistered, IsResponseWith, IsWatching}
 use Rattle.coap_client.specs.Notices.{by_sequence, by_success, can_be_shown, is_unobserved, notice_of, sequence_of}
 use Rattle.coap_client.specs.Replies.{is_success}
 use Rattle.coap_client.specs.PeerCalls.{PeerCall, PeerError}
+use Rattle.coap_client.specs.Completions.{Superseded}
 use Rattle.coap_client.specs.Representations.{IsFollowingFault}
 use Rattle.coap_client.specs.Transmissions.{AreBehind, MakesCalls}
 use Rattle.coap_client.specs.declared.fetcher.FetchFault.{FetchFault}
@@ -23,9 +24,10 @@ use Rattle.fc_fetch.specs.declared.observer.NotesError.{NotesError}
 use Rattle.fc_fetch.specs.declared.observer.NotesError.TheVariants as notes_error
 use Rattle.fc_fetch.specs.declared.observer.ObservationEnd.{ObservationEnd}
 use Rattle.fc_fetch.specs.declared.printer.Shown.{Shown}
-use Rattle.fc_fetch.specs.Observing.{AreTurns, AwaitsNote, AwaitsUntil, IsAwaitFault, IsFirstFault, IsJoining, IsLaterFault, IsLeftInVain, IsNotesFault, IsObservedSoFar, IsReady, IsRenderFault, IsState, IsStoppedByFirst, IsStoppedWaiting, IsTimedObservation, LeavesAtFault, may_notify, unfit_error}
-use Rattle.fc_fetch.specs.Rendering.{Written, notes_of}
-use Rattle.fc_fetch.proofs.Timing.{HasAwaited, HasObserved, HasTurned, awaiting_turn, observed_so_far, observed_until, turned, turned_line, turns_joining}
+use Rattle.fc_fetch.specs.Observing.{AwaitsNote, AwaitsUntil, EndsStateBy, IsAwaitFault, IsBeforeNext, IsFirstFault, IsLaterFault, IsLeftInVain, IsMissingState, IsNoMemory, IsNotesFault, IsObservedSoFar, IsPending, IsRenderFault, IsState, IsStoppedByFirst, IsStoppedWaiting, IsStoppedWriting, IsTimedObservation, IsUnwritten, LeavesAtFault, ObservesNotes, may_notify, unfit_error}
+use Rattle.fc_fetch.specs.Rendering.{AreRendered, RenderedNote, Rendering, Whole, Written, has_further, has_line, notes_of}
+use Rattle.fc_fetch.proofs.Lines.{is_rendering, last_is_whole, last_pending, lined_unsuperseded, missing_unsuperseded, state_of_pending}
+use Rattle.fc_fetch.proofs.Timing.{HasAwaited, HasBegun, HasCounted, line_unwritten, notes_awaiting, observed_so_far, observed_until, uncounted, whole_observed}
 
 -- the registration failed
 pub unanswered : (came : List ℕ → Type 0) (is_error : PeerError → Type 0) (Makes : (List PeerCall → Type 0) → Type 0) (o : Observer) (f : FetchFault) → IsRegistrationFault is_error Makes o f
@@ -51,7 +53,7 @@ undated came is_error Makes o (fault.Memory error) h = absurd h
 
 -- or a wait can't begin
 pub unbegun : {S : Type 0} (went came : List ℕ → Type 0) (told : ℕ → Type 0) (is_error : PeerError → Type 0) (called : S → List PeerCall → Type 0) (before after : S) (o : Observer)
-    (SoFar : List PeerCall → Type 0) (f : FetchFault) → IsOfPeer is_error ⊥ f → IsLaterFault went came told is_error called before after o SoFar (notes_error.Fault f)
+    (SoFar : List RenderedNote → List PeerCall → Type 0) (f : FetchFault) → IsOfPeer is_error ⊥ f → IsLaterFault went came told is_error called before after o SoFar (notes_error.Fault f)
 unbegun went came told is_error called before after o SoFar fault.Silence h = absurd h
 unbegun went came told is_error called before after o SoFar fault.Rejected h = absurd h
 unbegun went came told is_error called before after o SoFar fault.Malformed h = absurd h
@@ -100,98 +102,181 @@ no_note came told is_error before between after o ends n w (fault.Socket error) 
 no_note came told is_error before between after o ends n w (fault.Memory error) one h = until told o.token ends n w IsNewState before between after one h
 
 -- it fails while the next note is awaited
-until_turn : (told : ℕ → Type 0) (o : Observer) (seconds : Option ℕ) (start n : ℕ) (ends : Bool) (w : Observation) (P : NotificationClass → Type 0) (before between after : Calls) → ends ≡ is_some seconds
-    → MakesCalls before between (HasTurned o seconds start n) → MakesCalls between after (AwaitsUntil told o.token ends w P)
-    → MakesCalls before after (AreBehind (AreTurns o seconds start) (EndsOnNotification told o.token w P))
-until_turn told o seconds start n ends w P before between after is one other =
-    does_both before between after (HasTurned o seconds start n) (AwaitsUntil told o.token ends w P) (AreBehind (AreTurns o seconds start) (EndsOnNotification told o.token w P)) one other
-    (λ older newer a b. record {
-      older = b.older ++ older;
-      first = awaiting_turn o seconds start n ends older b.older is a b.first;
-      newer = b.newer;
-      then = b.then;
-      is = ap (λ (x : List PeerCall). x ++ older) b.is ∙ append_assoc b.newer b.older older;
-    })
+module _ (went came : List ℕ → Type 0) (told : ℕ → Type 0) (is_error : PeerError → Type 0) (before between after : Calls) (o : Observer) (seconds : Option ℕ) (start n : ℕ) (ends : Bool)
+    (w : Observation) (r : RenderedNote) (rs : List RenderedNote) where
+  until_notes : (P : NotificationClass → Type 0) → ends ≡ is_some seconds → MakesCalls before between (HasCounted o seconds start n (r ∷ rs))
+      → MakesCalls between after (AwaitsUntil told o.token ends w P) → MakesCalls before after (AreBehind (ObservesNotes o seconds start (r ∷ rs)) (EndsOnNotification told o.token w P))
+  until_notes P is one other =
+      does_both before between after (HasCounted o seconds start n (r ∷ rs)) (AwaitsUntil told o.token ends w P)
+      (AreBehind (ObservesNotes o seconds start (r ∷ rs)) (EndsOnNotification told o.token w P)) one other
+      (λ older newer a b. record {
+        older = b.older ++ older;
+        first = notes_awaiting o seconds start n ends false r rs b.older older is a b.first;
+        newer = b.newer;
+        then = b.then;
+        is = ap (λ (x : List PeerCall). x ++ older) b.is ∙ append_assoc b.newer b.older older;
+      })
 
-pub stopped_waiting : (went came : List ℕ → Type 0) (told : ℕ → Type 0) (is_error : PeerError → Type 0) (before between after : Calls) (o : Observer) (latest : Note) (older : List Note)
-    (seconds : Option ℕ) (start n : ℕ) (ends : Bool) (w : Observation) (f : FetchFault) → ends ≡ is_some seconds → IsWatching went came told o.token o.id latest older w
-    → MakesCalls before between (HasTurned o seconds start n) → IsAwaitFault came told is_error (MakesCalls between after) o ends w f
-    → IsStoppedWaiting went came told is_error (MakesCalls before after) o (AreTurns o seconds start) f
-stopped_waiting went came told is_error before between after o latest older seconds start n ends w fault.Silence is s one h = h
-stopped_waiting went came told is_error before between after o latest older seconds start n ends w fault.Rejected is s one h = h
-stopped_waiting went came told is_error before between after o latest older seconds start n ends w fault.Malformed is s one h = h
-stopped_waiting went came told is_error before between after o latest older seconds start n ends w fault.Changed is s one h = h
-stopped_waiting went came told is_error before between after o latest older seconds start n ends w fault.Part is s one h =
-    (h.0, record { latest = latest; older = older; w = w; watching = s; called = until_turn told o seconds start n ends w (λ x. x ≡ notice.Malformed) before between after is one h.1 })
-stopped_waiting went came told is_error before between after o latest older seconds start n ends w (fault.Socket error) is s one h = h
-stopped_waiting went came told is_error before between after o latest older seconds start n ends w (fault.Memory error) is s one h =
-    record { latest = latest; older = older; w = w; watching = s; called = until_turn told o seconds start n ends w IsNewState before between after is one h }
+  pub stopped_waiting : (f : FetchFault) → ends ≡ is_some seconds → AreRendered went came told o (r ∷ rs) → IsWatching went came told o.token o.id r.note (notes_of rs) w
+      → MakesCalls before between (HasCounted o seconds start n (r ∷ rs)) → IsAwaitFault came told is_error (MakesCalls between after) o ends w f
+      → IsStoppedWaiting went came told is_error (MakesCalls before after) o (ObservesNotes o seconds start) f
+  stopped_waiting fault.Silence is are s one h = h
+  stopped_waiting fault.Rejected is are s one h = h
+  stopped_waiting fault.Malformed is are s one h = h
+  stopped_waiting fault.Changed is are s one h = h
+  stopped_waiting fault.Part is are s one h =
+      (h.0, record { latest = r; older = rs; rendered = are; w = w; watching = s; called = until_notes (λ x. x ≡ notice.Malformed) is one h.1 })
+  stopped_waiting (fault.Socket error) is are s one h = h
+  stopped_waiting (fault.Memory error) is are s one h = record { latest = r; older = rs; rendered = are; w = w; watching = s; called = until_notes IsNewState is one h }
 
 -- a wait that hasn't begun doesn't fail
 pub no_wait_fails : (went came : List ℕ → Type 0) (told : ℕ → Type 0) (is_error : PeerError → Type 0) (before between after : Calls) (o : Observer) (shown : Shown) (first now : Written) (lines : ℕ)
     (buffer : List ℕ) (next : Option NotedMessage) (seconds : Option ℕ) (start n : ℕ) (ends : Bool) (w : Observation) (f : FetchFault) → ends ≡ is_some seconds
-    → IsReady went came told o shown first now lines w buffer next → MakesCalls before between (HasTurned o seconds start n)
-    → IsAwaitFault came told is_error (MakesCalls between after) o ends w f → next ≡ None → IsStoppedWaiting went came told is_error (MakesCalls before after) o (AreTurns o seconds start) f
-no_wait_fails went came told is_error before between after o shown first now lines buffer None seconds start n ends w f is s one h none =
-    stopped_waiting went came told is_error before between after o s.latest.note (notes_of s.older) seconds start n ends w f is s.watching one h
-no_wait_fails went came told is_error before between after o shown first now lines buffer (Some noted) seconds start n ends w f is s one h none = absurd (cc none)
+    → IsBeforeNext went came told (λ rs. MakesCalls before between (HasCounted o seconds start n rs)) o shown first now lines w buffer next
+    → IsAwaitFault came told is_error (MakesCalls between after) o ends w f → next ≡ None → IsStoppedWaiting went came told is_error (MakesCalls before after) o (ObservesNotes o seconds start) f
+no_wait_fails went came told is_error before between after o shown first now lines buffer None seconds start n ends w f is b h none =
+    stopped_waiting went came told is_error before between after o seconds start n ends w b.0.latest b.0.older f is b.0.so_far.rendered b.0.watching b.0.called h
+no_wait_fails went came told is_error before between after o shown first now lines buffer (Some noted) seconds start n ends w f is b h none = absurd (cc none)
+
+-- its line can't be written
+unwritten : (went came : List ℕ → Type 0) (told : ℕ → Type 0) (before between after : Calls) (o : Observer) (shown : Shown) (first now : Written) (lines : ℕ) (buffer : List ℕ) (noted : NotedMessage)
+    (seconds : Option ℕ) (start n : ℕ) (w : Observation) (P : Rendering → Type 0) → noted.last ≡ false
+    → (p : IsPending went came told (λ rs. MakesCalls before between (HasCounted o seconds start n rs)) o shown first now lines w buffer noted)
+    → ((r : Rendering) (bytes : List ℕ) (time : ℕ) → P r → EndsStateBy (Superseded bytes time) r → ⊥) → IsUnwritten went came told (MakesCalls between after) o seconds start p.note.message w P
+    → IsStoppedWriting went came told (MakesCalls before after) o (ObservesNotes o seconds start) P
+unwritten went came told before between after o shown first now lines buffer noted seconds start n w P state p other h =
+    let watching = state_of_pending went came told o p.note (notes_of p.older) w noted.last state p.pending in
+    let latest : RenderedNote = record { note = p.note; rendering = h.rendering } in
+    record {
+      latest = latest;
+      older = p.older;
+      are = p.are;
+      rendered = (
+        p.so_far.rendered,
+        (
+          is_rendering went came told o shown first (λ rs. Unit {0}) (λ rs. Unit {0}) lines p.note (notes_of p.older) w h.rendering watching h.is
+              (λ bytes time ends. absurd (other h.rendering bytes time h.line ends)),
+          p.succeeds,
+        ),
+      );
+      line = h.line;
+      called = line_unwritten o seconds start before n latest p.older between after p.called h.called;
+    }
+
+-- the last note can't be printed
+pub unprinted_last : (went came : List ℕ → Type 0) (told : ℕ → Type 0) (before after : Calls) (o : Observer) (shown : Shown) (first now : Written) (lines : ℕ) (buffer : List ℕ) (noted : NotedMessage)
+    (seconds : Option ℕ) (start n : ℕ) (w : Observation) → noted.last ≡ true
+    → IsPending went came told (λ rs. MakesCalls before after (HasCounted o seconds start n rs)) o shown first now lines w buffer noted
+    → IsStoppedWriting went came told (MakesCalls before after) o (ObservesNotes o seconds start) (λ r. has_line r ≡ true)
+unprinted_last went came told before after o shown first now lines buffer noted seconds start n w last p = record {
+  latest = record { note = p.note; rendering = Whole };
+  older = p.older;
+  are = p.are;
+  rendered = (p.so_far.rendered, (last_is_whole p.note.message (last_pending went came told o p.note (notes_of p.older) w noted.last last p.pending), p.succeeds));
+  line = refl;
+  called = whole_observed o seconds start before n p.note p.older after p.called;
+}
 
 -- the rendering of a note fails
 pub unrendered : {S : Type 0} (went came : List ℕ → Type 0) (told : ℕ → Type 0) (is_error : PeerError → Type 0) (called : S → List PeerCall → Type 0) (before between after : S) (o : Observer)
-    (note : Note) (older : List Note) (w : Observation) (seconds : Option ℕ) (start n : ℕ) (e : NotesError) → IsWatching went came told o.token o.id note older w
-    → MakesCalls (called before) (called between) (HasTurned o seconds start n) → IsRenderFault came is_error (MakesCalls (called between) (called after)) o seconds start note.message e
-    → IsLaterFault went came told is_error called before after o (AreTurns o seconds start) e
-unrendered went came told is_error called before between after o note older w seconds start n (notes_error.Fault f) watching one h = inr (record {
+    (shown : Shown) (first now : Written) (lines : ℕ) (buffer : List ℕ) (noted : NotedMessage) (seconds : Option ℕ) (start n : ℕ) (w : Observation) (e : NotesError) → noted.last ≡ false
+    → (p : IsPending went came told (λ rs. MakesCalls (called before) (called between) (HasCounted o seconds start n rs)) o shown first now lines w buffer noted)
+    → IsRenderFault went came told is_error (MakesCalls (called between) (called after)) o seconds start p.note.message w e
+    → IsLaterFault went came told is_error called before after o (ObservesNotes o seconds start) e
+unrendered went came told is_error called before between after o shown first now lines buffer noted seconds start n w (notes_error.Fault f) state p h = inr (record {
   at = between;
-  latest = note;
-  older = older;
+  latest = p.note;
+  older = p.older;
+  rendered = p.so_far.rendered;
   w = w;
-  watching = watching;
+  watching = state_of_pending went came told o p.note (notes_of p.older) w noted.last state p.pending;
   further = h.0;
-  called_is = turned o seconds start n (called before) (called between) one;
+  called_is = uncounted o seconds start (called before) n p.older (called between) p.called;
   fails = h.1;
 })
-unrendered went came told is_error called before between after o note older w seconds start n notes_error.Unobserved watching one h = h
-unrendered went came told is_error called before between after o note older w seconds start n (notes_error.Print error) watching one h =
-    turned_line o seconds start n (called before) (called between) (called after) one h
-unrendered went came told is_error called before between after o note older w seconds start n (notes_error.Report error) watching one h =
-    turned o seconds start (n + 1) (called before) (called after) (turns_joining o seconds start n (called before) (called between) (called after) one h)
-unrendered went came told is_error called before between after o note older w seconds start n (notes_error.Memory error) watching one h =
-    turned_line o seconds start n (called before) (called between) (called after) one (does_of (called between) (called after) (λ calls. calls ≡ []) (λ calls. (calls ≡ []) ⊎ IsJoining o seconds start calls) h (λ calls none. inl none))
+unrendered went came told is_error called before between after o shown first now lines buffer noted seconds start n w notes_error.Unobserved state p h = h
+unrendered went came told is_error called before between after o shown first now lines buffer noted seconds start n w (notes_error.Print error) state p h =
+    unwritten went came told (called before) (called between) (called after) o shown first now lines buffer noted seconds start n w (λ r. has_line r ≡ true) state p
+    (λ r bytes time line ends. lined_unsuperseded r bytes time line ends) h
+unrendered went came told is_error called before between after o shown first now lines buffer noted seconds start n w (notes_error.Report error) state p h =
+    unwritten went came told (called before) (called between) (called after) o shown first now lines buffer noted seconds start n w IsMissingState state p
+    (λ r bytes time line ends. missing_unsuperseded r bytes time line ends) h
+unrendered went came told is_error called before between after o shown first now lines buffer noted seconds start n w (notes_error.Memory error) state p h = h
+
+-- memory for the first block can't be allocated
+pub unjoined : (went came : List ℕ → Type 0) (told : ℕ → Type 0) (is_error : PeerError → Type 0) (Makes : (List PeerCall → Type 0) → Type 0) (o : Observer) (seconds : Option ℕ) (start : ℕ)
+    (m : Message) (w : Observation) (f : FetchFault) → has_further m ≡ true → IsNoMemory f → IsRenderFault went came told is_error Makes o seconds start m w (notes_error.Fault f)
+unjoined went came told is_error Makes o seconds start m w fault.Silence further h = absurd h
+unjoined went came told is_error Makes o seconds start m w fault.Rejected further h = absurd h
+unjoined went came told is_error Makes o seconds start m w fault.Malformed further h = absurd h
+unjoined went came told is_error Makes o seconds start m w fault.Changed further h = absurd h
+unjoined went came told is_error Makes o seconds start m w fault.Part further h = absurd h
+unjoined went came told is_error Makes o seconds start m w (fault.Socket error) further h = absurd h
+unjoined went came told is_error Makes o seconds start m w (fault.Memory error) further h = (further, tt)
 
 -- the same since the registration
 stopped_since : (went came : List ℕ → Type 0) (told : ℕ → Type 0) (is_error : PeerError → Type 0) (before between after : Calls) (o : Observer) (seconds : Option ℕ) (start : ℕ) (f : FetchFault)
-    → MakesCalls before between (HasObserved o seconds start) → IsStoppedWaiting went came told is_error (MakesCalls between after) o (AreTurns o seconds start) f
+    → MakesCalls before between (HasBegun o seconds start) → IsStoppedWaiting went came told is_error (MakesCalls between after) o (ObservesNotes o seconds start) f
     → IsStoppedWaiting went came told is_error (MakesCalls before after) o (IsObservedSoFar o seconds) f
 stopped_since went came told is_error before between after o seconds start fault.Silence one h = h
 stopped_since went came told is_error before between after o seconds start fault.Rejected one h = h
 stopped_since went came told is_error before between after o seconds start fault.Malformed one h = h
 stopped_since went came told is_error before between after o seconds start fault.Changed one h = h
-stopped_since went came told is_error before between after o seconds start fault.Part one h =
-    (h.0, record { latest = h.1.latest; older = h.1.older; w = h.1.w; watching = h.1.watching; called = observed_until told o seconds start h.1.w (λ x. x ≡ notice.Malformed) before between after one h.1.called })
+stopped_since went came told is_error before between after o seconds start fault.Part one h = (
+  h.0,
+  record {
+    latest = h.1.latest;
+    older = h.1.older;
+    rendered = h.1.rendered;
+    w = h.1.w;
+    watching = h.1.watching;
+    called = observed_until told o seconds start (h.1.latest ∷ h.1.older) h.1.w (λ x. x ≡ notice.Malformed) before between after one h.1.called;
+  },
+)
 stopped_since went came told is_error before between after o seconds start (fault.Socket error) one h = h
-stopped_since went came told is_error before between after o seconds start (fault.Memory error) one h =
-    record { latest = h.latest; older = h.older; w = h.w; watching = h.watching; called = observed_until told o seconds start h.w IsNewState before between after one h.called }
+stopped_since went came told is_error before between after o seconds start (fault.Memory error) one h = record {
+  latest = h.latest;
+  older = h.older;
+  rendered = h.rendered;
+  w = h.w;
+  watching = h.watching;
+  called = observed_until told o seconds start (h.latest ∷ h.older) h.w IsNewState before between after one h.called;
+}
+
+unwritten_since : (went came : List ℕ → Type 0) (told : ℕ → Type 0) (before between after : Calls) (o : Observer) (seconds : Option ℕ) (start : ℕ) (P : Rendering → Type 0)
+    → MakesCalls before between (HasBegun o seconds start) → IsStoppedWriting went came told (MakesCalls between after) o (ObservesNotes o seconds start) P
+    → IsStoppedWriting went came told (MakesCalls before after) o (IsObservedSoFar o seconds) P
+unwritten_since went came told before between after o seconds start P one h = record {
+  latest = h.latest;
+  older = h.older;
+  are = h.are;
+  rendered = h.rendered;
+  line = h.line;
+  called = observed_so_far o seconds start (h.latest ∷ h.older) before between after one h.called;
+}
 
 pub failed_since : {S : Type 0} (went came : List ℕ → Type 0) (told : ℕ → Type 0) (is_error : PeerError → Type 0) (called : S → List PeerCall → Type 0) (before between after : S) (o : Observer)
-    (seconds : Option ℕ) (start : ℕ) (e : NotesError) → MakesCalls (called before) (called between) (HasObserved o seconds start)
-    → IsLaterFault went came told is_error called between after o (AreTurns o seconds start) e → IsLaterFault went came told is_error called before after o (IsObservedSoFar o seconds) e
+    (seconds : Option ℕ) (start : ℕ) (e : NotesError) → MakesCalls (called before) (called between) (HasBegun o seconds start)
+    → IsLaterFault went came told is_error called between after o (ObservesNotes o seconds start) e → IsLaterFault went came told is_error called before after o (IsObservedSoFar o seconds) e
 failed_since went came told is_error called before between after o seconds start (notes_error.Fault f) one (inl h) =
     inl (stopped_since went came told is_error (called before) (called between) (called after) o seconds start f one h)
 failed_since went came told is_error called before between after o seconds start (notes_error.Fault f) one (inr h) = inr (record {
   at = h.at;
   latest = h.latest;
   older = h.older;
+  rendered = h.rendered;
   w = h.w;
   watching = h.watching;
   further = h.further;
-  called_is = observed_so_far o seconds start (called before) (called between) (called h.at) one h.called_is;
+  called_is = observed_so_far o seconds start h.older (called before) (called between) (called h.at) one h.called_is;
   fails = h.fails;
 })
 failed_since went came told is_error called before between after o seconds start notes_error.Unobserved one h = h
-failed_since went came told is_error called before between after o seconds start (notes_error.Print error) one h = observed_so_far o seconds start (called before) (called between) (called after) one h
-failed_since went came told is_error called before between after o seconds start (notes_error.Report error) one h = observed_so_far o seconds start (called before) (called between) (called after) one h
-failed_since went came told is_error called before between after o seconds start (notes_error.Memory error) one h = observed_so_far o seconds start (called before) (called between) (called after) one h
+failed_since went came told is_error called before between after o seconds start (notes_error.Print error) one h =
+    unwritten_since went came told (called before) (called between) (called after) o seconds start (λ r. has_line r ≡ true) one h
+failed_since went came told is_error called before between after o seconds start (notes_error.Report error) one h =
+    unwritten_since went came told (called before) (called between) (called after) o seconds start IsMissingState one h
+failed_since went came told is_error called before between after o seconds start (notes_error.Memory error) one h = h
 
 -- no response is older by itself
 no_sequence_is_older : (o : Option ℕ) → by_sequence o ≡ notice.Older → ⊥
@@ -251,7 +336,7 @@ unmarked went came before after o bytes m v registered read is one =
 
 -- no later note fails by a silence or a rejection
 later_notifies : {S : Type 0} (went came : List ℕ → Type 0) (told : ℕ → Type 0) (is_error : PeerError → Type 0) (called : S → List PeerCall → Type 0) (before after : S) (o : Observer)
-    (SoFar : List PeerCall → Type 0) (f : FetchFault) → may_notify (notes_error.Fault f) ≡ false → IsLaterFault went came told is_error called before after o SoFar (notes_error.Fault f) → ⊥
+    (SoFar : List RenderedNote → List PeerCall → Type 0) (f : FetchFault) → may_notify (notes_error.Fault f) ≡ false → IsLaterFault went came told is_error called before after o SoFar (notes_error.Fault f) → ⊥
 later_notifies went came told is_error called before after o SoFar fault.Silence is (inl h) = h
 later_notifies went came told is_error called before after o SoFar fault.Silence is (inr h) = h.fails
 later_notifies went came told is_error called before after o SoFar fault.Rejected is (inl h) = h
@@ -288,16 +373,16 @@ left_anyhow called is_error tried before from after o (Ok x) sent ended failed =
 left_anyhow called is_error tried before from after o (Err f) sent ended failed = inl (sent, record { from = from; ends = inr (f, failed) })
 
 -- the deregistration failed
-pub left_in_vain : (is_error : PeerError → Type 0) (before between after : List PeerCall → Type 0) (o : Observer) (seconds : Option ℕ) (end : ObservationEnd) (f : FetchFault)
-    → MakesCalls before between (IsTimedObservation o seconds end) → IsLeavingFault is_error (MakesCalls between after) o f
+pub left_in_vain : (is_error : PeerError → Type 0) (before between after : List PeerCall → Type 0) (o : Observer) (seconds : Option ℕ) (end : ObservationEnd) (rs : List RenderedNote) (f : FetchFault)
+    → MakesCalls before between (IsTimedObservation o seconds end rs) → IsLeavingFault is_error (MakesCalls between after) o f
     → IsLeftInVain is_error (MakesCalls before after) o seconds f
-left_in_vain is_error before between after o seconds end fault.Silence one h = record { end = end; fails = both before between after (IsTimedObservation o seconds end) _ one h }
-left_in_vain is_error before between after o seconds end fault.Rejected one h = record { end = end; fails = both before between after (IsTimedObservation o seconds end) _ one h }
-left_in_vain is_error before between after o seconds end fault.Malformed one h = absurd h
-left_in_vain is_error before between after o seconds end fault.Changed one h = absurd h
-left_in_vain is_error before between after o seconds end fault.Part one h = absurd h
-left_in_vain is_error before between after o seconds end (fault.Socket error) one h = record { end = end; fails = h }
-left_in_vain is_error before between after o seconds end (fault.Memory error) one h = absurd h
+left_in_vain is_error before between after o seconds end rs fault.Silence one h = record { end = end; rs = rs; fails = both before between after (IsTimedObservation o seconds end rs) _ one h }
+left_in_vain is_error before between after o seconds end rs fault.Rejected one h = record { end = end; rs = rs; fails = both before between after (IsTimedObservation o seconds end rs) _ one h }
+left_in_vain is_error before between after o seconds end rs fault.Malformed one h = absurd h
+left_in_vain is_error before between after o seconds end rs fault.Changed one h = absurd h
+left_in_vain is_error before between after o seconds end rs fault.Part one h = absurd h
+left_in_vain is_error before between after o seconds end rs (fault.Socket error) one h = record { end = end; rs = rs; fails = h }
+left_in_vain is_error before between after o seconds end rs (fault.Memory error) one h = absurd h
 
 pub on_err : {A E : Type 0} (r : Result A E) (P : Type 0) → P → OnErr r P
 on_err (Ok x) P h = tt

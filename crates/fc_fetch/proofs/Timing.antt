@@ -6,7 +6,9 @@ use Rattle.coap_client.specs.Faults.{EndsOnNotification}
 use Rattle.coap_client.specs.Listening.{ArePassedOver, IsOver}
 use Rattle.coap_client.specs.ObserverCalls.{AwaitsNotification, Dated, IsDatedRegistration, IsObserving, IsRegistration, IsPassedOverWatching}
 use Rattle.coap_client.specs.PeerCalls.{Adds, PeerCall, Reads, Receives, Waits}
-use Rattle.coap_client.specs.Representations.{IsFollowing}
+use Rattle.coap_client.specs.Completions.{BlockOutcome, IsFollowing, StateEnd}
+use Rattle.coap_client.specs.Fetching.{State}
+use Rattle.coap_client.specs.Notes.{Note}
 use Rattle.coap_client.specs.Schedules.{is_scheduled, schedule}
 use Rattle.coap_client.specs.Transmissions.{AreBehind, MakesCalls}
 use Rattle.coap_client.specs.declared.notice.NotificationClass.{NotificationClass}
@@ -17,7 +19,11 @@ use Rattle.coap_client.proofs.Scheduled.{noted_quietly}
 use Rattle.coap_client.proofs.Transmitting.{Calls, Passes, does_both, does_nothing, does_of, does_then}
 use Rattle.fc_fetch.specs.declared.observer.ObservationEnd.{ObservationEnd}
 use Rattle.fc_fetch.specs.declared.observer.ObservationEnd.TheVariants.{Counted, Last, Over}
-use Rattle.fc_fetch.specs.Observing.{AreJoined, AreTurns, AwaitsNote, EndsInTime, IsAwaitedIn, IsAwaiting, IsJoined, IsJoining, IsLineBy, IsObservedSoFar, IsOverAtLast, IsOverAtRest, IsOverIn, IsRest, IsTimedObservation, IsTimeOver, IsWaitedFor, first_wait, is_day, rest_wait}
+use Rattle.coap_msg.specs.declared.code.Code.{Code}
+use Rattle.fc_fetch.specs.declared.rendering.Rendered.{Rendered}
+use Rattle.fc_fetch.specs.declared.rendering.Rendered.TheVariants as rendered
+use Rattle.fc_fetch.specs.Observing.{AwaitsNote, BeginsRest, EndsStateBy, EndsInTime, EndsNotes, IsAwaitedIn, IsAwaiting, IsObservedSoFar, IsOverAtLast, IsOverAtRest, IsOverBy, IsOverIn, IsRenderedBy, IsStateRequested, IsTimedObservation, IsTimeOver, IsWaitedFor, ObservesNotes, first_wait, is_day, rest_wait}
+use Rattle.fc_fetch.specs.Rendering.{AreWhole, Blocks, RenderedNote, Rendering, Whole}
 
 schedule_of : (newer older : List PeerCall) → schedule (newer ++ older) ≡ schedule newer ++ schedule older
 schedule_of newer older = filter-append is_scheduled newer older
@@ -125,72 +131,40 @@ awaited_to_the_end token ends n before after full one =
     does_of before after (HasAwaited token ends n) (AwaitsNote token ends true) one
     (λ calls h. record { observing = h.observing; awaited = h.awaited; over = λ _. days_over ends n calls full h.days })
 
--- ---- turns
+-- ---- note after note
 
 awaited_on : (ends : Bool) (newer older : List PeerCall) → IsAwaitedIn ends newer → IsAwaitedIn ends older → IsAwaitedIn ends (newer ++ older)
 awaited_on true newer older a b = quietly true newer older a b
 awaited_on false newer older a b = subst (All is_day) (sym (schedule_of newer older)) (All-append is_day (schedule newer) (schedule older) a b)
 
-pub nothing_awaited : (token : List ℕ) (ends : Bool) → IsAwaiting token ends []
+nothing_awaited : (token : List ℕ) (ends : Bool) → IsAwaiting token ends []
 nothing_awaited token ends = record { observing = (0, refl); awaited = none_awaited ends }
 
 both_awaited : (token : List ℕ) (ends : Bool) (newer older : List PeerCall) → IsAwaiting token ends newer → IsAwaiting token ends older → IsAwaiting token ends (newer ++ older)
 both_awaited token ends newer older a b =
     record { observing = observed token newer older a.observing b.observing; awaited = awaited_on ends newer older a.awaited b.awaited }
 
--- notifications are awaited after n states
-awaits_more : (o : Observer) (seconds : Option ℕ) (start n : ℕ) (newer older : List PeerCall) → IsAwaiting o.token (is_some seconds) newer → AreJoined o seconds start n older
-    → AreJoined o seconds start n (newer ++ older)
-awaits_more o seconds start zero newer older a b = both_awaited o.token (is_some seconds) newer older a b
-awaits_more o seconds start (suc n) newer older a b = record {
+pub is_awaiting : (token : List ℕ) (ends none : Bool) (seconds : Option ℕ) (calls : List PeerCall) → ends ≡ is_some seconds → AwaitsNote token ends none calls → IsAwaiting token (is_some seconds) calls
+is_awaiting token ends none seconds calls is a = record { observing = a.observing; awaited = subst (λ x. IsAwaitedIn x calls) is a.awaited }
+
+-- notifications are awaited after the latest note
+awaits_more : (o : Observer) (seconds : Option ℕ) (start : ℕ) (r : RenderedNote) (rs : List RenderedNote) (newer older : List PeerCall) → IsAwaiting o.token (is_some seconds) newer
+    → ObservesNotes o seconds start (r ∷ rs) older → ObservesNotes o seconds start (r ∷ rs) (newer ++ older)
+awaits_more o seconds start r rs newer older a b = record {
   older = b.older;
   before = b.before;
-  joining = b.joining;
-  joined = b.joined;
+  own = b.own;
+  rendered = b.rendered;
   handled = newer ++ b.handled;
   awaited = both_awaited o.token (is_some seconds) newer b.handled a b.awaited;
-  is = ap (λ (x : List PeerCall). newer ++ x) b.is ∙ sym (append_assoc newer b.handled (b.joining ++ b.older));
+  is = ap (λ (x : List PeerCall). newer ++ x) b.is ∙ sym (append_assoc newer b.handled (b.own ++ b.older));
 }
 
--- or one more state is joined
-joins_more : (o : Observer) (seconds : Option ℕ) (start n : ℕ) (newer older : List PeerCall) → IsJoining o seconds start newer → AreJoined o seconds start n older
-    → AreJoined o seconds start (suc n) (newer ++ older)
-joins_more o seconds start n newer older a b =
-    record { older = older; before = b; joining = newer; joined = a; handled = []; awaited = nothing_awaited o.token (is_some seconds); is = refl }
-
--- some turns after others
-both_turns : (o : Observer) (seconds : Option ℕ) (start m n : ℕ) (newer older : List PeerCall) → AreJoined o seconds start m newer → AreJoined o seconds start n older
-    → AreTurns o seconds start (newer ++ older)
-both_turns o seconds start zero n newer older a b = (n, awaits_more o seconds start n newer older a b)
-both_turns o seconds start (suc m) n newer older a b =
-    let rest = both_turns o seconds start m n a.older older a.before b in (
-      suc rest.0,
-      record {
-        older = a.older ++ older;
-        before = rest.1;
-        joining = a.joining;
-        joined = a.joined;
-        handled = a.handled;
-        awaited = a.awaited;
-        is = ap (λ (x : List PeerCall). x ++ older) a.is ∙ (append_assoc a.handled (a.joining ++ a.older) older ∙ ap (λ (x : List PeerCall). a.handled ++ x) (append_assoc a.joining a.older older));
-      },
-    )
-
-pub more_turns : (o : Observer) (seconds : Option ℕ) (start : ℕ) (newer older : List PeerCall) → AreTurns o seconds start newer → AreTurns o seconds start older
-    → AreTurns o seconds start (newer ++ older)
-more_turns o seconds start newer older a b = both_turns o seconds start a.0 b.0 newer older a.1 b.1
-
--- each state that is joined is followed by a wait
-joins_counted : (o : Observer) (seconds : Option ℕ) (start n : ℕ) (calls : List PeerCall) → AreJoined o seconds start n calls → n ≤ length (schedule calls)
-joins_counted o seconds start zero calls a = omega arith
-joins_counted o seconds start (suc n) calls a =
-    let before = joins_counted o seconds start n a.older a.before in
-    let j = a.joined.1 in
-    let waits = ap schedule j.is in
-    let one = ap length waits in
-    let inner = ap length (schedule_of a.joining a.older) ∙ length-append (schedule a.joining) (schedule a.older) in
-    let outer = ap length (ap schedule a.is ∙ schedule_of a.handled (a.joining ++ a.older)) ∙ length-append (schedule a.handled) (schedule (a.joining ++ a.older)) in
-    omega (arith, before, one, inner, outer)
+-- or one more note is rendered
+renders_more : (o : Observer) (seconds : Option ℕ) (start : ℕ) (r : RenderedNote) (rs : List RenderedNote) (newer older : List PeerCall)
+    → IsRenderedBy o seconds start r.note.message r.rendering newer → ObservesNotes o seconds start rs older → ObservesNotes o seconds start (r ∷ rs) (newer ++ older)
+renders_more o seconds start r rs newer older a b =
+    record { older = older; before = b; own = newer; rendered = a; handled = []; awaited = nothing_awaited o.token (is_some seconds); is = refl }
 
 few_scheduled : (calls : List PeerCall) → length (schedule calls) ≤ length calls
 few_scheduled [] = omega arith
@@ -199,68 +173,106 @@ few_scheduled (c ∷ calls) = let rest = few_scheduled calls in elim (is_schedul
   | false ↦ omega (arith, rest)
 ]
 
--- the turns of the notes so far, of which n had no line
-pub record HasTurned (o : Observer) (seconds : Option ℕ) (start n : ℕ) (calls : List PeerCall) : Type 0 where
-  pub joined : ℕ
-  pub turns : AreJoined o seconds start joined calls
-  pub many : n ≤ joined
+-- the notes so far; since some note, at least n waits were begun
+pub record HasCounted (o : Observer) (seconds : Option ℕ) (start n : ℕ) (rs : List RenderedNote) (calls : List PeerCall) : Type 0 where
+  pub observed : ObservesNotes o seconds start rs calls
+  pub many : n ≤ length (schedule calls)
 
-pub turns_nothing : (o : Observer) (seconds : Option ℕ) (start : ℕ) (now : Calls) → MakesCalls now now (HasTurned o seconds start 0)
-turns_nothing o seconds start now =
-    does_nothing now (HasTurned o seconds start 0) (record { joined = 0; turns = nothing_awaited o.token (is_some seconds); many = omega arith })
+more_counted : (n : ℕ) (newer older : List PeerCall) → n ≤ length (schedule older) → n ≤ length (schedule (newer ++ older))
+more_counted n newer older many = let all = ap length (schedule_of newer older) ∙ length-append (schedule newer) (schedule older) in omega (arith, many, all)
 
--- the next note is awaited
-pub turns_awaiting : (o : Observer) (seconds : Option ℕ) (start n : ℕ) (ends none : Bool) (before between after : Calls) → ends ≡ is_some seconds → MakesCalls before between (HasTurned o seconds start n)
-    → MakesCalls between after (AwaitsNote o.token ends none) → MakesCalls before after (HasTurned o seconds start n)
-turns_awaiting o seconds start n ends none before between after is one other =
-    does_both before between after (HasTurned o seconds start n) (AwaitsNote o.token ends none) (HasTurned o seconds start n) one other
-    (λ older newer a b. record {
-      joined = a.joined;
-      turns = awaits_more o seconds start a.joined newer older (record { observing = b.observing; awaited = subst (λ x. IsAwaitedIn x newer) is b.awaited }) a.turns;
-      many = a.many;
-    })
+-- the next note is awaited, after the notes so far
+pub notes_awaiting : (o : Observer) (seconds : Option ℕ) (start n : ℕ) (ends none : Bool) (r : RenderedNote) (rs : List RenderedNote) (newer older : List PeerCall) → ends ≡ is_some seconds
+    → HasCounted o seconds start n (r ∷ rs) older → AwaitsNote o.token ends none newer → ObservesNotes o seconds start (r ∷ rs) (newer ++ older)
+notes_awaiting o seconds start n ends none r rs newer older is a b = awaits_more o seconds start r rs newer older (is_awaiting o.token ends none seconds newer is b) a.observed
 
-pub awaiting_turn : (o : Observer) (seconds : Option ℕ) (start n : ℕ) (ends : Bool) (older newer : List PeerCall) → ends ≡ is_some seconds → HasTurned o seconds start n older
-    → AwaitsNote o.token ends false newer → AreTurns o seconds start (newer ++ older)
-awaiting_turn o seconds start n ends older newer is a b =
-    (a.joined, awaits_more o seconds start a.joined newer older (record { observing = b.observing; awaited = subst (λ x. IsAwaitedIn x newer) is b.awaited }) a.turns)
+module _ (o : Observer) (seconds : Option ℕ) (start : ℕ) (before : Calls) where
+  pub counts_nothing : (rs : List RenderedNote) (after : Calls) → MakesCalls before after (ObservesNotes o seconds start rs) → MakesCalls before after (HasCounted o seconds start 0 rs)
+  counts_nothing rs after one =
+      does_of before after (ObservesNotes o seconds start rs) (HasCounted o seconds start 0 rs) one (λ calls h. record { observed = h; many = omega arith })
 
--- its further blocks are requested
-pub turns_joining : (o : Observer) (seconds : Option ℕ) (start n : ℕ) (before between after : Calls) → MakesCalls before between (HasTurned o seconds start n)
-    → MakesCalls between after (IsJoining o seconds start) → MakesCalls before after (HasTurned o seconds start (n + 1))
-turns_joining o seconds start n before between after one other =
-    does_both before between after (HasTurned o seconds start n) (IsJoining o seconds start) (HasTurned o seconds start (n + 1)) one other
-    (λ older newer a b. let many = a.many in record { joined = suc a.joined; turns = joins_more o seconds start a.joined newer older b a.turns; many = omega (arith, many) })
+  pub uncounted : (n : ℕ) (rs : List RenderedNote) (after : Calls) → MakesCalls before after (HasCounted o seconds start n rs) → MakesCalls before after (ObservesNotes o seconds start rs)
+  uncounted n rs after one = does_of before after (HasCounted o seconds start n rs) (ObservesNotes o seconds start rs) one (λ calls h. h.observed)
 
-pub turned : (o : Observer) (seconds : Option ℕ) (start n : ℕ) (before after : Calls) → MakesCalls before after (HasTurned o seconds start n) → MakesCalls before after (AreTurns o seconds start)
-turned o seconds start n before after one = does_of before after (HasTurned o seconds start n) (AreTurns o seconds start) one (λ calls h. (h.joined, h.turns))
+  -- the next note has arrived already
+  pub counts_same : (n : ℕ) (rs : List RenderedNote) (between after : Calls) → MakesCalls before between (HasCounted o seconds start n rs) → MakesCalls between after (λ calls. calls ≡ [])
+      → MakesCalls before after (HasCounted o seconds start n rs)
+  counts_same n rs between after one other =
+      does_both before between after (HasCounted o seconds start n rs) (λ calls. calls ≡ []) (HasCounted o seconds start n rs) one other
+      (λ older newer a b. subst (λ x. HasCounted o seconds start n rs (x ++ older)) (sym b) a)
 
--- a line was printed, with or without such requests
-pub turned_line : (o : Observer) (seconds : Option ℕ) (start n : ℕ) (before between after : Calls) → MakesCalls before between (HasTurned o seconds start n)
-    → MakesCalls between after (λ calls. (calls ≡ []) ⊎ IsJoining o seconds start calls) → MakesCalls before after (AreTurns o seconds start)
-turned_line o seconds start n before between after one other =
-    does_both before between after (HasTurned o seconds start n) (λ calls. (calls ≡ []) ⊎ IsJoining o seconds start calls) (AreTurns o seconds start) one other
-    (λ older newer a b. elim b as (λ _. AreTurns o seconds start (newer ++ older)) [
-      | inl none ↦ subst (λ (x : List PeerCall). AreTurns o seconds start (x ++ older)) (sym none) (a.joined, a.turns)
-      | inr joins ↦ (suc a.joined, joins_more o seconds start a.joined newer older joins a.turns)
-    ])
+  -- or it is awaited
+  pub counts_awaiting : (n : ℕ) (ends none : Bool) (r : RenderedNote) (rs : List RenderedNote) (between after : Calls) → ends ≡ is_some seconds
+      → MakesCalls before between (HasCounted o seconds start n (r ∷ rs)) → MakesCalls between after (AwaitsNote o.token ends none)
+      → MakesCalls before after (HasCounted o seconds start n (r ∷ rs))
+  counts_awaiting n ends none r rs between after is one other =
+      does_both before between after (HasCounted o seconds start n (r ∷ rs)) (AwaitsNote o.token ends none) (HasCounted o seconds start n (r ∷ rs)) one other
+      (λ older newer a b. record {
+        observed = awaits_more o seconds start r rs newer older (is_awaiting o.token ends none seconds newer is b) a.observed;
+        many = more_counted n newer older a.many;
+      })
 
--- the last note was printed
-pub turned_last : (o : Observer) (seconds : Option ℕ) (start n : ℕ) (end : ObservationEnd) (before after : Calls) → ((calls : List PeerCall) → EndsInTime seconds end calls)
-    → MakesCalls before after (HasTurned o seconds start n) → MakesCalls before after (IsLineBy o seconds start (Some end))
-turned_last o seconds start n end before after ends one =
-    does_of before after (HasTurned o seconds start n) (IsLineBy o seconds start (Some end)) one (λ calls h. ((h.joined, h.turns), ends calls))
+  -- it has a line
+  pub line_observed : (effect : Rendered) (n : ℕ) (r : RenderedNote) (rs : List RenderedNote) (between after : Calls) → MakesCalls before between (HasCounted o seconds start n rs)
+      → MakesCalls between after (λ calls. IsRenderedBy o seconds start r.note.message r.rendering calls × IsOverBy effect calls)
+      → MakesCalls before after (ObservesNotes o seconds start (r ∷ rs))
+  line_observed effect n r rs between after one other =
+      does_both before between after (HasCounted o seconds start n rs) (λ calls. IsRenderedBy o seconds start r.note.message r.rendering calls × IsOverBy effect calls)
+      (ObservesNotes o seconds start (r ∷ rs)) one other (λ older newer a b. renders_more o seconds start r rs newer older b.0 a.observed)
 
--- no time was left
-over_at_rest : (o : Observer) (seconds : Option ℕ) (start : ℕ) (newer older : List PeerCall) → IsJoined o seconds start 0 newer → IsTimeOver seconds (newer ++ older)
-over_at_rest o (Some s) start newer older j = inr (j.now, j.following ++ older, ap (λ (x : List PeerCall). x ++ older) j.is)
-over_at_rest o None start newer older j = absurd (cc j.rest_is)
+  -- or its line can't be written
+  pub line_unwritten : (n : ℕ) (r : RenderedNote) (rs : List RenderedNote) (between after : Calls) → MakesCalls before between (HasCounted o seconds start n rs)
+      → MakesCalls between after (IsRenderedBy o seconds start r.note.message r.rendering) → MakesCalls before after (ObservesNotes o seconds start (r ∷ rs))
+  line_unwritten n r rs between after one other =
+      does_both before between after (HasCounted o seconds start n rs) (IsRenderedBy o seconds start r.note.message r.rendering) (ObservesNotes o seconds start (r ∷ rs)) one other
+      (λ older newer a b. renders_more o seconds start r rs newer older b a.observed)
 
-pub over_joining : (o : Observer) (seconds : Option ℕ) (start n : ℕ) (before between after : Calls) → MakesCalls before between (HasTurned o seconds start n)
-    → MakesCalls between after (IsJoined o seconds start 0) → MakesCalls before after (IsLineBy o seconds start (Some Over))
-over_joining o seconds start n before between after one other =
-    does_both before between after (HasTurned o seconds start n) (IsJoined o seconds start 0) (IsLineBy o seconds start (Some Over)) one other
-    (λ older newer a b. ((suc a.joined, joins_more o seconds start a.joined newer older (0, b) a.turns), over_at_rest o seconds start newer older b))
+  -- a state of several blocks counts one wait
+  one_wait : (n : ℕ) (end : StateEnd) (r : RenderedNote) (newer older : List PeerCall) → EndsStateBy end r.rendering → IsRenderedBy o seconds start r.note.message r.rendering newer
+      → n ≤ length (schedule older) → n + 1 ≤ length (schedule (newer ++ older))
+  one_wait n end r newer older ends h many = by r.rendering ends h
+    where
+      by : (x : Rendering) → EndsStateBy end x → IsRenderedBy o seconds start r.note.message x newer → n + 1 ≤ length (schedule (newer ++ older))
+      by Whole is one = absurd is
+      by (Blocks first w outcomes other) is one =
+          let own = ap length (ap schedule one.is) in
+          let all = ap length (schedule_of newer older) ∙ length-append (schedule newer) (schedule older) in
+          omega (arith, many, own, all)
+
+  pub counts_more : (effect : Rendered) (n : ℕ) (end : StateEnd) (r : RenderedNote) (rs : List RenderedNote) (between after : Calls) → EndsStateBy end r.rendering
+      → MakesCalls before between (HasCounted o seconds start n rs)
+      → MakesCalls between after (λ calls. IsRenderedBy o seconds start r.note.message r.rendering calls × IsOverBy effect calls)
+      → MakesCalls before after (HasCounted o seconds start (n + 1) (r ∷ rs))
+  counts_more effect n end r rs between after ends one other =
+      does_both before between after (HasCounted o seconds start n rs) (λ calls. IsRenderedBy o seconds start r.note.message r.rendering calls × IsOverBy effect calls)
+      (HasCounted o seconds start (n + 1) (r ∷ rs)) one other
+      (λ older newer a b. record { observed = renders_more o seconds start r rs newer older b.0 a.observed; many = one_wait n end r newer older ends b.0 a.many })
+
+  -- no time is left after it
+  pub over_at_rest : (n : ℕ) (end : StateEnd) (r : RenderedNote) (rs : List RenderedNote) (between after : Calls) → EndsStateBy end r.rendering
+      → MakesCalls before between (HasCounted o seconds start n rs)
+      → MakesCalls between after (λ calls. IsRenderedBy o seconds start r.note.message r.rendering calls × IsOverBy rendered.Over calls)
+      → MakesCalls before after (EndsNotes o seconds start Over (r ∷ rs))
+  over_at_rest n end r rs between after ends one other =
+      does_both before between after (HasCounted o seconds start n rs) (λ calls. IsRenderedBy o seconds start r.note.message r.rendering calls × IsOverBy rendered.Over calls)
+      (EndsNotes o seconds start Over (r ∷ rs)) one other
+      (λ older newer a b. (renders_more o seconds start r rs newer older b.0 a.observed, rest_over r.rendering newer older ends b.0 b.1))
+    where
+      waits_of : List PeerCall → ℕ
+      waits_of (Waits seconds ∷ calls) = seconds
+      waits_of other = 0
+
+      no_rest : (now : ℕ) (first : Option ℕ) (calls older following : List PeerCall) → first ≡ None → calls ≡ Waits 0 ∷ older → calls ≡ Waits (rest_wait first start now) ∷ following → ⊥
+      no_rest now None calls older following none is same = let zero_is = ap waits_of (sym is ∙ same) in omega (arith, zero_is)
+      no_rest now (Some s) calls older following none is same = cc none
+
+      rest_over : (x : Rendering) (newer older : List PeerCall) → EndsStateBy end x → IsRenderedBy o seconds start r.note.message x newer → IsOverAtRest newer → IsTimeOver seconds (newer ++ older)
+      rest_over Whole newer older is h rest = absurd is
+      rest_over (Blocks first w outcomes e) newer older is h rest = by seconds refl
+        where
+          by : (s : Option ℕ) → seconds ≡ s → IsTimeOver s (newer ++ older)
+          by None none = absurd (no_rest h.now seconds newer (Reads rest.0 ∷ rest.1) (Reads h.now ∷ h.following) none rest.2 h.is)
+          by (Some s) some = inr (rest.0, rest.1 ++ older, ap (λ (y : List PeerCall). y ++ older) rest.2)
 
 -- the wait was over
 time_over : (seconds : Option ℕ) (ends : Bool) (newer older : List PeerCall) → ends ≡ is_some seconds → IsOverIn ends newer → IsTimeOver seconds (newer ++ older)
@@ -273,42 +285,59 @@ time_over None ends newer older is over =
     let all = ap length (schedule_of newer older) ∙ length-append (schedule newer) (schedule older) in
     omega (arith, days, all)
 
-pub over_awaiting : (o : Observer) (seconds : Option ℕ) (start n : ℕ) (ends : Bool) (before between after : Calls) → ends ≡ is_some seconds → MakesCalls before between (HasTurned o seconds start n)
-    → MakesCalls between after (AwaitsNote o.token ends true) → MakesCalls before after (IsLineBy o seconds start (Some Over))
-over_awaiting o seconds start n ends before between after is one other =
-    does_both before between after (HasTurned o seconds start n) (AwaitsNote o.token ends true) (IsLineBy o seconds start (Some Over)) one other
-    (λ older newer a b. (
-      (a.joined, awaits_more o seconds start a.joined newer older (record { observing = b.observing; awaited = subst (λ x. IsAwaitedIn x newer) is b.awaited }) a.turns),
-      time_over seconds ends newer older is (b.over refl),
-    ))
-
 -- so many notes had no line
 over_by_number : (seconds : Option ℕ) (n : ℕ) (calls : List PeerCall) → 2 ^ 64 ≤ n + 1 → n ≤ length (schedule calls) → IsTimeOver seconds calls
 over_by_number (Some seconds) n calls full many = let few = few_scheduled calls in inl (inr (omega (arith, full, many, few)))
 over_by_number None n calls full many = omega (arith, full, many)
 
-pub over_turning : (o : Observer) (seconds : Option ℕ) (start n : ℕ) (before after : Calls) → 2 ^ 64 ≤ n + 1 → MakesCalls before after (HasTurned o seconds start n)
-    → MakesCalls before after (IsLineBy o seconds start (Some Over))
-over_turning o seconds start n before after full one =
-    does_of before after (HasTurned o seconds start n) (IsLineBy o seconds start (Some Over)) one
-    (λ calls h.
-    let many = h.many in
-    let counted = joins_counted o seconds start h.joined calls h.turns in
-    ((h.joined, h.turns), over_by_number seconds n calls full (omega (arith, many, counted))))
+module _ (o : Observer) (seconds : Option ℕ) (start : ℕ) (before : Calls) where
+  pub over_awaiting : (n : ℕ) (ends : Bool) (r : RenderedNote) (rs : List RenderedNote) (between after : Calls) → ends ≡ is_some seconds
+      → MakesCalls before between (HasCounted o seconds start n (r ∷ rs)) → MakesCalls between after (AwaitsNote o.token ends true)
+      → MakesCalls before after (EndsNotes o seconds start Over (r ∷ rs))
+  over_awaiting n ends r rs between after is one other =
+      does_both before between after (HasCounted o seconds start n (r ∷ rs)) (AwaitsNote o.token ends true) (EndsNotes o seconds start Over (r ∷ rs)) one other
+      (λ older newer a b. (awaits_more o seconds start r rs newer older (is_awaiting o.token ends true seconds newer is b) a.observed, time_over seconds ends newer older is (b.over refl)))
+
+  pub over_counted : (n : ℕ) (rs : List RenderedNote) (after : Calls) → 2 ^ 64 ≤ n + 1 → MakesCalls before after (HasCounted o seconds start n rs)
+      → MakesCalls before after (EndsNotes o seconds start Over rs)
+  over_counted n rs after full one =
+      does_of before after (HasCounted o seconds start n rs) (EndsNotes o seconds start Over rs) one (λ calls h. (h.observed, over_by_number seconds n calls full h.many))
+
+  -- the last note is whole
+  pub last_observed : (n : ℕ) (code : Code) (note : Note) (rs : List RenderedNote) (after : Calls) → MakesCalls before after (HasCounted o seconds start n rs)
+      → MakesCalls before after (EndsNotes o seconds start (Last code) (record { note = note; rendering = Whole } ∷ rs))
+  last_observed n code note rs after one =
+      does_of before after (HasCounted o seconds start n rs) (EndsNotes o seconds start (Last code) (record { note = note; rendering = Whole } ∷ rs)) one
+      (λ calls h. (renders_more o seconds start (record { note = note; rendering = Whole }) rs [] calls refl h.observed, tt))
+
+  -- a whole note that can't be printed
+  pub whole_observed : (n : ℕ) (note : Note) (rs : List RenderedNote) (after : Calls) → MakesCalls before after (HasCounted o seconds start n rs)
+      → MakesCalls before after (ObservesNotes o seconds start (record { note = note; rendering = Whole } ∷ rs))
+  whole_observed n note rs after one =
+      does_of before after (HasCounted o seconds start n rs) (ObservesNotes o seconds start (record { note = note; rendering = Whole } ∷ rs)) one
+      (λ calls h. renders_more o seconds start (record { note = note; rendering = Whole }) rs [] calls refl h.observed)
+
+-- ---- the calls for one state
 
 -- the rest of the time begins again after the requests
-pub joined_rest : (o : Observer) (seconds : Option ℕ) (start rest : ℕ) (before between after : Calls) → MakesCalls before between (IsFollowing o)
-    → MakesCalls between after (IsRest seconds start rest) → MakesCalls before after (IsJoined o seconds start rest)
-joined_rest o seconds start rest before between after one other =
-    does_both before between after (IsFollowing o) (IsRest seconds start rest) (IsJoined o seconds start rest) one other
-    (λ older newer a b. record { following = older; requested = a; now = b.0; rest_is = b.1; is = ap (λ (x : List PeerCall). x ++ older) b.2 })
-
-pub joining_rest : (o : Observer) (seconds : Option ℕ) (start rest : ℕ) (before after : Calls) → MakesCalls before after (IsJoined o seconds start rest)
-    → MakesCalls before after (IsJoining o seconds start)
-joining_rest o seconds start rest before after one = does_of before after (IsJoined o seconds start rest) (IsJoining o seconds start) one (λ calls h. (rest, h))
+pub state_requested : (o : Observer) (seconds : Option ℕ) (start first rest : ℕ) (from : State) (outcomes : List BlockOutcome) (end : StateEnd) (before between after : Calls)
+    → MakesCalls before between (IsFollowing o first from outcomes end) → MakesCalls between after (BeginsRest seconds start rest)
+    → MakesCalls before after (λ calls. IsStateRequested o seconds start first from outcomes end calls × (rest ≡ 0 → IsOverAtRest calls))
+state_requested o seconds start first rest from outcomes end before between after one other =
+    does_both before between after (IsFollowing o first from outcomes end) (BeginsRest seconds start rest)
+    (λ calls. IsStateRequested o seconds start first from outcomes end calls × (rest ≡ 0 → IsOverAtRest calls)) one other
+    (λ older newer a b. (
+      record {
+        following = older;
+        requested = a;
+        now = b.0;
+        is = ap (λ (x : List PeerCall). x ++ older) b.2 ∙ ap (λ (x : ℕ). Waits x ∷ Reads b.0 ∷ older) b.1;
+      },
+      λ none. (b.0, older, ap (λ (x : List PeerCall). x ++ older) b.2 ∙ ap (λ (x : ℕ). Waits x ∷ Reads b.0 ∷ older) none),
+    ))
 
 pub rests : (seconds : Option ℕ) (start now rest : ℕ) (before between after : Calls) → rest ≡ rest_wait seconds start now → Adds before between (Reads now ∷ []) → Adds between after (Waits rest ∷ [])
-    → MakesCalls before after (IsRest seconds start rest)
+    → MakesCalls before after (BeginsRest seconds start rest)
 rests seconds start now rest before between after is reads waits calls h =
     record { more = Waits rest ∷ Reads now ∷ []; are = (now, is, refl); is = waits (Reads now ∷ calls) (reads calls h) }
 
@@ -327,87 +356,35 @@ dated_at o answer at time before between after is one adds =
     does_then before between after (IsRegistration o answer) (λ calls. (d : IsDatedRegistration o calls) × (d.time ≡ at)) (Reads time ∷ []) one adds
     (λ older a. (record { older = older; answered = (answer, a); time = time; is = refl }, is))
 
-pub record HasObserved (o : Observer) (seconds : Option ℕ) (start : ℕ) (calls : List PeerCall) : Type 0 where
+-- the observer registered at this time, and began the first wait
+pub record HasBegun (o : Observer) (seconds : Option ℕ) (start : ℕ) (calls : List PeerCall) : Type 0 where
   pub older : List PeerCall
   pub registered : IsDatedRegistration o older
-  pub newer : List PeerCall
-  pub waited : IsWaitedFor o seconds registered.time newer
   pub start_is : registered.time ≡ start
-  pub is : calls ≡ newer ++ older
+  pub is : calls ≡ Waits (first_wait seconds) ∷ older
+
+-- in some state of the peer, the first wait had begun
+pub record IsSinceBegun {S : Type 0} (called : S → List PeerCall → Type 0) (before : S) (o : Observer) (seconds : Option ℕ) (start : ℕ) (Then : S → Type 0) : Type 0 where
+  pub at : S
+  pub begun : MakesCalls (called before) (called at) (HasBegun o seconds start)
+  pub since : Then at
 
 pub waits_first : (o : Observer) (seconds : Option ℕ) (start wait : ℕ) (before between after : Calls) → wait ≡ first_wait seconds
-    → MakesCalls before between (λ calls. (d : IsDatedRegistration o calls) × (d.time ≡ start)) → Adds between after (Waits wait ∷ []) → MakesCalls before after (HasObserved o seconds start)
+    → MakesCalls before between (λ calls. (d : IsDatedRegistration o calls) × (d.time ≡ start)) → Adds between after (Waits wait ∷ []) → MakesCalls before after (HasBegun o seconds start)
 waits_first o seconds start wait before between after is one adds =
-    does_then before between after (λ calls. (d : IsDatedRegistration o calls) × (d.time ≡ start)) (HasObserved o seconds start) (Waits wait ∷ []) one adds
-    (λ older a. record {
-      older = older;
-      registered = a.0;
-      newer = Waits wait ∷ [];
-      waited = record { handled = []; turns = (0, nothing_awaited o.token (is_some seconds)); is = ap (λ (x : ℕ). Waits x ∷ []) is };
-      start_is = a.1;
-      is = refl;
-    })
+    does_then before between after (λ calls. (d : IsDatedRegistration o calls) × (d.time ≡ start)) (HasBegun o seconds start) (Waits wait ∷ []) one adds
+    (λ older a. record { older = older; registered = a.0; start_is = a.1; is = ap (λ (x : ℕ). Waits x ∷ older) is })
 
-waited_on : (o : Observer) (seconds : Option ℕ) (start : ℕ) (newer older : List PeerCall) → AreTurns o seconds start newer → IsWaitedFor o seconds start older
-    → IsWaitedFor o seconds start (newer ++ older)
-waited_on o seconds start newer older turns waited = record {
-  handled = newer ++ waited.handled;
-  turns = more_turns o seconds start newer waited.handled turns waited.turns;
-  is = ap (λ (x : List PeerCall). newer ++ x) waited.is ∙ sym (append_assoc newer waited.handled (Waits (first_wait seconds) ∷ []));
-}
-
-turns_since : (o : Observer) (seconds : Option ℕ) (start : ℕ) (newer older : List PeerCall) (h : HasObserved o seconds start older) → AreTurns o seconds start newer
-    → IsWaitedFor o seconds h.registered.time (newer ++ h.newer)
-turns_since o seconds start newer older h turns = waited_on o seconds h.registered.time newer h.newer (subst (λ (x : ℕ). AreTurns o seconds x newer) (sym h.start_is) turns) h.waited
-
-joined_to : (newer middle older calls : List PeerCall) → calls ≡ middle ++ older → newer ++ calls ≡ (newer ++ middle) ++ older
-joined_to newer middle older calls is = ap (λ (x : List PeerCall). newer ++ x) is ∙ sym (append_assoc newer middle older)
-
-pub observes_on : (o : Observer) (seconds : Option ℕ) (start : ℕ) (before between after : Calls) → MakesCalls before between (HasObserved o seconds start)
-    → MakesCalls between after (AreTurns o seconds start) → MakesCalls before after (HasObserved o seconds start)
-observes_on o seconds start before between after one other =
-    does_both before between after (HasObserved o seconds start) (AreTurns o seconds start) (HasObserved o seconds start) one other
-    (λ older newer a b. record {
-      older = a.older;
-      registered = a.registered;
-      newer = newer ++ a.newer;
-      waited = turns_since o seconds start newer older a b;
-      start_is = a.start_is;
-      is = joined_to newer a.newer a.older older a.is;
-    })
-
-so_far : (o : Observer) (seconds : Option ℕ) (start : ℕ) (newer older : List PeerCall) → HasObserved o seconds start older → AreTurns o seconds start newer → IsObservedSoFar o seconds (newer ++ older)
-so_far o seconds start newer older a b = record {
+ends_so : (o : Observer) (seconds : Option ℕ) (start : ℕ) (end : ObservationEnd) (rs : List RenderedNote) (newer older : List PeerCall) → HasBegun o seconds start older
+    → ObservesNotes o seconds start rs newer → EndsInTime seconds end (newer ++ Waits (first_wait seconds) ∷ []) → IsTimedObservation o seconds end rs (newer ++ older)
+ends_so o seconds start end rs newer older a b ends = record {
   older = a.older;
   registered = a.registered;
-  newer = newer ++ a.newer;
-  waited = inr (turns_since o seconds start newer older a b);
-  ends = tt;
-  is = joined_to newer a.newer a.older older a.is;
+  newer = newer ++ Waits (first_wait seconds) ∷ [];
+  waited = inr (record { handled = newer; observed = subst (λ (x : ℕ). ObservesNotes o seconds x rs newer) (sym a.start_is) b; is = refl });
+  ends = ends;
+  is = ap (λ (x : List PeerCall). newer ++ x) a.is ∙ sym (append_assoc newer (Waits (first_wait seconds) ∷ []) a.older);
 }
-
-pub observed_so_far : (o : Observer) (seconds : Option ℕ) (start : ℕ) (before between after : Calls) → MakesCalls before between (HasObserved o seconds start)
-    → MakesCalls between after (AreTurns o seconds start) → MakesCalls before after (IsObservedSoFar o seconds)
-observed_so_far o seconds start before between after one other =
-    does_both before between after (HasObserved o seconds start) (AreTurns o seconds start) (IsObservedSoFar o seconds) one other (so_far_of o seconds start)
-  where
-    so_far_of : (o : Observer) (seconds : Option ℕ) (start : ℕ) (older newer : List PeerCall) → HasObserved o seconds start older → AreTurns o seconds start newer → IsObservedSoFar o seconds (newer ++ older)
-    so_far_of o seconds start older newer a b = so_far o seconds start newer older a b
-
--- a notification ends the observation
-pub observed_until : (told : ℕ → Type 0) (o : Observer) (seconds : Option ℕ) (start : ℕ) (w : Observation) (P : NotificationClass → Type 0) (before between after : Calls)
-    → MakesCalls before between (HasObserved o seconds start) → MakesCalls between after (AreBehind (AreTurns o seconds start) (EndsOnNotification told o.token w P))
-    → MakesCalls before after (AreBehind (IsObservedSoFar o seconds) (EndsOnNotification told o.token w P))
-observed_until told o seconds start w P before between after one other =
-    does_both before between after (HasObserved o seconds start) (AreBehind (AreTurns o seconds start) (EndsOnNotification told o.token w P))
-    (AreBehind (IsObservedSoFar o seconds) (EndsOnNotification told o.token w P)) one other
-    (λ older newer a b. record {
-      older = b.older ++ older;
-      first = so_far o seconds start b.older older a b.first;
-      newer = b.newer;
-      then = b.then;
-      is = ap (λ (x : List PeerCall). x ++ older) b.is ∙ append_assoc b.newer b.older older;
-    })
 
 time_over_on : (seconds : Option ℕ) (newer older : List PeerCall) → IsTimeOver seconds newer → IsTimeOver seconds (newer ++ older)
 time_over_on (Some seconds) newer older (inl over) = time_over (Some seconds) true newer older refl over
@@ -419,44 +396,59 @@ ends_on seconds Counted newer older ends = tt
 ends_on seconds Over newer older ends = time_over_on seconds newer older ends
 ends_on seconds (Last code) newer older ends = tt
 
--- the observation ends with this turn
-pub ends_so : (o : Observer) (seconds : Option ℕ) (start : ℕ) (end : ObservationEnd) (before between after : Calls) → MakesCalls before between (HasObserved o seconds start)
-    → MakesCalls between after (IsLineBy o seconds start (Some end)) → MakesCalls before after (IsTimedObservation o seconds end)
-ends_so o seconds start end before between after one other =
-    does_both before between after (HasObserved o seconds start) (IsLineBy o seconds start (Some end)) (IsTimedObservation o seconds end) one other
+-- the observation so far, or to its end
+pub observed_so_far : (o : Observer) (seconds : Option ℕ) (start : ℕ) (rs : List RenderedNote) (before between after : Calls) → MakesCalls before between (HasBegun o seconds start)
+    → MakesCalls between after (ObservesNotes o seconds start rs) → MakesCalls before after (IsObservedSoFar o seconds rs)
+observed_so_far o seconds start rs before between after one other =
+    does_both before between after (HasBegun o seconds start) (ObservesNotes o seconds start rs) (IsObservedSoFar o seconds rs) one other
+    (λ older newer a b. ends_so o seconds start Counted rs newer older a b tt)
+
+pub observed_to_end : (o : Observer) (seconds : Option ℕ) (start : ℕ) (end : ObservationEnd) (rs : List RenderedNote) (before between after : Calls) → MakesCalls before between (HasBegun o seconds start)
+    → MakesCalls between after (EndsNotes o seconds start end rs) → MakesCalls before after (IsTimedObservation o seconds end rs)
+observed_to_end o seconds start end rs before between after one other =
+    does_both before between after (HasBegun o seconds start) (EndsNotes o seconds start end rs) (IsTimedObservation o seconds end rs) one other
+    (λ older newer a b. ends_so o seconds start end rs newer older a b.0 (ends_on seconds end newer (Waits (first_wait seconds) ∷ []) b.1))
+
+-- a notification ends the observation
+pub observed_until : (told : ℕ → Type 0) (o : Observer) (seconds : Option ℕ) (start : ℕ) (rs : List RenderedNote) (w : Observation) (P : NotificationClass → Type 0) (before between after : Calls)
+    → MakesCalls before between (HasBegun o seconds start) → MakesCalls between after (AreBehind (ObservesNotes o seconds start rs) (EndsOnNotification told o.token w P))
+    → MakesCalls before after (AreBehind (IsObservedSoFar o seconds rs) (EndsOnNotification told o.token w P))
+observed_until told o seconds start rs w P before between after one other =
+    does_both before between after (HasBegun o seconds start) (AreBehind (ObservesNotes o seconds start rs) (EndsOnNotification told o.token w P))
+    (AreBehind (IsObservedSoFar o seconds rs) (EndsOnNotification told o.token w P)) one other
     (λ older newer a b. record {
-      older = a.older;
-      registered = a.registered;
-      newer = newer ++ a.newer;
-      waited = inr (turns_since o seconds start newer older a b.0);
-      ends = ends_on seconds end newer a.newer b.1;
-      is = joined_to newer a.newer a.older older a.is;
+      older = b.older ++ older;
+      first = ends_so o seconds start Counted rs b.older older a b.first tt;
+      newer = b.newer;
+      then = b.then;
+      is = ap (λ (x : List PeerCall). x ++ older) b.is ∙ append_assoc b.newer b.older older;
     })
 
--- or after as many lines as are wanted
-pub ends_counted : (o : Observer) (seconds : Option ℕ) (start : ℕ) (before after : Calls) → MakesCalls before after (HasObserved o seconds start)
-    → MakesCalls before after (IsTimedObservation o seconds Counted)
-ends_counted o seconds start before after one =
-    does_of before after (HasObserved o seconds start) (IsTimedObservation o seconds Counted) one
-    (λ calls h. record { older = h.older; registered = h.registered; newer = h.newer; waited = inr h.waited; ends = tt; is = h.is })
+-- or the first response is the last
+pub ends_at_first : (o : Observer) (seconds : Option ℕ) (code : Code) (rs : List RenderedNote) (before after : Calls) → MakesCalls before after (IsDatedRegistration o)
+    → MakesCalls before after (IsTimedObservation o seconds (Last code) rs)
+ends_at_first o seconds code rs before after one =
+    does_of before after (IsDatedRegistration o) (IsTimedObservation o seconds (Last code) rs) one
+    (λ calls a. record { older = calls; registered = a; newer = []; waited = inl (tt, refl); ends = tt; is = refl })
 
--- or at the first response
-pub ends_at_first : (o : Observer) (seconds : Option ℕ) (end : ObservationEnd) (before after : Calls) → EndsInTime seconds end [] → MakesCalls before after (IsDatedRegistration o)
-    → MakesCalls before after (IsTimedObservation o seconds end)
-ends_at_first o seconds end before after in_time one =
-    does_of before after (IsDatedRegistration o) (IsTimedObservation o seconds end) one
-    (λ calls a. record { older = calls; registered = a; newer = []; waited = inl refl; ends = in_time; is = refl })
+-- ---- the waits in the schedule
 
--- the waits in the schedule, if no blocks are requested
-pub lasts_seconds : (o : Observer) (seconds start : ℕ) (calls : List PeerCall) (w : IsWaitedFor o (Some seconds) start calls) → w.turns.0 ≡ 0 → schedule calls ≡ Waits seconds ∷ []
-lasts_seconds o seconds start calls w none =
-    let awaited : IsAwaiting o.token true w.handled = subst (λ (n : ℕ). AreJoined o (Some seconds) start n w.handled) none w.turns.1 in
+-- a whole note adds no wait but those for the next note
+whole_wait : (o : Observer) (seconds : Option ℕ) (start : ℕ) (rs : List RenderedNote) (calls : List PeerCall) → AreWhole rs → ObservesNotes o seconds start rs calls → IsAwaitedIn (is_some seconds) calls
+whole_wait o seconds start [] calls whole h = subst (IsAwaitedIn (is_some seconds)) (sym h) (none_awaited (is_some seconds))
+whole_wait o seconds start (r ∷ rs) calls whole h =
+    let own : h.own ≡ [] = subst (λ x. IsRenderedBy o seconds start r.note.message x h.own) whole.1 h.rendered in
+    let before = whole_wait o seconds start rs h.older whole.0 h.before in
+    subst (IsAwaitedIn (is_some seconds)) (sym (h.is ∙ ap (λ (x : List PeerCall). h.handled ++ (x ++ h.older)) own)) (awaited_on (is_some seconds) h.handled h.older h.awaited.awaited before)
+
+pub lasts_seconds : (o : Observer) (seconds start : ℕ) (rs : List RenderedNote) (calls : List PeerCall) → AreWhole rs → IsWaitedFor o (Some seconds) start rs calls
+    → schedule calls ≡ Waits seconds ∷ []
+lasts_seconds o seconds start rs calls whole w =
     ap schedule w.is
     ∙ (schedule_of w.handled (Waits seconds ∷ [])
-    ∙ ap (λ (x : List PeerCall). x ++ Waits seconds ∷ []) awaited.awaited)
+    ∙ ap (λ (x : List PeerCall). x ++ Waits seconds ∷ []) (whole_wait o (Some seconds) start rs w.handled whole w.observed))
 
-pub lasts_days : (o : Observer) (start : ℕ) (calls : List PeerCall) (w : IsWaitedFor o None start calls) → w.turns.0 ≡ 0 → All is_day (schedule calls)
-lasts_days o start calls w none =
-    let awaited : IsAwaiting o.token false w.handled = subst (λ (n : ℕ). AreJoined o None start n w.handled) none w.turns.1 in
+pub lasts_days : (o : Observer) (start : ℕ) (rs : List RenderedNote) (calls : List PeerCall) → AreWhole rs → IsWaitedFor o None start rs calls → All is_day (schedule calls)
+lasts_days o start rs calls whole w =
     subst (All is_day) (sym (ap schedule w.is ∙ schedule_of w.handled (Waits 86400 ∷ [])))
-    (All-append is_day (schedule w.handled) (Waits 86400 ∷ []) awaited.awaited (All-cons is_day (Waits 86400) [] refl (All-nil is_day)))
+    (All-append is_day (schedule w.handled) (Waits 86400 ∷ []) (whole_wait o None start rs w.handled whole w.observed) (All-cons is_day (Waits 86400) [] refl (All-nil is_day)))

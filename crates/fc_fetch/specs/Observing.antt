@@ -1,13 +1,16 @@
 -- The output of an observer, and its status.
-use Rattle.std.specs.Prelude.{◌≡◌, ℕ, zero, suc, ◌+◌, ◌-◌, ◌*◌, ◌/◌, ◌<◌, ◌≤◌, ◌^◌, ◌⊎◌, ◌++◌, max, Bool, true, false, List, [], ◌∷◌, length, take, Ok, Option, Some, None, is_some, if◌then◌else◌}
+use Rattle.std.specs.Prelude.{◌≡◌, ℕ, ◌+◌, ◌-◌, ◌*◌, ◌/◌, ◌<◌, ◌≤◌, ◌^◌, ◌⊎◌, ◌++◌, max, Bool, true, false, List, [], ◌∷◌, length, take, Ok, Option, Some, None, is_none, is_some, codes, if◌then◌else◌}
 use Rattle.std.specs.List.{All}
 use Rattle.std.specs.Io.KnownBytes.{Appends}
 use Rattle.coap_client.specs.Faults.{EndsOnNotification, IsLeavingFault, IsNewState, IsRegistrationFault, IsRejection, IsSilence, UnfitCame, deregistration_of, registration_of}
-use Rattle.coap_client.specs.Notes.{AreNotes, HasArrived, HasDeregistered, IsNextNote, IsResponseWith, IsWatching, Note, TellsObserver}
+use Rattle.coap_client.specs.Notes.{AreNotes, HasArrived, HasDeregistered, IsNextNote, IsResponseWith, IsWatching, Note, TellsObserver, Watches}
 use Rattle.coap_client.specs.Notices.{is_unobserved, notice_of, observe_request}
 use Rattle.coap_client.specs.ObserverCalls.{IsDatedRegistration, IsDeregistration, IsObserving}
 use Rattle.coap_client.specs.PeerCalls.{PeerCall, PeerError, Reads, Receives, Waits}
-use Rattle.coap_client.specs.Representations.{IsFollowing, IsFollowingFault}
+use Rattle.coap_client.specs.Completions.{AreOutcomes, BlockOutcome, IsFollowing, IsStateEnd, Missing, StateEnd, Superseded, state_from}
+use Rattle.coap_client.specs.Fetching.{State}
+use Rattle.coap_client.specs.Representations.{IsFollowingFault, begun}
+use Rattle.coap_client.specs.declared.joining.Unfetched.{Unfetched}
 use Rattle.coap_client.specs.Schedules.{schedule}
 use Rattle.coap_client.specs.Transmissions.{AreBehind}
 use Rattle.coap_client.specs.declared.notice.ObserveOption.TheVariants.{Register}
@@ -40,12 +43,13 @@ use Rattle.fc_fetch.specs.declared.observer.NotesError.TheVariants as notes_erro
 use Rattle.fc_fetch.specs.declared.observer.ObservationEnd.{ObservationEnd}
 use Rattle.fc_fetch.specs.declared.observer.ObservationEnd.TheVariants.{Counted, Over, Last}
 use Rattle.fc_fetch.specs.declared.observer.First.{First}
-use Rattle.fc_fetch.specs.declared.observer.First.TheVariants.{State, Only}
+use Rattle.fc_fetch.specs.declared.observer.First.TheVariants as first
 use Rattle.fc_fetch.specs.declared.printer.Shown.{Shown}
 use Rattle.fc_fetch.specs.declared.rendering.Rendered.{Rendered}
 use Rattle.fc_fetch.specs.declared.rendering.Rendered.TheVariants as rendered
-use Rattle.fc_fetch.specs.Fetching.{HasResource, HasStopped, IsTargetStop, IsUnconnected}
-use Rattle.fc_fetch.specs.Rendering.{AreRendered, IsRendering, RenderedNote, Rendering, Whole, Written, errors_text, has_further, has_line, lines_in, note_text, notes_of, notes_text, rendered_error, rendered_text}
+use Rattle.coap_client.specs.Replies.{is_success}
+use Rattle.fc_fetch.specs.Fetching.{HasResource, HasStopped, IsTargetStop, IsUnconnected, ended_line}
+use Rattle.fc_fetch.specs.Rendering.{AreRendered, Blocks, IsSuccessor, RenderedNote, Rendering, SucceedsNotes, Whole, Written, errors_text, has_further, has_line, lines_in, note_text, notes_of, notes_text, rendered_error, rendered_text}
 
 -- the maximum number of lines: the number wanted, or one if that is 0; without a number, 2^64 - 1.
 abbrev pub lines_wanted : Option ℕ → ℕ
@@ -88,48 +92,46 @@ rest_wait None start now = 86400
 rest_wait (Some seconds) start now = ((seconds * 1000 - (now - start)) + 999) / 1000
 
 -- the clock is read, and the rest of the time begins again.
-abbrev pub IsRest : Option ℕ → ℕ → ℕ → List PeerCall → Type 0
-IsRest seconds start rest calls = (now : ℕ) × (rest ≡ rest_wait seconds start now) × (calls ≡ Waits rest ∷ Reads now ∷ [])
+abbrev pub BeginsRest : Option ℕ → ℕ → ℕ → List PeerCall → Type 0
+BeginsRest seconds start rest calls = (now : ℕ) × (rest ≡ rest_wait seconds start now) × (calls ≡ Waits rest ∷ Reads now ∷ [])
 
 -- notifications are awaited, and no wait is begun except such days.
 pub record IsAwaiting (token : List ℕ) (ends : Bool) (calls : List PeerCall) : Type 0 where
   pub observing : IsObserving token calls
   pub awaited : IsAwaitedIn ends calls
 
--- the further blocks of a state are requested, and then the rest of the time begins again.
-pub record IsJoined (o : Observer) (seconds : Option ℕ) (start rest : ℕ) (calls : List PeerCall) : Type 0 where
+-- the further blocks of a state are requested until its end, and then the rest of the time begins
+-- again.
+pub record IsStateRequested (o : Observer) (seconds : Option ℕ) (start first : ℕ) (from : State) (outcomes : List BlockOutcome) (end : StateEnd) (calls : List PeerCall) : Type 0 where
   pub following : List PeerCall
-  pub requested : IsFollowing o following
+  pub requested : IsFollowing o first from outcomes end following
   pub now : ℕ
-  pub rest_is : rest ≡ rest_wait seconds start now
-  pub is : calls ≡ Waits rest ∷ Reads now ∷ following
+  pub is : calls ≡ Waits (rest_wait seconds start now) ∷ Reads now ∷ following
 
-abbrev pub IsJoining : Observer → Option ℕ → ℕ → List PeerCall → Type 0
-IsJoining o seconds start calls = (rest : ℕ) × IsJoined o seconds start rest calls
+-- the calls for a note: none if its message is whole.
+abbrev pub IsRenderedBy : Observer → Option ℕ → ℕ → Message → Rendering → List PeerCall → Type 0
+IsRenderedBy o seconds start m Whole calls = calls ≡ []
+IsRenderedBy o seconds start m (Blocks first w outcomes end) calls = IsStateRequested o seconds start first (begun m) outcomes end calls
 
--- after these calls the further blocks of one more state are requested, and then notifications are
--- awaited.
-pub record IsOneMoreJoined (Before : List PeerCall → Type 0) (o : Observer) (seconds : Option ℕ) (start : ℕ) (calls : List PeerCall) : Type 0 where
+-- after these calls one more note is rendered, and then notifications are awaited.
+pub record IsOneMoreNote (Before : List PeerCall → Type 0) (o : Observer) (seconds : Option ℕ) (start : ℕ) (r : RenderedNote) (calls : List PeerCall) : Type 0 where
   pub older : List PeerCall
   pub before : Before older
-  pub joining : List PeerCall
-  pub joined : IsJoining o seconds start joining
+  pub own : List PeerCall
+  pub rendered : IsRenderedBy o seconds start r.note.message r.rendering own
   pub handled : List PeerCall
   pub awaited : IsAwaiting o.token (is_some seconds) handled
-  pub is : calls ≡ handled ++ (joining ++ older)
+  pub is : calls ≡ handled ++ (own ++ older)
 
--- notifications are awaited, and in between the further blocks of n states are requested.
-abbrev pub AreJoined : Observer → Option ℕ → ℕ → ℕ → List PeerCall → Type 0
-AreJoined o seconds start zero calls = IsAwaiting o.token (is_some seconds) calls
-AreJoined o seconds start (suc n) calls = IsOneMoreJoined (AreJoined o seconds start n) o seconds start calls
+-- these notes are rendered, and after each of them notifications are awaited.
+abbrev pub ObservesNotes : Observer → Option ℕ → ℕ → List RenderedNote → List PeerCall → Type 0
+ObservesNotes o seconds start [] calls = calls ≡ []
+ObservesNotes o seconds start (r ∷ rs) calls = IsOneMoreNote (ObservesNotes o seconds start rs) o seconds start r calls
 
-abbrev pub AreTurns : Observer → Option ℕ → ℕ → List PeerCall → Type 0
-AreTurns o seconds start calls = (n : ℕ) × AreJoined o seconds start n calls
-
--- the first wait is begun, and then notifications are awaited.
-pub record IsWaitedFor (o : Observer) (seconds : Option ℕ) (start : ℕ) (calls : List PeerCall) : Type 0 where
+-- the first wait is begun, and then these notes are observed.
+pub record IsWaitedFor (o : Observer) (seconds : Option ℕ) (start : ℕ) (rs : List RenderedNote) (calls : List PeerCall) : Type 0 where
   pub handled : List PeerCall
-  pub turns : AreTurns o seconds start handled
+  pub observed : ObservesNotes o seconds start rs handled
   pub is : calls ≡ handled ++ Waits (first_wait seconds) ∷ []
 
 -- the wait is over: the last receive returned nothing, or at least 2^64 - 1 calls were made.
@@ -150,13 +152,18 @@ abbrev pub EndsInTime : Option ℕ → ObservationEnd → List PeerCall → Type
 EndsInTime seconds Over calls = IsTimeOver seconds calls
 EndsInTime seconds other calls = Unit {0}
 
--- the observer registers, and observes for that time; nothing is called after a first response that
--- is the last.
-pub record IsTimedObservation (o : Observer) (seconds : Option ℕ) (end : ObservationEnd) (calls : List PeerCall) : Type 0 where
+-- the response to the registration is the last.
+abbrev pub IsAtFirst : ObservationEnd → Type 0
+IsAtFirst (Last code) = Unit {0}
+IsAtFirst other = ⊥
+
+-- the observer registers, and observes these notes for that time; nothing is called after a first
+-- response that is the last.
+pub record IsTimedObservation (o : Observer) (seconds : Option ℕ) (end : ObservationEnd) (rs : List RenderedNote) (calls : List PeerCall) : Type 0 where
   pub older : List PeerCall
   pub registered : IsDatedRegistration o older
   pub newer : List PeerCall
-  pub waited : (newer ≡ []) ⊎ IsWaitedFor o seconds registered.time newer
+  pub waited : (IsAtFirst end × (newer ≡ [])) ⊎ IsWaitedFor o seconds registered.time rs newer
   pub ends : EndsInTime seconds end newer
   pub is : calls ≡ newer ++ older
 
@@ -170,30 +177,42 @@ abbrev pub IsLeaving : Observer → ObservationEnd → List PeerCall → Type 0
 IsLeaving o (Last code) calls = calls ≡ []
 IsLeaving o other calls = IsDeregistration o calls
 
-abbrev pub ObservesToEnd : Observer → Option ℕ → ObservationEnd → List PeerCall → Type 0
-ObservesToEnd o seconds end calls = AreBehind (IsTimedObservation o seconds end) (IsLeaving o end) calls
+abbrev pub ObservesToEnd : Observer → Option ℕ → ObservationEnd → List RenderedNote → List PeerCall → Type 0
+ObservesToEnd o seconds end rs calls = AreBehind (IsTimedObservation o seconds end rs) (IsLeaving o end) calls
 
 -- the registration was sent, and these notes came, newest first. Each is newer than the one before it,
 -- and is rendered once.
 pub record HasRendered (went came : List ℕ → Type 0) (told : ℕ → Type 0) (o : Observer) (shown : Shown) (before after : Written) (rs : List RenderedNote) : Type 0 where
   pub asked : went (message_bytes (observe_request o.client_request.now Register o.token o.id))
   pub are : AreNotes went came told o.token o.id (notes_of rs)
-  pub rendered : AreRendered went came o rs
+  pub rendered : AreRendered went came told o rs
   pub printed : Appends before.out after.out (notes_text shown rs)
   pub reported : Appends before.err after.err (errors_text rs)
 
--- the response to the registration and the notifications after it were rendered, to this end.
-pub record HasShown (went came : List ℕ → Type 0) (told : ℕ → Type 0) (o : Observer) (shown : Shown) (limit : ℕ) (before after : Written) (end : ObservationEnd) : Type 0 where
+-- the response to the registration and the notifications after it were rendered, to this end, and
+-- the calls for these notes were made.
+pub record HasShown (went came : List ℕ → Type 0) (told : ℕ → Type 0) (Called : List RenderedNote → Type 0) (o : Observer) (shown : Shown) (limit : ℕ) (before after : Written)
+    (end : ObservationEnd) : Type 0 where
   pub latest : RenderedNote
   pub older : List RenderedNote
   pub so_far : HasRendered went came told o shown before after (latest ∷ older)
   pub ends : IsEnd limit end latest older
+  pub called : Called (latest ∷ older)
 
--- the status is `Refused` if the last response is an error, or a success without notifications.
--- Such a success is reported on standard error; if that fails, the status is `Failed`.
-abbrev pub IsToldEnd : ObservationEnd → Status → Type 0
-IsToldEnd (Last code) status = (status ≡ Refused) ⊎ ((code.byte / 32 ≡ 2) × (status ≡ Failed))
-IsToldEnd other status = status ≡ Done
+-- the line on standard error for a last response that is a success without a sequence number.
+abbrev pub unobserved_text : List ℕ
+unobserved_text = ended_line (codes "the answer has no Observe: the server doesn't notify of changes, or has no place for another observer")
+
+-- the status after a last response of this class: `Refused`. A success has no sequence number,
+-- which is reported on standard error; if that fails, the status is `Failed`.
+abbrev pub IsRefusedEnd : Bool → Option (List ℕ) → Option (List ℕ) → Status → Type 0
+IsRefusedEnd true before after status = ((status ≡ Refused) × Appends before after unobserved_text) ⊎ (status ≡ Failed)
+IsRefusedEnd false before after status = (status ≡ Refused) × (after ≡ before)
+
+-- the status after the end, and the bytes that standard error got last.
+abbrev pub IsToldEnd : ObservationEnd → Option (List ℕ) → Option (List ℕ) → Status → Type 0
+IsToldEnd (Last code) before after status = IsRefusedEnd (is_success code.byte) before after status
+IsToldEnd other before after status = (status ≡ Done) × (after ≡ before)
 
 -- ---- from the target on
 
@@ -208,9 +227,9 @@ pub record IsObservedAt {S : Type 0} (connected : S → SocketAddrV4 → Type 0)
   pub opened : S
   pub opened_is : connected opened server
   pub ended : S
-  pub shown : HasShown went came told observer observing.shown (lines_wanted observing.extent.count) before after end
+  pub shown : HasShown went came told (λ rs. MakesCalls (called opened) (called ended) (ObservesToEnd observer observing.extent.seconds end rs)) observer observing.shown
+      (lines_wanted observing.extent.count) before after end
   pub left : HasLeft went came observer end
-  pub called_is : MakesCalls (called opened) (called ended) (ObservesToEnd observer observing.extent.seconds end)
 
 -- the target's resource was observed in this way.
 pub record IsObservedIn {S : Type 0} (connected : S → SocketAddrV4 → Type 0) (drawn went came : List ℕ → Type 0) (told : ℕ → Type 0) (called : S → List PeerCall → Type 0) (observing : Observing)
@@ -221,21 +240,22 @@ pub record IsObservedIn {S : Type 0} (connected : S → SocketAddrV4 → Type 0)
   pub target_is : IsResourceOf address client_request.target
   pub observed : IsObservedAt connected drawn went came told called observing client_request address.server before after end
 
--- the program observed to such an end, which determines the program's status.
-pub record HasObservedTo (Ends : ObservationEnd → Type 0) (status : Status) : Type 0 where
+-- the program observed to this end, which determines the program's status. Standard error has the
+-- lines of states whose further blocks can't be fetched, and then that of the last response.
+pub record HasObservedTo (Ends : Option (List ℕ) → ObservationEnd → Type 0) (err : Option (List ℕ)) (status : Status) : Type 0 where
   pub end : ObservationEnd
-  pub ends : Ends end
-  pub status_is : IsToldEnd end status
+  pub reported : Option (List ℕ)
+  pub ends : Ends reported end
+  pub told_is : IsToldEnd end reported err status
 
--- the bytes that standard error got before its last line, if it has one, aren't named.
 abbrev pub IsObserved : {S : Type 0} → (S → SocketAddrV4 → Type 0) → (List ℕ → Type 0) → (List ℕ → Type 0) → (List ℕ → Type 0) → (ℕ → Type 0) → (S → List PeerCall → Type 0) → Observing
-    → Written → Option (List ℕ) → ObservationEnd → Type 0
-IsObserved connected drawn went came told called observing before out end =
-    (err : Option (List ℕ)) × IsObservedIn connected drawn went came told called observing before (record { out = out; err = err }) end
+    → Written → Written → Status → Type 0
+IsObserved connected drawn went came told called observing before after =
+    HasObservedTo (λ err. IsObservedIn connected drawn went came told called observing before (record { out = after.out; err = err })) after.err
 
 -- or it stops for such a reason.
-abbrev pub HasEnded : (ObservationEnd → Type 0) → (FetchStop → Type 0) → Status → Type 0
-HasEnded Ends Stops status = HasObservedTo Ends status ⊎ HasStopped Stops status
+abbrev pub HasEnded : (Status → Type 0) → (FetchStop → Type 0) → Status → Type 0
+HasEnded Ends Stops status = Ends status ⊎ HasStopped Stops status
 
 -- ---- failures
 
@@ -273,8 +293,8 @@ pub record AwaitsNote (token : List ℕ) (ends none : Bool) (calls : List PeerCa
   pub awaited : IsAwaitedIn ends calls
   pub over : none ≡ true → IsOverIn ends calls
 
--- the observation so far: the observer registered, and observed for that time.
-abbrev pub IsObservedSoFar : Observer → Option ℕ → List PeerCall → Type 0
+-- the observation so far: the observer registered, and observed these notes.
+abbrev pub IsObservedSoFar : Observer → Option ℕ → List RenderedNote → List PeerCall → Type 0
 IsObservedSoFar o seconds = IsTimedObservation o seconds Counted
 
 -- during the wait for the next note, the message that came last is a notification of this
@@ -290,14 +310,16 @@ IsAwaitFault came told is_error Makes o ends w (fault.Memory error) = Makes (Awa
 IsAwaitFault came told is_error Makes o ends w (fault.Socket error) = is_error error
 IsAwaitFault came told is_error Makes o ends w other = ⊥
 
--- the notes so far came with such calls, and then a notification came last that has this
+-- the notes so far were rendered with such calls, and then a notification came last that has this
 -- classification.
-pub record IsStoppedBy (went came : List ℕ → Type 0) (told : ℕ → Type 0) (Makes : (List PeerCall → Type 0) → Type 0) (o : Observer) (SoFar : List PeerCall → Type 0) (P : NotificationClass → Type 0) : Type 0 where
-  pub latest : Note
-  pub older : List Note
+pub record IsStoppedBy (went came : List ℕ → Type 0) (told : ℕ → Type 0) (Makes : (List PeerCall → Type 0) → Type 0) (o : Observer) (SoFar : List RenderedNote → List PeerCall → Type 0)
+    (P : NotificationClass → Type 0) : Type 0 where
+  pub latest : RenderedNote
+  pub older : List RenderedNote
+  pub rendered : AreRendered went came told o (latest ∷ older)
   pub w : Observation
-  pub watching : IsWatching went came told o.token o.id latest older w
-  pub called : Makes (AreBehind SoFar (EndsOnNotification told o.token w P))
+  pub watching : IsWatching went came told o.token o.id latest.note (notes_of older) w
+  pub called : Makes (AreBehind (SoFar (latest ∷ older)) (EndsOnNotification told o.token w P))
 
 -- the response to the registration came last, and it is a state.
 pub record IsStoppedByFirst (came : List ℕ → Type 0) (Makes : (List PeerCall → Type 0) → Type 0) (o : Observer) : Type 0 where
@@ -329,34 +351,58 @@ IsFirstFault came is_error Makes o (notes_error.Memory error) = IsStoppedByFirst
 
 -- the wait for a note failed: a notification can't be shown, memory for its mark can't be
 -- allocated, or the peer returned an error.
-abbrev pub IsStoppedWaiting : (List ℕ → Type 0) → (List ℕ → Type 0) → (ℕ → Type 0) → (PeerError → Type 0) → ((List PeerCall → Type 0) → Type 0) → Observer → (List PeerCall → Type 0) → FetchFault → Type 0
+abbrev pub IsStoppedWaiting : (List ℕ → Type 0) → (List ℕ → Type 0) → (ℕ → Type 0) → (PeerError → Type 0) → ((List PeerCall → Type 0) → Type 0) → Observer → (List RenderedNote → List PeerCall → Type 0) → FetchFault → Type 0
 IsStoppedWaiting went came told is_error Makes o SoFar fault.Part = UnfitCame came o.token o.id × IsStoppedBy went came told Makes o SoFar (λ n. n ≡ notice.Malformed)
 IsStoppedWaiting went came told is_error Makes o SoFar (fault.Memory error) = IsStoppedBy went came told Makes o SoFar IsNewState
 IsStoppedWaiting went came told is_error Makes o SoFar (fault.Socket error) = is_error error
 IsStoppedWaiting went came told is_error Makes o SoFar other = ⊥
 
--- the requests for the further blocks of the latest note failed. They were begun in some state of the
--- peer, after such calls.
+-- the requests for the further blocks of the latest note failed, or memory for its first block can't
+-- be allocated. They were begun in some state of the peer, after the notes before.
 pub record IsStoppedJoining {S : Type 0} (went came : List ℕ → Type 0) (told : ℕ → Type 0) (is_error : PeerError → Type 0) (called : S → List PeerCall → Type 0) (before : S) (o : Observer)
-    (SoFar : List PeerCall → Type 0) (f : FetchFault) : Type 0 where
+    (SoFar : List RenderedNote → List PeerCall → Type 0) (f : FetchFault) : Type 0 where
   pub at : S
   pub latest : Note
-  pub older : List Note
+  pub older : List RenderedNote
+  pub rendered : AreRendered went came told o older
   pub w : Observation
-  pub watching : IsWatching went came told o.token o.id latest older w
+  pub watching : IsWatching went came told o.token o.id latest (notes_of older) w
   pub further : has_further latest.message ≡ true
-  pub called_is : MakesCalls (called before) (called at) SoFar
+  pub called_is : MakesCalls (called before) (called at) (SoFar older)
   pub fails : IsFollowingFault came is_error o.token f
 
+-- the line for the latest note can't be written. The note has such a rendering, and the notes so
+-- far have these calls.
+pub record IsStoppedWriting (went came : List ℕ → Type 0) (told : ℕ → Type 0) (Makes : (List PeerCall → Type 0) → Type 0) (o : Observer) (SoFar : List RenderedNote → List PeerCall → Type 0)
+    (P : Rendering → Type 0) : Type 0 where
+  pub latest : RenderedNote
+  pub older : List RenderedNote
+  pub are : AreNotes went came told o.token o.id (notes_of (latest ∷ older))
+  pub rendered : AreRendered went came told o (latest ∷ older)
+  pub line : P latest.rendering
+  pub called : Makes (SoFar (latest ∷ older))
+
+-- a state of several blocks ends so.
+abbrev pub EndsStateBy : StateEnd → Rendering → Type 0
+EndsStateBy end Whole = ⊥
+EndsStateBy end (Blocks first w outcomes other) = other ≡ end
+
+-- its further blocks can't be fetched.
+abbrev pub IsMissingState : Rendering → Type 0
+IsMissingState r = (cause : Unfetched) × EndsStateBy (Missing cause) r
+
 -- a later note failed, after such calls: the wait for it or the requests for its further blocks
--- failed, memory for its first block can't be allocated, or a line can't be written.
-abbrev pub IsLaterFault : {S : Type 0} → (List ℕ → Type 0) → (List ℕ → Type 0) → (ℕ → Type 0) → (PeerError → Type 0) → (S → List PeerCall → Type 0) → S → S → Observer → (List PeerCall → Type 0) → NotesError → Type 0
+-- failed; its line can't be printed; or its further blocks can't be fetched, and the line on
+-- standard error can't be written.
+abbrev pub IsLaterFault : {S : Type 0} → (List ℕ → Type 0) → (List ℕ → Type 0) → (ℕ → Type 0) → (PeerError → Type 0) → (S → List PeerCall → Type 0) → S → S → Observer → (List RenderedNote → List PeerCall → Type 0) → NotesError → Type 0
 IsLaterFault went came told is_error called before after o SoFar (notes_error.Fault f) =
     IsStoppedWaiting went came told is_error (MakesCalls (called before) (called after)) o SoFar f ⊎ IsStoppedJoining went came told is_error called before o SoFar f
 IsLaterFault went came told is_error called before after o SoFar notes_error.Unobserved = ⊥
-IsLaterFault went came told is_error called before after o SoFar (notes_error.Print error) = MakesCalls (called before) (called after) SoFar
-IsLaterFault went came told is_error called before after o SoFar (notes_error.Report error) = MakesCalls (called before) (called after) SoFar
-IsLaterFault went came told is_error called before after o SoFar (notes_error.Memory error) = MakesCalls (called before) (called after) SoFar
+IsLaterFault went came told is_error called before after o SoFar (notes_error.Print error) =
+    IsStoppedWriting went came told (MakesCalls (called before) (called after)) o SoFar (λ r. has_line r ≡ true)
+IsLaterFault went came told is_error called before after o SoFar (notes_error.Report error) =
+    IsStoppedWriting went came told (MakesCalls (called before) (called after)) o SoFar IsMissingState
+IsLaterFault went came told is_error called before after o SoFar (notes_error.Memory error) = ⊥
 
 abbrev pub IsNotesFault : {S : Type 0} → (List ℕ → Type 0) → (List ℕ → Type 0) → (ℕ → Type 0) → (PeerError → Type 0) → (S → List PeerCall → Type 0) → S → S → Observer → Option ℕ → NotesError → Type 0
 IsNotesFault went came told is_error called before after o seconds e =
@@ -365,7 +411,8 @@ IsNotesFault went came told is_error called before after o seconds e =
 -- the observation ended, and its deregistration failed with this fault.
 pub record IsLeftInVain (is_error : PeerError → Type 0) (Makes : (List PeerCall → Type 0) → Type 0) (o : Observer) (seconds : Option ℕ) (f : FetchFault) : Type 0 where
   pub end : ObservationEnd
-  pub fails : IsLeavingFault is_error (λ Calls. Makes (AreBehind (IsTimedObservation o seconds end) Calls)) o f
+  pub rs : List RenderedNote
+  pub fails : IsLeavingFault is_error (λ Calls. Makes (AreBehind (IsTimedObservation o seconds end rs) Calls)) o f
 
 -- printing notes failed in some state of the peer.
 pub record IsFailedIn {S : Type 0} (went came : List ℕ → Type 0) (told : ℕ → Type 0) (is_error : PeerError → Type 0) (called : S → List PeerCall → Type 0) (before : S) (o : Observer)
@@ -435,13 +482,16 @@ IsObserveStop connected drawn went came tried told is_error called observing oth
 
 -- ---- steps
 
--- the notes so far were rendered, with this number of lines, and the watch has them.
-pub record IsShowing (went came : List ℕ → Type 0) (told : ℕ → Type 0) (o : Observer) (shown : Shown) (before now : Written) (lines : ℕ) (w : Observation) : Type 0 where
+-- the notes so far were rendered, with this number of lines, and the watch has them. The calls for
+-- them were made.
+pub record IsShowing (went came : List ℕ → Type 0) (told : ℕ → Type 0) (Called : List RenderedNote → Type 0) (o : Observer) (shown : Shown) (before now : Written) (lines : ℕ)
+    (w : Observation) : Type 0 where
   pub latest : RenderedNote
   pub older : List RenderedNote
   pub so_far : HasRendered went came told o shown before now (latest ∷ older)
   pub watching : IsWatching went came told o.token o.id latest.note (notes_of older) w
   pub count : lines_in (latest ∷ older) ≡ lines
+  pub called : Called (latest ∷ older)
 
 -- a note that isn't rendered yet is the last one, or a state that the watch has.
 abbrev pub IsPendingAs : (List ℕ → Type 0) → (List ℕ → Type 0) → (ℕ → Type 0) → Observer → Note → List Note → Observation → Bool → Type 0
@@ -449,7 +499,8 @@ IsPendingAs went came told o note older w true = notice_of note.message ≡ noti
 IsPendingAs went came told o note older w false = IsWatching went came told o.token o.id note older w
 
 -- the notes so far were rendered, and the next one is at the start of the buffer.
-pub record IsPending (went came : List ℕ → Type 0) (told : ℕ → Type 0) (o : Observer) (shown : Shown) (before now : Written) (lines : ℕ) (w : Observation) (buffer : List ℕ) (noted : NotedMessage) : Type 0 where
+pub record IsPending (went came : List ℕ → Type 0) (told : ℕ → Type 0) (Called : List RenderedNote → Type 0) (o : Observer) (shown : Shown) (before now : Written) (lines : ℕ) (w : Observation)
+    (buffer : List ℕ) (noted : NotedMessage) : Type 0 where
   pub note : Note
   pub older : List RenderedNote
   pub are : AreNotes went came told o.token o.id (note ∷ notes_of older)
@@ -458,11 +509,24 @@ pub record IsPending (went came : List ℕ → Type 0) (told : ℕ → Type 0) (
   pub within : noted.count ≤ length buffer
   pub read_is : reading_of (take noted.count buffer) ≡ Ok note.message
   pub pending : IsPendingAs went came told o note (notes_of older) w noted.last
+  pub succeeds : SucceedsNotes older note
+  pub called : Called older
 
--- the next note has arrived, or hasn't.
-abbrev pub IsReady : (List ℕ → Type 0) → (List ℕ → Type 0) → (ℕ → Type 0) → Observer → Shown → Written → Written → ℕ → Observation → List ℕ → Option NotedMessage → Type 0
-IsReady went came told o shown before now lines w buffer None = IsShowing went came told o shown before now lines w
-IsReady went came told o shown before now lines w buffer (Some noted) = IsPending went came told o shown before now lines w buffer noted
+-- the next note has arrived; or it hasn't, and no newer notification superseded the latest state.
+abbrev pub IsBeforeNext : (List ℕ → Type 0) → (List ℕ → Type 0) → (ℕ → Type 0) → (List RenderedNote → Type 0) → Observer → Shown → Written → Written → ℕ → Observation → List ℕ → Option NotedMessage → Type 0
+IsBeforeNext went came told Called o shown before now lines w buffer None =
+    (s : IsShowing went came told Called o shown before now lines w) × ((n : Note) → IsSuccessor s.latest.rendering n)
+IsBeforeNext went came told Called o shown before now lines w buffer (Some noted) = IsPending went came told Called o shown before now lines w buffer noted
+
+-- the next note: the one that has arrived already, or else the one that is awaited.
+abbrev pub IsNextNoted : (List ℕ → Type 0) → (List ℕ → Type 0) → (ℕ → Type 0) → List ℕ → Observation → Observation → List ℕ → List ℕ → Option NotedMessage → Option NotedMessage → Type 0
+IsNextNoted went came told token old new before after None noted = Watches went came told token after old new noted
+IsNextNoted went came told token old new before after (Some next) noted = (noted ≡ Some next) × ((new ≡ old) × (after ≡ before))
+
+-- the calls for it: none if it has arrived already.
+abbrev pub AwaitsNext : List ℕ → Bool → Option NotedMessage → Option NotedMessage → List PeerCall → Type 0
+AwaitsNext token ends None noted calls = AwaitsNote token ends (is_none noted) calls
+AwaitsNext token ends (Some next) noted calls = calls ≡ []
 
 -- a message is at the start of the buffer.
 abbrev pub HasMessage : List ℕ → NotedMessage → Type 0
@@ -472,51 +536,75 @@ abbrev pub HasNewer : List ℕ → Rendered → Type 0
 HasNewer buffer (rendered.Newer noted) = HasMessage buffer noted
 HasNewer buffer other = Unit {0}
 
--- the effect of a rendering: a line, or none and perhaps a newer notification. Only that changes the
--- watch.
+-- the effect of a rendering: a line; or none, since the further blocks can't be fetched, or since a
+-- newer notification arrived. Only such a notification changes the watch.
 abbrev pub IsEffect : (List ℕ → Type 0) → (List ℕ → Type 0) → (ℕ → Type 0) → List ℕ → Observation → Observation → List ℕ → Rendering → Rendered → Type 0
 IsEffect went came told token old new buffer r rendered.Line = (has_line r ≡ true) × (new ≡ old)
-IsEffect went came told token old new buffer r rendered.Missing = (has_line r ≡ false) × (new ≡ old)
+IsEffect went came told token old new buffer r rendered.Missing = IsMissingState r × (new ≡ old)
 IsEffect went came told token old new buffer r (rendered.Newer noted) =
-    (has_line r ≡ false) × ((noted.count ≤ length buffer) × IsNextNote went came told token (take noted.count buffer) noted.time old new noted.last)
-IsEffect went came told token old new buffer r rendered.Over = has_line r ≡ false
+    EndsStateBy (Superseded (take noted.count buffer) noted.time) r
+    × ((noted.count ≤ length buffer) × IsNextNote went came told token (take noted.count buffer) noted.time old new noted.last)
+IsEffect went came told token old new buffer r rendered.Over =
+    (bytes : List ℕ) × (time : ℕ) × (last : Bool) × EndsStateBy (Superseded bytes time) r × IsNextNote went came told token bytes time old new last
 
--- a message was rendered, with this effect.
-pub record IsRenderedAs (went came : List ℕ → Type 0) (told : ℕ → Type 0) (o : Observer) (shown : Shown) (m : Message) (before after : Written) (old new : Observation) (buffer : List ℕ) (effect : Rendered) : Type 0 where
+-- a rendering of the message, while the observer had this watch.
+abbrev pub IsRenderingOf : (List ℕ → Type 0) → (List ℕ → Type 0) → (ℕ → Type 0) → Observer → Observation → Message → Rendering → Type 0
+IsRenderingOf went came told o old m Whole = has_further m ≡ false
+IsRenderingOf went came told o old m (Blocks first w outcomes end) =
+    (w ≡ old) × ((has_further m ≡ true)
+    × (AreOutcomes went came told o old first (begun m) outcomes × IsStateEnd (state_from (begun m) outcomes) (length outcomes) end))
+
+-- no time is left after the further blocks, if the observation ends so.
+abbrev pub IsOverBy : Rendered → List PeerCall → Type 0
+IsOverBy rendered.Over calls = IsOverAtRest calls
+IsOverBy other calls = Unit {0}
+
+-- a message was rendered, with this effect and such calls.
+pub record IsRenderedAs (went came : List ℕ → Type 0) (told : ℕ → Type 0) (Makes : (List PeerCall → Type 0) → Type 0) (o : Observer) (shown : Shown) (seconds : Option ℕ) (start : ℕ)
+    (m : Message) (before after : Written) (old new : Observation) (buffer : List ℕ) (effect : Rendered) : Type 0 where
   pub rendering : Rendering
-  pub is : IsRendering went came o m rendering
+  pub is : IsRenderingOf went came told o old m rendering
   pub text : Appends before.out after.out (rendered_text shown m rendering)
   pub error : Appends before.err after.err (rendered_error rendering)
   pub effect_is : IsEffect went came told o.token old new buffer rendering effect
+  pub called : Makes (λ calls. IsRenderedBy o seconds start m rendering calls × IsOverBy effect calls)
 
--- the calls for that: none, or its further blocks are requested.
-abbrev pub IsRenderedBy : Observer → Option ℕ → ℕ → Rendered → List PeerCall → Type 0
-IsRenderedBy o seconds start rendered.Line calls = (calls ≡ []) ⊎ IsJoining o seconds start calls
-IsRenderedBy o seconds start rendered.Over calls = IsJoined o seconds start 0 calls
-IsRenderedBy o seconds start other calls = IsJoining o seconds start calls
+-- a message can't be written by such a rendering, after such calls.
+pub record IsUnwritten (went came : List ℕ → Type 0) (told : ℕ → Type 0) (Makes : (List PeerCall → Type 0) → Type 0) (o : Observer) (seconds : Option ℕ) (start : ℕ) (m : Message)
+    (old : Observation) (P : Rendering → Type 0) : Type 0 where
+  pub rendering : Rendering
+  pub is : IsRenderingOf went came told o old m rendering
+  pub line : P rendering
+  pub called : Makes (IsRenderedBy o seconds start m rendering)
+
+-- memory can't be allocated.
+abbrev pub IsNoMemory : FetchFault → Type 0
+IsNoMemory (fault.Memory error) = Unit {0}
+IsNoMemory other = ⊥
 
 -- the errors of that.
-abbrev pub IsRenderFault : (List ℕ → Type 0) → (PeerError → Type 0) → ((List PeerCall → Type 0) → Type 0) → Observer → Option ℕ → ℕ → Message → NotesError → Type 0
-IsRenderFault came is_error Makes o seconds start m (notes_error.Fault f) = (has_further m ≡ true) × IsFollowingFault came is_error o.token f
-IsRenderFault came is_error Makes o seconds start m notes_error.Unobserved = ⊥
-IsRenderFault came is_error Makes o seconds start m (notes_error.Print error) = Makes (IsRenderedBy o seconds start rendered.Line)
-IsRenderFault came is_error Makes o seconds start m (notes_error.Report error) = Makes (IsJoining o seconds start)
-IsRenderFault came is_error Makes o seconds start m (notes_error.Memory error) = Makes (λ calls. calls ≡ [])
+abbrev pub IsRenderFault : (List ℕ → Type 0) → (List ℕ → Type 0) → (ℕ → Type 0) → (PeerError → Type 0) → ((List PeerCall → Type 0) → Type 0) → Observer → Option ℕ → ℕ → Message → Observation → NotesError → Type 0
+IsRenderFault went came told is_error Makes o seconds start m old (notes_error.Fault f) = (has_further m ≡ true) × IsFollowingFault came is_error o.token f
+IsRenderFault went came told is_error Makes o seconds start m old notes_error.Unobserved = ⊥
+IsRenderFault went came told is_error Makes o seconds start m old (notes_error.Print error) = IsUnwritten went came told Makes o seconds start m old (λ r. has_line r ≡ true)
+IsRenderFault went came told is_error Makes o seconds start m old (notes_error.Report error) = IsUnwritten went came told Makes o seconds start m old IsMissingState
+IsRenderFault went came told is_error Makes o seconds start m old (notes_error.Memory error) = ⊥
 
 -- the last note was printed.
 abbrev pub IsLastPrinted : Shown → Message → Option (List ℕ) → Option (List ℕ) → ObservationEnd → Type 0
 IsLastPrinted shown m before after (Last code) = (m.code ≡ code.byte) × Appends before after (note_text shown m.code m.payload)
 IsLastPrinted shown m before after other = ⊥
 
--- one more line was printed; or the observation ended.
-abbrev pub IsTurn : (List ℕ → Type 0) → (List ℕ → Type 0) → (ℕ → Type 0) → Observer → Shown → Written → Written → ℕ → Observation → Option ObservationEnd → Type 0
-IsTurn went came told o shown before now lines w None = (s : IsShowing went came told o shown before now (lines + 1) w) × (has_line s.latest.rendering ≡ true)
-IsTurn went came told o shown before now lines w (Some end) = (limit : ℕ) → lines < limit → HasShown went came told o shown limit before now end
+-- the calls of an observation that ended.
+abbrev pub EndsNotes : Observer → Option ℕ → ℕ → ObservationEnd → List RenderedNote → List PeerCall → Type 0
+EndsNotes o seconds start end rs calls = ObservesNotes o seconds start rs calls × EndsInTime seconds end calls
 
--- the calls for that.
-abbrev pub IsLineBy : Observer → Option ℕ → ℕ → Option ObservationEnd → List PeerCall → Type 0
-IsLineBy o seconds start None calls = AreTurns o seconds start calls
-IsLineBy o seconds start (Some end) calls = AreTurns o seconds start calls × EndsInTime seconds end calls
+-- one more line was printed; or the observation ended.
+abbrev pub IsLineOrEnd : (List ℕ → Type 0) → (List ℕ → Type 0) → (ℕ → Type 0) → ((List PeerCall → Type 0) → Type 0) → Observer → Shown → Option ℕ → ℕ → Written → Written → ℕ → Observation → Option ObservationEnd → Type 0
+IsLineOrEnd went came told Makes o shown seconds start before now lines w None =
+    (s : IsShowing went came told (λ rs. Makes (ObservesNotes o seconds start rs)) o shown before now (lines + 1) w) × (has_line s.latest.rendering ≡ true)
+IsLineOrEnd went came told Makes o shown seconds start before now lines w (Some end) =
+    (limit : ℕ) → lines < limit → HasShown went came told (λ rs. Makes (EndsNotes o seconds start end rs)) o shown limit before now end
 
 -- the response to the registration is a state, and is at the start of the buffer.
 pub record IsFirstState (went came : List ℕ → Type 0) (told : ℕ → Type 0) (o : Observer) (buffer : List ℕ) (count : ℕ) (w : Observation) : Type 0 where
@@ -528,11 +616,12 @@ pub record IsFirstState (went came : List ℕ → Type 0) (told : ℕ → Type 0
 
 -- the response to the registration: a state, or the last one, which was printed.
 abbrev pub IsFirstShown : (List ℕ → Type 0) → (List ℕ → Type 0) → (ℕ → Type 0) → Observer → Shown → Option (List ℕ) → Option (List ℕ) → List ℕ → First → Type 0
-IsFirstShown went came told o shown before after buffer (State w count) = IsFirstState went came told o buffer count w × (after ≡ before)
-IsFirstShown went came told o shown before after buffer (Only code) =
-    (limit : ℕ) (err : Option (List ℕ)) → 1 ≤ limit → HasShown went came told o shown limit (record { out = before; err = err }) (record { out = after; err = err }) (Last code)
+IsFirstShown went came told o shown before after buffer (first.State w count) = IsFirstState went came told o buffer count w × (after ≡ before)
+IsFirstShown went came told o shown before after buffer (first.Only code) =
+    (limit : ℕ) (err : Option (List ℕ)) → 1 ≤ limit
+    → HasShown went came told (λ rs. Unit {0}) o shown limit (record { out = before; err = err }) (record { out = after; err = err }) (Last code)
 
 -- the calls for it: the watch has the time that the clock returned.
 abbrev pub IsFirstBy : Observer → First → List PeerCall → Type 0
-IsFirstBy o (State w count) calls = (d : IsDatedRegistration o calls) × (d.time ≡ w.at)
-IsFirstBy o (Only code) calls = IsDatedRegistration o calls
+IsFirstBy o (first.State w count) calls = (d : IsDatedRegistration o calls) × (d.time ≡ w.at)
+IsFirstBy o (first.Only code) calls = IsDatedRegistration o calls

@@ -1,13 +1,16 @@
 -- The rendering of an observer's notes: a line of output, a line on standard error, or none.
-use Rattle.std.specs.Prelude.{◌≡◌, ℕ, ◌+◌, ◌++◌, map, Bool, true, false, List, [], ◌∷◌, Option, codes, if◌then◌else◌}
-use Rattle.coap_client.specs.Notes.{Note}
+use Rattle.std.specs.Prelude.{◌≡◌, ℕ, ◌+◌, ◌++◌, map, Bool, true, false, List, [], ◌∷◌, length, Ok, Option, codes, if◌then◌else◌}
+use Rattle.coap_client.specs.Completions.{AreOutcomes, BlockOutcome, IsStateEnd, Joined, Missing, StateEnd, Superseded, state_from}
+use Rattle.coap_client.specs.Notes.{AreNotes, IsWatching, Note}
 use Rattle.coap_client.specs.Notices.{is_first_part}
 use Rattle.coap_client.specs.Parts.{largest_szx}
-use Rattle.coap_client.specs.Replies.{is_success, next_of_answer}
-use Rattle.coap_client.specs.Representations.{HasBody, unfetched_text}
+use Rattle.coap_client.specs.Replies.{next_of_answer}
+use Rattle.coap_client.specs.Representations.{begun, unfetched_text}
 use Rattle.coap_client.specs.declared.joining.Unfetched.{Unfetched}
 use Rattle.coap_client.specs.declared.observing.Observer.{Observer}
+use Rattle.coap_client.specs.declared.watch.Observation.{Observation}
 use Rattle.coap_msg.specs.Codes.{code_text}
+use Rattle.coap_msg.specs.Reading.{reading_of}
 use Rattle.coap_msg.specs.Wire.{Message}
 use Rattle.fc_fetch.specs.Fetching.{ended_line}
 use Rattle.fc_fetch.specs.Printing.{line_bytes}
@@ -30,34 +33,24 @@ has_further m = is_first_part (next_of_answer 0 largest_szx m)
 pub data Rendering : Type 0 where
   -- its message is whole, and is printed.
   Whole : Rendering
-  -- the blocks of its state, joined, are printed with the code of the last of them.
-  Joined : (code : ℕ) (body : List ℕ) → Rendering
-  -- nothing: a newer notification arrived while its further blocks were requested.
-  Superseded : Rendering
-  -- its further blocks can't be fetched, which is reported on standard error.
-  Missing : (cause : Unfetched) → Rendering
+  -- its message is the first of several blocks. While the observer had this watch, the others were
+  -- requested with message IDs from `first` on, with these outcomes, until this end of the state.
+  Blocks : (first : ℕ) (watch : Observation) (outcomes : List BlockOutcome) (end : StateEnd) → Rendering
 
--- a rendering that fits the message: just the first of several blocks has others to fetch.
-abbrev pub IsRendering : (List ℕ → Type 0) → (List ℕ → Type 0) → Observer → Message → Rendering → Type 0
-IsRendering went came o m Whole = has_further m ≡ false
-IsRendering went came o m (Joined code body) = (is_success code ≡ true) × HasBody went came o m code body
-IsRendering went came o m Superseded = has_further m ≡ true
-IsRendering went came o m (Missing cause) = has_further m ≡ true
-
--- its line of output, if it has one.
+-- its line of output, if it has one: a whole message, or the blocks of a state, joined.
 abbrev pub rendered_text : Shown → Message → Rendering → List ℕ
 rendered_text shown m Whole = note_text shown m.code m.payload
-rendered_text shown m (Joined code body) = note_text shown code body
+rendered_text shown m (Blocks first w outcomes (Joined code body)) = note_text shown code body
 rendered_text shown m other = []
 
--- its line on standard error, if it has one.
+-- its line on standard error, if it has one: a state whose further blocks can't be fetched.
 abbrev pub rendered_error : Rendering → List ℕ
-rendered_error (Missing cause) = missing_text cause
+rendered_error (Blocks first w outcomes (Missing cause)) = missing_text cause
 rendered_error other = []
 
 abbrev pub has_line : Rendering → Bool
 has_line Whole = true
-has_line (Joined code body) = true
+has_line (Blocks first w outcomes (Joined code body)) = true
 has_line other = false
 
 -- a note, and its rendering.
@@ -70,9 +63,45 @@ pub record RenderedNote : Type 0 where
 abbrev pub notes_of : List RenderedNote → List Note
 notes_of rs = map (λ r. r.note) rs
 
-abbrev pub AreRendered : (List ℕ → Type 0) → (List ℕ → Type 0) → Observer → List RenderedNote → Type 0
-AreRendered went came o [] = Unit {0}
-AreRendered went came o (r ∷ rs) = AreRendered went came o rs × IsRendering went came o r.note.message r.rendering
+-- a newer notification superseded the state.
+abbrev pub IsNewerNote : (List ℕ → Type 0) → (List ℕ → Type 0) → (ℕ → Type 0) → Observer → Note → List Note → StateEnd → Type 0
+IsNewerNote went came told o n older (Superseded bytes time) =
+    (newer : Note) × (reading_of bytes ≡ Ok newer.message) × AreNotes went came told o.token o.id (newer ∷ n ∷ older)
+IsNewerNote went came told o n older end = Unit {0}
+
+-- the further blocks of a state were requested, one after the other, until one of these ends: its
+-- blocks are whole, a newer notification arrived before, or they can't be fetched.
+pub record IsStateRendered (went came : List ℕ → Type 0) (told : ℕ → Type 0) (o : Observer) (n : Note) (older : List Note) (first : ℕ) (w : Observation) (outcomes : List BlockOutcome)
+    (end : StateEnd) : Type 0 where
+  pub further : has_further n.message ≡ true
+  pub watching : IsWatching went came told o.token o.id n older w
+  pub are : AreOutcomes went came told o w first (begun n.message) outcomes
+  pub ends : IsStateEnd (state_from (begun n.message) outcomes) (length outcomes) end
+  pub newer : IsNewerNote went came told o n older end
+
+-- the rendering fits the note: just the first of several blocks has others to fetch.
+abbrev pub IsRendering : (List ℕ → Type 0) → (List ℕ → Type 0) → (ℕ → Type 0) → Observer → Note → List Note → Rendering → Type 0
+IsRendering went came told o n older Whole = has_further n.message ≡ false
+IsRendering went came told o n older (Blocks first w outcomes end) = IsStateRendered went came told o n older first w outcomes end
+
+-- the notification that superseded a state is the next note.
+abbrev pub IsSuccessor : Rendering → Note → Type 0
+IsSuccessor (Blocks first w outcomes (Superseded bytes time)) n = reading_of bytes ≡ Ok n.message
+IsSuccessor other n = Unit {0}
+
+abbrev pub SucceedsNotes : List RenderedNote → Note → Type 0
+SucceedsNotes [] n = Unit {0}
+SucceedsNotes (r ∷ rs) n = IsSuccessor r.rendering n
+
+abbrev pub AreRendered : (List ℕ → Type 0) → (List ℕ → Type 0) → (ℕ → Type 0) → Observer → List RenderedNote → Type 0
+AreRendered went came told o [] = Unit {0}
+AreRendered went came told o (r ∷ rs) =
+    AreRendered went came told o rs × (IsRendering went came told o r.note (notes_of rs) r.rendering × SucceedsNotes rs r.note)
+
+-- all of them are whole messages.
+abbrev pub AreWhole : List RenderedNote → Type 0
+AreWhole [] = Unit {0}
+AreWhole (r ∷ rs) = AreWhole rs × (r.rendering ≡ Whole)
 
 -- the output, in order of arrival.
 abbrev pub notes_text : Shown → List RenderedNote → List ℕ

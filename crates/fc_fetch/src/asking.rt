@@ -21,8 +21,8 @@ use std::rt::Files;
 /// printed as [`fetch`](crate::fetch) prints it, or the bytes of a success are written to a file.
 /// The file is created or emptied only then. `input` isn't read unless it is the body.
 ///
-/// Returns the status of [`fetch`](crate::fetch) or [`fetch_to`](crate::fetch_to). Returns `Failed`
-/// if the body's file can't be opened.
+/// Returns the status of [`fetch`](crate::fetch) or [`fetch_to_by`]. Returns `Failed` if the body's
+/// file can't be opened.
 pub fn ask_by<C: Connector, R: Files, I: Read, W: Write, E: Write>(
     connector: &C,
     files: &R,

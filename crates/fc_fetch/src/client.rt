@@ -1,7 +1,7 @@
 //! A client's request: its options, and how its response is printed.
 //!
-//! [`fetch`] and [`fetch_to`] send it by the system's sockets. The contracts are those of
-//! [`fetch_by`] and [`fetch_to_by`], which send it by any [`Connector`].
+//! [`fetch`] sends it by the system's sockets. The contracts are those of [`fetch_by`] and
+//! [`fetch_to_by`], which send it by any [`Connector`].
 ghost use Rattle.std.specs.Io.KnownBytes.{Appends};
 ghost use Rattle.std.specs.Prelude.{◌≡◌, ◌⊎◌, IfErr, IfNone, IfOk, IfSome, None, OnOk};
 ghost use Rattle.coap_msg.specs.Codes.{code_text};
@@ -145,29 +145,13 @@ pub fn fetch_by<C: Connector, I: Read, W: Write, E: Write>(
     }
 }
 
-/// Sends a request as [`fetch`] does, and writes the bytes of a success to `file`.
+/// Sends a request as [`fetch_by`] does, and writes the bytes of a success to `file`.
 ///
 /// Of a success, it prints the code alone. Any other response is printed whole, and `file` isn't
-/// written to.
+/// written to. `name` is the file's name, for the reason of a failure.
 ///
 /// Returns the status of [`fetch`]. Returns `Failed` if writing the file fails: `err` then gets the
 /// file's name.
-pub fn fetch_to<R: Net + Clock + RandomSource, I: Read, W: Write, F: Write, E: Write>(
-    rt: &R,
-    alloc: Global,
-    input: &mut I,
-    out: &mut W,
-    file: &mut F,
-    name: &str,
-    err: &mut E,
-    asking: &FetchOptions<'_>,
-) -> Status {
-    fetch_to_by(&System { rt }, alloc, input, out, file, name, err, asking)
-}
-
-/// Sends a request as [`fetch_to`] does, to a server that `connector` connects to.
-///
-/// `name` is the file's name, for the reason of a failure.
 pub fn fetch_to_by<C: Connector, I: Read, W: Write, F: Write, E: Write>(
     connector: &C,
     alloc: Global,

@@ -1,7 +1,7 @@
 //! Laws about the definitions.
 //!
 //! Each law is the contract of an empty function.
-ghost use Rattle.std.specs.Prelude.{◌≡◌, ◌⊎◌, ◌+◌, ◌++◌, ◌<◌, ◌≤◌, ◌^◌, ℕ, [], ◌∷◌, List, None, Some, codes, false, length, true};
+ghost use Rattle.std.specs.Prelude.{◌≡◌, ◌⊎◌, ◌+◌, ◌++◌, ◌<◌, ◌≤◌, ◌^◌, ℕ, [], ◌∷◌, List, None, Ok, Option, Some, codes, false, length, true};
 ghost use Rattle.std.specs.List.{All, after_first, before_first};
 ghost use Rattle.std.specs.Net.Addr.{ipv4_octets};
 ghost use Rattle.std.specs.Net.Socket.{v4_ip, v4_port};
@@ -16,20 +16,29 @@ ghost use Rattle.fc_fetch.specs.declared.address.AddressError.TheVariants.{NoMem
 ghost use Rattle.fc_fetch.specs.Operations.{IsFormatNamed, IsOperationError, body_at};
 ghost use Rattle.fc_fetch.specs.declared.operation.OperationError.TheVariants.{Missing};
 ghost use Rattle.fc_fetch.specs.declared.operation.BodySource.TheVariants as source;
-ghost use Rattle.coap_client.specs.PeerCalls.{PeerCall, Waits};
+ghost use Rattle.coap_client.specs.Completions.{BlockOutcome, IsFollowing, Joined, Missing, StateEnd, Superseded, state_from};
+ghost use Rattle.coap_client.specs.Fetching.{Ended};
+ghost use Rattle.coap_client.specs.PeerCalls.{PeerCall, Reads, Waits};
+ghost use Rattle.coap_client.specs.Representations.{begun};
 ghost use Rattle.coap_client.specs.Schedules.{schedule};
 ghost use Rattle.coap_client.specs.declared.observing.Observer.{Observer};
-ghost use Rattle.coap_client.specs.Notes.{Note};
+ghost use Rattle.coap_client.specs.Notes.{IsAfter, Note};
+ghost use Rattle.coap_client.specs.declared.watch.Observation.{Observation};
+ghost use Rattle.coap_msg.specs.Reading.{reading_of};
+ghost use Rattle.coap_msg.specs.Wire.{Message};
 ghost use Rattle.coap_msg.specs.declared.code.Code.{Code};
 ghost use Rattle.fc_cli.specs.declared.status.Status.TheVariants.{Done, Refused};
 ghost use Rattle.fc_fetch.specs.Fetching.{ending_of};
-ghost use Rattle.fc_fetch.specs.Observing.{IsEnd, IsTimedObservation, IsWaitedFor, lines_wanted, rest_wait};
-ghost use Rattle.fc_fetch.specs.Rendering.{Joined, Missing, RenderedNote, Superseded, Whole, errors_text, lines_in, notes_text};
+ghost use Rattle.fc_fetch.specs.Observing.{IsAtFirst, IsEnd, IsRenderedBy, IsTimedObservation, IsWaitedFor, lines_wanted, rest_wait};
+ghost use Rattle.fc_fetch.specs.Rendering.{AreRendered, AreWhole, Blocks, IsRendering, RenderedNote, Rendering, Whole, errors_text, has_line, lines_in, missing_text, notes_text, rendered_error};
 ghost use Rattle.fc_fetch.specs.declared.printer.Shown.TheVariants.{Text};
+ghost use Rattle.coap_client.specs.declared.joining.Unfetched.{Unfetched};
 ghost use Rattle.coap_client.specs.declared.joining.Unfetched.TheVariants.{Changed};
 ghost use Rattle.fc_fetch.specs.declared.observer.ObservationEnd.{ObservationEnd};
 ghost use Rattle.fc_fetch.specs.declared.observer.ObservationEnd.TheVariants.{Counted, Last, Over};
 ghost use Rattle.fc_fetch.specs.declared.address.Address.{Address};
+
+use coap_client::Peer;
 
 /// A URI without a port has port 5683 (RFC 7252, section 6.1).
 pub fn a_uri_without_a_port_is_of_port_5683()
@@ -56,17 +65,45 @@ pub fn a_path_has_a_port_and_a_uri_has_none()
 /// The waits of an observation, with and without `--seconds`.
 ///
 /// With `--seconds 5` it begins one wait after the registration, of 5 seconds, and sends no request
-/// during that wait, unless it requests the further blocks of a state. Then what is left begins
-/// again: 3 seconds after 2,200 ms, and none after 5,001 ms. Without it, each wait is of 86,400
-/// seconds, and the time is over only after 2^64 - 1 waits. Nothing is called if the first response
-/// is the last.
+/// during that wait, if each note is whole. After the requests for the further blocks of a state,
+/// the rest begins again, once: 3 seconds after 2,200 ms, and none after 5,001 ms. Without it, each
+/// wait is of 86,400 seconds, and the time is over only after 2^64 - 1 waits. Nothing is called if
+/// the first response is the last.
 pub fn an_observation_lasts_so_many_seconds()
-    ensures seconds { (o : Observer) (start : ℕ) (calls : List PeerCall) (w : IsWaitedFor o (Some 5) start calls) → w.turns.0 ≡ 0 → schedule calls ≡ Waits 5 ∷ [] }
-    ensures days { (o : Observer) (start : ℕ) (calls : List PeerCall) (w : IsWaitedFor o None start calls) → w.turns.0 ≡ 0 → All (λ c. c ≡ Waits 86400) (schedule calls) }
+    ensures seconds { (o : Observer) (start : ℕ) (rs : List RenderedNote) (calls : List PeerCall) → AreWhole rs → IsWaitedFor o (Some 5) start rs calls
+        → schedule calls ≡ Waits 5 ∷ [] }
+    ensures days { (o : Observer) (start : ℕ) (rs : List RenderedNote) (calls : List PeerCall) → AreWhole rs → IsWaitedFor o None start rs calls
+        → All (λ c. c ≡ Waits 86400) (schedule calls) }
+    ensures whole { (o : Observer) (seconds : Option ℕ) (start : ℕ) (m : Message) (calls : List PeerCall) → IsRenderedBy o seconds start m Whole calls → calls ≡ [] }
+    ensures blocks { (o : Observer) (first : ℕ) (w : Observation) (outcomes : List BlockOutcome) (end : StateEnd) (m : Message) (calls : List PeerCall)
+        → (r : IsRenderedBy o (Some 5) 1000 m (Blocks first w outcomes end) calls) → r.now ≡ 3200
+        → (calls ≡ Waits 3 ∷ Reads 3200 ∷ r.following) × IsFollowing o first (begun m) outcomes end r.following }
     ensures rest { (rest_wait (Some 5) 1000 3200 ≡ 3) × ((rest_wait (Some 5) 1000 6001 ≡ 0) × (rest_wait None 1000 3200 ≡ 86400)) }
-    ensures last { (o : Observer) (end : ObservationEnd) (calls : List PeerCall) (t : IsTimedObservation o (Some 5) end calls)
-        → (t.newer ≡ []) ⊎ IsWaitedFor o (Some 5) t.registered.time t.newer }
-    ensures over { (o : Observer) (calls : List PeerCall) (t : IsTimedObservation o None Over calls) → 2 ^ 64 ≤ length (schedule t.newer) + 1 }
+    ensures last { (o : Observer) (end : ObservationEnd) (rs : List RenderedNote) (calls : List PeerCall) (t : IsTimedObservation o (Some 5) end rs calls)
+        → (IsAtFirst end × (t.newer ≡ [])) ⊎ IsWaitedFor o (Some 5) t.registered.time rs t.newer }
+    ensures over { (o : Observer) (rs : List RenderedNote) (calls : List PeerCall) (t : IsTimedObservation o None Over rs calls) → 2 ^ 64 ≤ length (schedule t.newer) + 1 }
+{}
+
+/// The end of each state of several blocks.
+///
+/// It has a line if its blocks are joined. It is reported on standard error if its further blocks
+/// can't be fetched. It has neither if it is superseded: a newer notification arrived before its
+/// blocks were whole, and is the next note, if there is one.
+pub fn each_large_state_ends_in_one_way<P: Peer>()
+    ensures joined { (first code : ℕ) (w : Observation) (outcomes : List BlockOutcome) (body : List ℕ) → let r = Blocks first w outcomes (Joined code body) in
+        (has_line r ≡ true) × (rendered_error r ≡ []) }
+    ensures missing { (first : ℕ) (w : Observation) (outcomes : List BlockOutcome) (cause : Unfetched) → let r = Blocks first w outcomes (Missing cause) in
+        (has_line r ≡ false) × (rendered_error r ≡ missing_text cause) }
+    ensures superseded { (first time : ℕ) (w : Observation) (outcomes : List BlockOutcome) (bytes : List ℕ) → let r = Blocks first w outcomes (Superseded bytes time) in
+        (has_line r ≡ false) × (rendered_error r ≡ []) }
+    ensures newer { (o : Observer) (n : Note) (older : List Note) (first time code : ℕ) (w : Observation)
+        (outcomes : List BlockOutcome) (bytes body : List ℕ) → IsRendering P.went P.came P.is_time o n older (Blocks first w outcomes (Superseded bytes time))
+        → (state_from (begun n.message) outcomes ≡ Ended code body → ⊥)
+        × ((newer : Note) × (reading_of bytes ≡ Ok newer.message) × IsAfter n newer) }
+    ensures next { (o : Observer) (n next : Note) (rs : List RenderedNote) (rendering : Rendering) (first time : ℕ)
+        (w : Observation) (outcomes : List BlockOutcome) (bytes : List ℕ)
+        → AreRendered P.went P.came P.is_time o (record { note = next; rendering = rendering } ∷ record { note = n; rendering = Blocks first w outcomes (Superseded bytes time) } ∷ rs)
+        → reading_of bytes ≡ Ok next.message }
 {}
 
 /// The number of lines that an observation prints.
@@ -87,10 +124,13 @@ pub fn an_observation_prints_so_many_lines()
 /// nor has one whose further blocks can't be fetched: standard error gets a line for that.
 pub fn each_note_is_rendered_once()
     ensures whole { (n : Note) → n.message.code ≡ 69 → n.message.payload ≡ codes "19" → notes_text Text (record { note = n; rendering = Whole } ∷ []) ≡ codes "2.05 19" ++ (10 ∷ []) }
-    ensures joined { (n : Note) → notes_text Text (record { note = n; rendering = Joined 69 (codes "1234") } ∷ []) ≡ codes "2.05 1234" ++ (10 ∷ []) }
-    ensures superseded { (n : Note) → let r : RenderedNote = record { note = n; rendering = Superseded } in
+    ensures joined { (n : Note) (first : ℕ) (w : Observation) (outcomes : List BlockOutcome)
+        → notes_text Text (record { note = n; rendering = Blocks first w outcomes (Joined 69 (codes "1234")) } ∷ []) ≡ codes "2.05 1234" ++ (10 ∷ []) }
+    ensures superseded { (n : Note) (first time : ℕ) (w : Observation) (outcomes : List BlockOutcome) (bytes : List ℕ)
+        → let r : RenderedNote = record { note = n; rendering = Blocks first w outcomes (Superseded bytes time) } in
         (notes_text Text (r ∷ []) ≡ []) × ((errors_text (r ∷ []) ≡ []) × (lines_in (r ∷ []) ≡ 0)) }
-    ensures missing { (n : Note) → let r : RenderedNote = record { note = n; rendering = Missing Changed } in
+    ensures missing { (n : Note) (first : ℕ) (w : Observation) (outcomes : List BlockOutcome)
+        → let r : RenderedNote = record { note = n; rendering = Blocks first w outcomes (Missing Changed) } in
         (notes_text Text (r ∷ []) ≡ []) × ((errors_text (r ∷ []) ≡ codes "a state isn't printed: it changed while its blocks were fetched" ++ (10 ∷ [])) × (lines_in (r ∷ []) ≡ 0)) }
 {}
 

@@ -42,28 +42,32 @@
 //!   sent, and each note came with its token. Each state is newer than the one before it (RFC 7641,
 //!   section 3.4). No message is a duplicate, by its message ID within 247 s, of one before it. Each
 //!   can be shown, and each but the last is a state.
-//! - A note whose message is whole has one line. A state of several blocks has one line with its
-//!   blocks, which were requested and are joined; or none; or none but a line on standard error with
-//!   a reason. No clause says that a state without any line was superseded, nor that the reason is
-//!   the right one. No clause says which blocks a request names.
+//! - A note whose message is whole has one line. A state of several blocks ends in one of three
+//!   ways. Its blocks, which were requested one after the other, are joined in one line. Or a newer
+//!   notification arrived before they were whole; it has no line, and that notification is the next
+//!   note, unless the time is over. Or they can't be fetched, and standard error has a line with
+//!   the reason, which follows from the last message. After these lines, standard error has one
+//!   more if the last response is a success without a sequence number. No clause says what
+//!   standard error has if the observation fails.
 //! - An observation that ends by its count has printed exactly that many lines, and one that ends
 //!   by its time has printed fewer. In both cases the last message is a state as well, and the
 //!   deregistration was sent and acknowledged. Otherwise the last is an error or has no sequence
 //!   number.
 //! - Between the registration and the deregistration an observer begins waits and receives. It
 //!   sends only the acknowledgement of each confirmable notification, and requests for further
-//!   blocks. With `--seconds S` it begins one wait, of S seconds, and after such requests one of
-//!   what is left of them, rounded up. (The clause allows that also after a note that is whole.)
-//!   The observation ends by its time only if its wait is over, if nothing was left after such
-//!   requests, or after at least 2^64 - 1 calls on the peer. Without it, each wait is of a day, and
-//!   none ends the observation before 2^64 - 1 waits. After the deregistration, or an error or a
-//!   response without a sequence number, nothing is called.
+//!   blocks. With `--seconds S` it begins one wait, of S seconds, and one of what is left of them,
+//!   rounded up, after the requests for each state of several blocks. The observation ends by its
+//!   time only if its wait is over, if nothing was left after such requests, or after at least
+//!   2^64 - 1 calls on the peer. Without it, each wait is of a day, and none ends the observation
+//!   before 2^64 - 1 waits. After the deregistration, or an error or a response without a sequence
+//!   number, nothing is called.
 //! - An observation fails for one of these reasons. No response, or a Reset message, came to its
 //!   registration or its deregistration. The message that came last can't be shown. Memory for a
-//!   state can't be allocated. A line can't be written. Memory for a request can't be
-//!   allocated, and nothing was called. Or a call of the peer failed. While further blocks are
-//!   requested, it fails if a notification can't be shown, for memory, or by its peer; no clause
-//!   says which calls were made since the last note then, nor that memory was exhausted.
+//!   newer state can't be allocated. The line of the last note can't be printed, or the line about
+//!   its missing blocks can't be written. Memory for a request can't be allocated, and nothing was
+//!   called. Or a call of the peer failed. While further blocks of the last note are requested, it
+//!   fails if a notification can't be shown, for memory, or by its peer; no clause says which calls
+//!   were made since that note then, nor that memory was exhausted.
 //!   Even then its deregistration was passed to the peer, unless nothing was called, or the
 //!   registration was rejected or got no response. The deregistration was sent until it was
 //!   acknowledged or rejected, or by its whole schedule, unless a call of the peer failed.
@@ -93,7 +97,7 @@ mod rendering;
 pub mod resource;
 mod waits;
 
-pub use client::{FetchOptions, fetch, fetch_to};
+pub use client::{FetchOptions, fetch};
 pub use connector::{Connector, System};
 pub use observer::{Observing, observe};
 pub use operation::{Asking, BodySource, Operation, operation_of};

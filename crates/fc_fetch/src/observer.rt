@@ -3,9 +3,10 @@
 //! It prints one line for each (RFC 7641). `fcreq observe` calls [`observe`], which uses the
 //! system's sockets. [`observe_by`] uses any [`Connector`], and has the contract.
 ghost use Rattle.std.specs.Prelude.{◌≡◌, ◌≤◌, IfErr, IfOk, OnErr, OnOk};
+ghost use Rattle.std.specs.Io.KnownBytes.{Appends};
 ghost use Rattle.coap_client.specs.Faults.{IsLeavingFault, deregistration_of};
 ghost use Rattle.coap_client.specs.Transmissions.{MakesCalls};
-ghost use Rattle.fc_fetch.specs.Observing.{HasEnded, HasLeft, HasShown, IsEndFault, IsClientRequestStop, IsFirstBy, IsFirstFault, IsFirstShown, IsLeaving, IsNotesFault, IsObserveStop, IsObserved, IsObservedAt, IsObservedIn, IsTimedObservation, IsToldEnd, LeavesAtFault, ObservesToEnd, lines_wanted, unfit_error};
+ghost use Rattle.fc_fetch.specs.Observing.{HasEnded, HasLeft, HasShown, IsEndFault, IsClientRequestStop, IsFirstBy, IsFirstFault, IsFirstShown, IsLeaving, IsNotesFault, IsObserveStop, IsObserved, IsObservedAt, IsObservedIn, IsTimedObservation, IsToldEnd, LeavesAtFault, ObservesToEnd, lines_wanted, unfit_error, unobserved_text};
 ghost use Rattle.fc_fetch.specs.Observing as spec;
 ghost use Rattle.fc_fetch.specs.declared.observer.NotesError.TheVariants as notes_error;
 
@@ -144,7 +145,7 @@ pub fn observe_by<C: Connector, W: Write, E: Write>(
     observing: &Observing<'_>,
 ) -> Status
     ensures { HasEnded (IsObserved C.connected C.drawn C.Server.went C.Server.came C.Server.is_time C.Server.called observing.now
-        (record { out = W.contents out.old; err = E.contents err.old }) (W.contents out.new))
+        (record { out = W.contents out.old; err = E.contents err.old }) (record { out = W.contents out.new; err = E.contents err.new }))
         (IsObserveStop C.connected C.drawn C.Server.went C.Server.came C.Server.tried C.Server.is_time C.Server.is_error C.Server.called observing.now) result }
 {
     match observe_to_end(connector, alloc, out, err, observing) {
@@ -156,17 +157,26 @@ pub fn observe_by<C: Connector, W: Write, E: Write>(
 // Returns the status of a program whose observation ended. Writes to `err` if the last response is
 // a success without a sequence number; returns `Failed` if that fails.
 fn finish<E: Write>(err: &mut E, end: ObservationEnd) -> Status
-    ensures { IsToldEnd end result }
+    ensures { IsToldEnd end (E.contents err.old) (E.contents err.new) result }
 {
     match end {
         ObservationEnd::Counted | ObservationEnd::Over => Status::Done,
-        ObservationEnd::Last(code) if code.class() == SUCCESS => tell(
-            err,
-            &"the answer has no Observe: the server doesn't notify of changes, or has no place for another observer",
-            Status::Refused,
-        ),
+        ObservationEnd::Last(code) if code.class() == SUCCESS => match write_unobserved(err) {
+            Ok(()) => Status::Refused,
+            Err(_) => Status::Failed,
+        },
         ObservationEnd::Last(_) => Status::Refused,
     }
+}
+
+// Reports in a line that the last response has no sequence number.
+fn write_unobserved<E: Write>(err: &mut E) -> io::Result<()>
+    ensures { OnOk result (Appends (E.contents err.old) (E.contents err.new) unobserved_text) }
+{
+    writeln!(
+        err,
+        "the answer has no Observe: the server doesn't notify of changes, or has no place for another observer"
+    )
 }
 
 // Observes the target, to the observation's end. Returns the reason if it fails.
@@ -257,11 +267,10 @@ pub fn print_to_end<P: Peer, W: Write, E: Write>(
     extent: ObservationExtent,
     buffer: &mut Buffer,
 ) -> Result<ObservationEnd, NotesError>
-    ensures shown { IfOk result (HasShown P.went P.came P.is_time observer.now shown (lines_wanted extent.count)
-        (record { out = W.contents out.old; err = E.contents err.old }) (record { out = W.contents out.new; err = E.contents err.new })) }
+    ensures shown { IfOk result (λ end. HasShown P.went P.came P.is_time
+        (λ rs. MakesCalls (P.called peer.old) (P.called peer.new) (ObservesToEnd observer.now extent.seconds end rs)) observer.now shown (lines_wanted extent.count)
+        (record { out = W.contents out.old; err = E.contents err.old }) (record { out = W.contents out.new; err = E.contents err.new }) end) }
     ensures left { IfOk result (HasLeft P.went P.came observer.now) }
-    ensures called { IfOk result (λ end. MakesCalls (P.called peer.old) (P.called peer.new)
-        (ObservesToEnd observer.now extent.seconds end)) }
     ensures fault { IfErr result (IsEndFault P.went P.came P.is_time P.is_error P.called peer.old peer.new
         observer.now extent.seconds) }
     ensures leaves { OnErr result (LeavesAtFault P.called P.is_error P.tried peer.old peer.new observer.now) }
@@ -335,10 +344,9 @@ pub fn print_notes<P: Peer, W: Write, E: Write>(
     extent: ObservationExtent,
     buffer: &mut Buffer,
 ) -> Result<ObservationEnd, NotesError>
-    ensures shown { IfOk result (HasShown P.went P.came P.is_time observer.now shown (lines_wanted extent.count)
-        (record { out = W.contents out.old; err = E.contents err.old }) (record { out = W.contents out.new; err = E.contents err.new })) }
-    ensures called { IfOk result (λ end. MakesCalls (P.called peer.old) (P.called peer.new)
-        (IsTimedObservation observer.now extent.seconds end)) }
+    ensures shown { IfOk result (λ end. HasShown P.went P.came P.is_time
+        (λ rs. MakesCalls (P.called peer.old) (P.called peer.new) (IsTimedObservation observer.now extent.seconds end rs)) observer.now shown (lines_wanted extent.count)
+        (record { out = W.contents out.old; err = E.contents err.old }) (record { out = W.contents out.new; err = E.contents err.new }) end) }
     ensures fault { IfErr result (IsNotesFault P.went P.came P.is_time P.is_error P.called peer.old peer.new
         observer.now extent.seconds) }
 {

@@ -1,14 +1,14 @@
 //! The rendering of an observer's notes: a line of output for each, or the reason why not.
 //!
 //! The blocks of a state of several blocks are joined before it is printed.
-ghost use Rattle.std.specs.Prelude.{◌≡◌, ℕ, IfErr, IfOk, IfSome, None, OnErr, OnOk, true, take, is_none};
+ghost use Rattle.std.specs.Prelude.{◌≡◌, ℕ, IfErr, IfOk, IfSome, None, OnErr, OnOk, true, take};
 ghost use Rattle.std.specs.Io.KnownBytes.{Appends};
-ghost use Rattle.coap_client.specs.Representations.{begun, state_of};
+ghost use Rattle.coap_client.specs.Representations.{IsBegun, begun, state_of};
 ghost use Rattle.coap_client.specs.Requests.{IsBlock};
 ghost use Rattle.coap_client.specs.Transmissions.{MakesCalls};
 ghost use Rattle.coap_msg.specs.Reading.{reading_of};
 ghost use Rattle.coap_msg.specs.Wire.{Message as Read};
-ghost use Rattle.fc_fetch.specs.Observing.{AreTurns, AwaitsNote, HasMessage, HasNewer, IsAwaitFault, IsLastPrinted, IsLaterFault, IsLineBy, IsReady, IsRenderedAs, IsRenderedBy, IsRenderFault, IsTurn};
+ghost use Rattle.fc_fetch.specs.Observing.{AwaitsNext, HasMessage, HasNewer, IsAwaitFault, IsBeforeNext, IsLastPrinted, IsLaterFault, IsLineOrEnd, IsNextNoted, IsNoMemory, IsRenderedAs, IsRenderFault, ObservesNotes};
 ghost use Rattle.fc_fetch.specs.Rendering.{Written, has_further, missing_text, note_text};
 
 use crate::observer::{NotesError, ObservationEnd};
@@ -18,7 +18,7 @@ use coap_client::peer::Buffer;
 use coap_client::{
     Completion, FetchFault, Joining, NotedMessage, Observation, Observer, Peer, Unfetched,
 };
-use coap_msg::read;
+use coap_msg::{Message, read};
 use std::alloc::Global;
 use std::io;
 use std::io::Write;
@@ -52,13 +52,15 @@ pub(crate) fn print_line<P: Peer, W: Write, E: Write>(
     buffer: &mut Buffer,
 ) -> Result<Option<ObservationEnd>, NotesError>
     requires { IfSome next (HasMessage buffer.old) }
-    ensures turn { IfOk result (λ end. (before : Written) (lines : ℕ) →
-        IsReady P.went P.came P.is_time observer.now shown before (record { out = W.contents out.old; err = E.contents err.old }) lines watch.old buffer.old next →
-        IsTurn P.went P.came P.is_time observer.now shown before (record { out = W.contents out.new; err = E.contents err.new }) lines watch.new end) }
-    ensures called { IfOk result (λ end. MakesCalls (P.called peer.old) (P.called peer.new) (IsLineBy observer.now limit.seconds limit.start end)) }
-    ensures fault { IfErr result (λ error. (before : Written) (lines : ℕ) →
-        IsReady P.went P.came P.is_time observer.now shown before (record { out = W.contents out.old; err = E.contents err.old }) lines watch.old buffer.old next →
-        IsLaterFault P.went P.came P.is_time P.is_error P.called peer.old peer.new observer.now (AreTurns observer.now limit.seconds limit.start) error) }
+    ensures line { IfOk result (λ end. (begun : P) (before : Written) (lines : ℕ) →
+        IsBeforeNext P.went P.came P.is_time (λ rs. MakesCalls (P.called begun) (P.called peer.old) (ObservesNotes observer.now limit.seconds limit.start rs))
+        observer.now shown before (record { out = W.contents out.old; err = E.contents err.old }) lines watch.old buffer.old next →
+        IsLineOrEnd P.went P.came P.is_time (MakesCalls (P.called begun) (P.called peer.new)) observer.now shown limit.seconds limit.start
+        before (record { out = W.contents out.new; err = E.contents err.new }) lines watch.new end) }
+    ensures fault { IfErr result (λ error. (begun : P) (before : Written) (lines : ℕ) →
+        IsBeforeNext P.went P.came P.is_time (λ rs. MakesCalls (P.called begun) (P.called peer.old) (ObservesNotes observer.now limit.seconds limit.start rs))
+        observer.now shown before (record { out = W.contents out.old; err = E.contents err.old }) lines watch.old buffer.old next →
+        IsLaterFault P.went P.came P.is_time P.is_error P.called begun peer.new observer.now (ObservesNotes observer.now limit.seconds limit.start) error) }
 {
     let mut next = next;
     for _ in 0..u64::MAX {
@@ -92,10 +94,8 @@ fn next_note<P: Peer>(
 ) -> Result<Option<NotedMessage>, FetchFault>
     requires { IfSome next (HasMessage buffer.old) }
     ensures message { IfOk result (λ noted. IfSome noted (HasMessage buffer.new)) }
-    ensures noted { IfOk result (λ noted. (shown : Shown) (before now : Written) (lines : ℕ) →
-        IsReady P.went P.came P.is_time observer.now shown before now lines watch.old buffer.old next →
-        IsReady P.went P.came P.is_time observer.now shown before now lines watch.new buffer.new noted) }
-    ensures called { IfOk result (λ noted. MakesCalls (P.called peer.old) (P.called peer.new) (AwaitsNote observer.now.token ends (is_none noted))) }
+    ensures noted { IfOk result (IsNextNoted P.went P.came P.is_time observer.now.token watch.old watch.new buffer.old buffer.new next) }
+    ensures called { IfOk result (λ noted. MakesCalls (P.called peer.old) (P.called peer.new) (AwaitsNext observer.now.token ends next noted)) }
     ensures awaited { OnErr result (next ≡ None) }
     ensures fault { IfErr result (IsAwaitFault P.came P.is_time P.is_error (MakesCalls (P.called peer.old) (P.called peer.new)) observer.now ends watch.old) }
 {
@@ -140,16 +140,16 @@ fn render<P: Peer, W: Write, E: Write>(
     requires { HasMessage buffer.old noted }
     ensures message { IfOk result (HasNewer buffer.new) }
     ensures rendered { IfOk result (λ rendered. (m : Read) → reading_of (take noted.count buffer.old) ≡ Ok m →
-        IsRenderedAs P.went P.came P.is_time observer.now shown m (record { out = W.contents out.old; err = E.contents err.old })
-        (record { out = W.contents out.new; err = E.contents err.new }) watch.old watch.new buffer.new rendered) }
-    ensures called { IfOk result (λ rendered. MakesCalls (P.called peer.old) (P.called peer.new) (IsRenderedBy observer.now limit.seconds limit.start rendered)) }
+        IsRenderedAs P.went P.came P.is_time (MakesCalls (P.called peer.old) (P.called peer.new)) observer.now shown limit.seconds limit.start m
+        (record { out = W.contents out.old; err = E.contents err.old }) (record { out = W.contents out.new; err = E.contents err.new })
+        watch.old watch.new buffer.new rendered) }
     ensures fault { IfErr result (λ error. (m : Read) → reading_of (take noted.count buffer.old) ≡ Ok m →
-        IsRenderFault P.came P.is_error (MakesCalls (P.called peer.old) (P.called peer.new)) observer.now limit.seconds limit.start m error) }
+        IsRenderFault P.went P.came P.is_time P.is_error (MakesCalls (P.called peer.old) (P.called peer.new)) observer.now limit.seconds limit.start m watch.old error) }
 {
     let Ok(message) = read(&buffer[..noted.count]) else {
         unreachable!();
     };
-    match Joining::begin(alloc, &message)? {
+    match begin_joining(alloc, &message)? {
         Some(joining) => {
             render_blocks(
                 alloc, peer, out, err, observer, shown, limit, watch, ids, joining, buffer,
@@ -160,6 +160,15 @@ fn render<P: Peer, W: Write, E: Write>(
             Ok(Rendered::Line)
         }
     }
+}
+
+// Begins the joining of a state whose first block is `message`. Returns `None` if `message` isn't
+// the first of several blocks.
+fn begin_joining(alloc: Global, message: &Message<'_>) -> Result<Option<Joining>, FetchFault>
+    ensures begun { IfOk result (IsBegun message.now) }
+    ensures refused { IfErr result (λ fault. (has_further message.now ≡ true) × IsNoMemory fault) }
+{
+    Ok(Joining::begin(alloc, message)?)
 }
 
 // Requests the further blocks of a state and begins the rest of the time again. Then prints the
@@ -180,11 +189,11 @@ fn render_blocks<P: Peer, W: Write, E: Write>(
     requires { IsBlock joining.number joining.szx }
     ensures message { IfOk result (HasNewer buffer.new) }
     ensures rendered { IfOk result (λ rendered. (m : Read) → begun m ≡ state_of joining → has_further m ≡ true →
-        IsRenderedAs P.went P.came P.is_time observer.now shown m (record { out = W.contents out.old; err = E.contents err.old })
-        (record { out = W.contents out.new; err = E.contents err.new }) watch.old watch.new buffer.new rendered) }
-    ensures called { IfOk result (λ rendered. MakesCalls (P.called peer.old) (P.called peer.new) (IsRenderedBy observer.now limit.seconds limit.start rendered)) }
-    ensures fault { IfErr result (λ error. (m : Read) → has_further m ≡ true →
-        IsRenderFault P.came P.is_error (MakesCalls (P.called peer.old) (P.called peer.new)) observer.now limit.seconds limit.start m error) }
+        IsRenderedAs P.went P.came P.is_time (MakesCalls (P.called peer.old) (P.called peer.new)) observer.now shown limit.seconds limit.start m
+        (record { out = W.contents out.old; err = E.contents err.old }) (record { out = W.contents out.new; err = E.contents err.new })
+        watch.old watch.new buffer.new rendered) }
+    ensures fault { IfErr result (λ error. (m : Read) → begun m ≡ state_of joining → has_further m ≡ true →
+        IsRenderFault P.went P.came P.is_time P.is_error (MakesCalls (P.called peer.old) (P.called peer.new)) observer.now limit.seconds limit.start m watch.old error) }
 {
     let completion = watch.complete(alloc, peer, observer, joining, ids, buffer)?;
     let rest = begin_rest(peer, limit)?;

@@ -4,7 +4,7 @@ ghost use Rattle.coap_client.specs.Faults.{IsOfPeer};
 ghost use Rattle.coap_client.specs.Notes.{Watches};
 ghost use Rattle.coap_client.specs.PeerCalls.{Adds, Reads, Waits};
 ghost use Rattle.coap_client.specs.Transmissions.{MakesCalls};
-ghost use Rattle.fc_fetch.specs.Observing.{AwaitsNote, IsAwaitFault, IsRest};
+ghost use Rattle.fc_fetch.specs.Observing.{AwaitsNote, BeginsRest, IsAwaitFault};
 ghost use Rattle.fc_fetch.specs.Observing as spec;
 
 use coap_client::peer::Buffer;
@@ -46,7 +46,7 @@ fn rest_wait(limit: TimeLimit, now: u64) -> u64
 
 // Reads the clock, and begins a wait for the rest of the time. Returns its length in seconds.
 pub(crate) fn begin_rest<P: Peer>(peer: &mut P, limit: TimeLimit) -> Result<u64, FetchFault>
-    ensures called { IfOk result (λ rest. MakesCalls (P.called peer.old) (P.called peer.new) (IsRest limit.seconds limit.start rest)) }
+    ensures called { IfOk result (λ rest. MakesCalls (P.called peer.old) (P.called peer.new) (BeginsRest limit.seconds limit.start rest)) }
     ensures fault { IfErr result (IsOfPeer P.is_error ⊥) }
 {
     let now = time(peer)?;

@@ -292,7 +292,8 @@ fn completed(
     first: &[u8],
 ) -> Result<(Completion, u32), Fail> {
     let client_request = slot_one(alloc)?;
-    completed_by(alloc, server, &client_request, first)
+    let mut ids = 256;
+    completed_by(alloc, server, &client_request, first, &mut ids)
 }
 
 // Fetches further blocks with this request. See `completed`.
@@ -301,6 +302,7 @@ fn completed_by(
     server: &mut Scripted,
     client_request: &ClientRequest<'_>,
     first: &[u8],
+    ids: &mut u16,
 ) -> Result<(Completion, u32), Fail> {
     let observer = Observer {
         client_request,
@@ -314,9 +316,8 @@ fn completed_by(
     let Some(joining) = Joining::begin(alloc, &message)? else {
         return Err(Fail::new("no first block"));
     };
-    let mut ids = 256;
     let mut buffer = [0; BUFFER];
-    let completion = watch.complete(alloc, server, &observer, joining, &mut ids, &mut buffer)?;
+    let completion = watch.complete(alloc, server, &observer, joining, ids, &mut buffer)?;
     Ok((completion, watch.sequence))
 }
 
@@ -364,6 +365,36 @@ fn a_state_of_two_blocks_is_joined(rt: HostRuntime) -> Result<(), Fail> {
         b"\x42\x01\x01\x01\x01\x01\xb1\x72\x01\x31\xc1\x16",
         &[],
     );
+    Ok(())
+}
+
+// The registration has message ID 7, and the deregistration 8. After the request with ID 6, the next
+// one has ID 9; then the next ID is 10.
+#[test]
+fn a_further_block_never_has_the_id_of_the_deregistration(rt: HostRuntime) -> Result<(), Fail> {
+    let alloc = rt.alloc();
+    let first = first_of_two(alloc)?;
+    let client_request = slot_one(alloc)?;
+    let mut server = follows(alloc);
+    comes(&mut server, &first, &[])?;
+    comes(
+        &mut server,
+        b"\x62\x45\x00\x09\x00\x09\x41\x09\xd1\x06\x16\xff",
+        b"end",
+    )?;
+    let mut ids = 6;
+    let (completion, _) = completed_by(alloc, &mut server, &client_request, &first, &mut ids)?;
+    assert!(rt; matches!(&completion, Completion::Whole(_, _)) && ids == 10);
+    for (place, id) in [6, 9].iter().copied().enumerate() {
+        let head = [0x42, 1, 0, id, 0, id];
+        check_sent(
+            &rt,
+            &server,
+            place,
+            &head,
+            b"\xb1\x72\x01\x31\xc1\x16",
+        );
+    }
     Ok(())
 }
 

@@ -17,4 +17,4 @@ returns-clause-whole c = λ n code payload.
 
 pub returns-clause-joined : goal.returns-clause-joined
 unfolding digits chars is_utf8 encode
-returns-clause-joined c = λ n. refl
+returns-clause-joined c = λ n first w outcomes. refl

@@ -15,7 +15,6 @@ returns-in-Ok-clause-ended g c = record {
   ended = c.print_to_end.new.peer;
   shown = c.in-Ok.ensures.shown;
   left = c.in-Ok.ensures.left;
-  called_is = c.in-Ok.ensures.called;
 }
 
 pub returns-clause-stop : goal.returns-clause-stop

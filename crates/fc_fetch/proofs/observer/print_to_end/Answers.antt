@@ -1,15 +1,25 @@
-use Rattle.std.proofs.Common.{inl, inr}
+use Rattle.std.proofs.Common.{inl, inr, ◌∷◌}
 use Rattle.coap_client.proofs.Failing.{raised}
 use Rattle.coap_client.proofs.Transmitting.{both}
+use Rattle.coap_client.specs.Transmissions.{MakesCalls}
 use Rattle.fc_fetch.proofs.Failures.{left_anyhow, left_in_vain, on_err}
+use Rattle.fc_fetch.proofs.Lines.{shown_by}
 use Rattle.fc_fetch.specs.declared.observer.NotesError.TheVariants as notes_error
-use Rattle.fc_fetch.specs.Observing.{IsEndFault, IsLeaving, IsTimedObservation, LeavesAtFault}
+use Rattle.fc_fetch.specs.Observing.{IsEndFault, IsLeaving, IsTimedObservation, LeavesAtFault, ObservesToEnd, lines_wanted}
 use Rattle.fc_fetch.proofs.observer.print_to_end.Goals as goal
 
-pub returns-in_ok-leave-in-Ok-clause-called : goal.returns-in_ok-leave-in-Ok-clause-called
-returns-in_ok-leave-in-Ok-clause-called g c =
-    both (g.P.Peer.called c.args.peer.now) (g.P.Peer.called c.print_notes.new.peer) (g.P.Peer.called c.leave.new.peer)
-    (IsTimedObservation c.args.observer.now c.args.extent.seconds c.in-Ok.end) (IsLeaving c.args.observer.now c.in-Ok.end) c.in-Ok.ensures.called c.in_ok-leave-in-Ok.ensures.called
+pub returns-in_ok-leave-in-Ok-clause-shown : goal.returns-in_ok-leave-in-Ok-clause-shown
+returns-in_ok-leave-in-Ok-clause-shown g c =
+    let o = c.args.observer.now in
+    let seconds = c.args.extent.seconds in
+    let before = g.P.Peer.called c.args.peer.now in
+    let between = g.P.Peer.called c.print_notes.new.peer in
+    let after = g.P.Peer.called c.leave.new.peer in
+    shown_by g.P.Peer.went g.P.Peer.came g.P.Peer.is_time (λ rs. MakesCalls before between (IsTimedObservation o seconds c.in-Ok.end rs))
+    (λ rs. MakesCalls before after (ObservesToEnd o seconds c.in-Ok.end rs)) o c.args.shown (lines_wanted c.args.extent.count)
+    (record { out = g.W.Write.contents c.args.out.now; err = g.E.Write.contents c.args.err.now })
+    (record { out = g.W.Write.contents c.print_notes.new.out; err = g.E.Write.contents c.print_notes.new.err }) c.in-Ok.end
+    (λ rs one. both before between after (IsTimedObservation o seconds c.in-Ok.end rs) (IsLeaving o c.in-Ok.end) one c.in_ok-leave-in-Ok.ensures.called) c.in-Ok.ensures.shown
 
 pub returns-in_err-leave-in-Ok-clause-fault : goal.returns-in_err-leave-in-Ok-clause-fault
 returns-in_err-leave-in-Ok-clause-fault g c =
@@ -19,7 +29,8 @@ returns-in_err-leave-in-Ok-clause-fault g c =
     let after = g.P.Peer.called c.leave.new.peer in
     raised c.from_residual-in_err-leave-in-Ok.result (notes_error.Fault c.in_err-leave-in-Ok.field-0.0)
     (IsEndFault g.P.Peer.went g.P.Peer.came g.P.Peer.is_time g.P.Peer.is_error g.P.Peer.called c.args.peer.now c.leave.new.peer o c.args.extent.seconds) c.from_residual-in_err-leave-in-Ok.ensures.1
-    (inr (left_in_vain g.P.Peer.is_error before between after o c.args.extent.seconds c.in-Ok.end c.in_err-leave-in-Ok.field-0.0 c.in-Ok.ensures.called c.in_err-leave-in-Ok.ensures.fault))
+    (inr (left_in_vain g.P.Peer.is_error before between after o c.args.extent.seconds c.in-Ok.end (c.in-Ok.ensures.shown.latest ∷ c.in-Ok.ensures.shown.older)
+    c.in_err-leave-in-Ok.field-0.0 c.in-Ok.ensures.shown.called c.in_err-leave-in-Ok.ensures.fault))
 
 pub returns-in_err-leave-in-Ok-clause-leaves : goal.returns-in_err-leave-in-Ok-clause-leaves
 returns-in_err-leave-in-Ok-clause-leaves g c =
