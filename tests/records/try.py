@@ -29,6 +29,9 @@ COUNTER = bytes.fromhex(
 LARGEST = b"FCB1\0\0\0\2\0\2\0\0\0\0\0\0" + b"\xb7\0\0\0\0\0\0\0" * 511 + b"\x95" + bytes(7)
 # A budget one below the cost.
 DEAR = COUNTER[:8] + b"\x0e" + COUNTER[9:]
+# The program `mov64 r0, 69` and `exit`, and a registration of /r/7 (RFC 7641, 2).
+OBSERVED = b"FCB1\0\0\2\0\2\0\0\0\0\0\0\0" + b"\xb7\0\0\0\x45\0\0\0" + b"\x95" + bytes(7)
+OBSERVE = b"\x40\1\0\2\x60\x51r\x017"
 GET, PUT, DELETE = 1, 3, 4
 
 
@@ -110,9 +113,9 @@ def serve(workers, logs):
     return wrong, told.decode().splitlines(), peer, port, started
 
 
-def report(received):
-    """Returns the line of a report of as many datagrams, none of which is refused."""
-    return f"report received={received} forbidden=0 unavailable=0 notified=0 resent=0 removed=0 sent={received} failed=0"
+def report(received, gauges):
+    """Returns the line of a report of as many datagrams, none of which is refused, with these gauges."""
+    return f"report received={received} forbidden=0 unavailable=0 notified=0 resent=0 removed=0 offloaded=0 {gauges} sent={received} failed=0"
 
 
 def reports(workers):
@@ -131,6 +134,28 @@ def reports(workers):
     return told.decode().splitlines()
 
 
+def held(workers):
+    """Returns the lines of standard error of a server that reports each second, with a program, an observer and a begun upload in blocks."""
+    server, port = begin(workers, 5, ("report:1",))
+    with socket.socket(socket.AF_INET, socket.SOCK_DGRAM) as client:
+        await_server(client, port)
+        for it in (request(PUT, 1, 7, OBSERVED), OBSERVE, request(PUT, 3, 9, LARGEST[:1024], 8 + 6)):
+            client.send(it)
+            client.recv(1500)
+        time.sleep(1.5)
+        client.send(request(GET, 4, 3))
+        client.recv(1500)
+    _, told = server.communicate(timeout=20)
+    return told.decode().splitlines()
+
+
+def is_right(name, told, wanted):
+    """Prints whether the lines without their times are these, and returns it."""
+    right = [re.sub(r"^\[INFO  [^]]*\] ", "", it) for it in told] == wanted
+    print(f"{'right' if right else 'WRONG'}  {name}", *([] if right else told), sep="\n    ")
+    return right
+
+
 def main():
     failed = 0
     for workers in (1, 2):
@@ -146,10 +171,10 @@ def main():
             right = not wrong and bare == wanted
             failed += not right
             print(f"{'right' if right else 'WRONG'}  --workers {workers} {' '.join(logs) or 'nothing'}", *([] if right else [*wrong, *told]), sep="\n    ")
-        told = reports(workers)
-        right = [re.sub(r"^\[INFO  [^]]*\] ", "", it) for it in told] == [report(1), report(1), report(2)]
-        failed += not right
-        print(f"{'right' if right else 'WRONG'}  --workers {workers} report:1", *([] if right else told), sep="\n    ")
+        none, one = (f"exchanges={it}/1024 transfers=0/16" for it in (0, 1))
+        failed += not is_right(f"--workers {workers} report:1", reports(workers), [report(1, none), report(1, none), report(2, one)])
+        gauges = "exchanges=3/1024 transfers=1/16 observers/7=1"
+        failed += not is_right(f"--workers {workers} report:1, gauges", held(workers), [report(4, gauges)])
     print(f"{failed} wrong")
     return int(failed > 0)
 

@@ -38,9 +38,10 @@
 //! - The stored bytes of an endpoint and slot are the payloads since its last block number 0,
 //!   joined, whatever was added before. At most one transfer is stored for an endpoint and slot,
 //!   and at most 16 in all.
+//! - `held_at` returns how many transfers are in progress at a time.
 //! - A body is cut as the requested block says, and the blocks of one size joined are the body.
 //!
-//! By the contracts of `Uploads::add`, `slice`, `laws`.
+//! By the contracts of `Uploads::add`, `held_at`, `slice`, `laws`.
 #![tactic(auto)]
 
 pub mod cut;

@@ -95,6 +95,18 @@ impl Uploads {
         }
     }
 
+    /// Returns how many transfers are in progress at `now`.
+    ///
+    /// A transfer that was idle for 247,000 ms by then isn't in progress. None is removed.
+    pub fn held_at(&self, now: u64) -> usize
+        ensures { result ≡ length (live now self.entry.now) }
+    {
+        self.held
+            .iter()
+            .filter(|transfer| is_under_way(now, transfer))
+            .count()
+    }
+
     // Joins a block to its transfer for `add`, or removes the transfer and returns the refusal.
     fn add_block(
         &mut self,

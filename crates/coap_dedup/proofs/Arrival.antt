@@ -1,5 +1,5 @@
 -- Properties that a ring in order of arrival keeps.
-use Rattle.std.proofs.Common.{◌≡◌, ℕ, ◌+◌, ◌<◌, ◌≤◌, List, [], ◌∷◌, ◌++◌, length, map, drop, Bool, true, false, cond, Some, None, refl, sym, ap, ◌∙◌, subst, ⊎_elim, arith, length-append}
+use Rattle.std.proofs.Common.{◌≡◌, ℕ, ◌+◌, ◌<◌, ◌≤◌, List, [], ◌∷◌, ◌++◌, length, map, drop, suc, Bool, true, false, cond, Some, None, refl, sym, ap, ◌∙◌, subst, ⊎_elim, arith, length-append}
 use Rattle.std.specs.Prelude.{filter, slice_get}
 use Rattle.std.proofs.lemmas.Bool.{cases_lt, lt-ltb, le-ltb, ltb-true}
 use Rattle.coap_dedup.specs.declared.exchange.StoredResponse.{StoredResponse}
@@ -111,3 +111,11 @@ pub filter_seen : (kept : List StoredResponse) (at : ℕ) (os : List Opened) →
 filter_seen kept at [] = refl
 filter_seen kept at (o ∷ os) =
     seen_if kept (request_is_live at o) o (filter (request_is_live at) os) ∙ ap (λ (l : List Exchange). cond (request_is_live at o) (as_exchange kept o ∷ l) l) (filter_seen kept at os)
+
+-- as many requests are live as exchanges.
+pub live_seen : (kept : List StoredResponse) (at : ℕ) (os : List Opened) → length (filter (is_live at) (map (as_exchange kept) os)) ≡ length (filter (request_is_live at) os)
+live_seen kept at [] = refl
+live_seen kept at (o ∷ os) = elim (request_is_live at o) as (λ b. length (cond b (as_exchange kept o ∷ filter (is_live at) (map (as_exchange kept) os)) (filter (is_live at) (map (as_exchange kept) os))) ≡ length (cond b (o ∷ filter (request_is_live at) os) (filter (request_is_live at) os))) [
+  | true ↦ ap suc (live_seen kept at os)
+  | false ↦ live_seen kept at os
+]

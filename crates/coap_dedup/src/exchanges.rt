@@ -190,6 +190,20 @@ impl Exchanges {
         self.requests.expire(now);
     }
 
+    /// Returns how many exchanges are within their lifetime at `now`. None is expired.
+    pub fn held_at(&self, now: u64) -> usize
+        ensures { result ≡ length (expired self.entry.now now).held }
+    {
+        self.requests.live_at(now)
+    }
+
+    /// Returns the maximum number of stored exchanges.
+    pub fn places(&self) -> usize
+        ensures { result ≡ places_of self.entry.now.limits }
+    {
+        self.limits.places()
+    }
+
     /// Returns how many keys the last [`Exchanges::look`] compared.
     ///
     /// It is at most 17, at most 11 if there are at most 1,024 places, and 0 before the first call.

@@ -47,11 +47,14 @@
 //!   for it, and fewer than the limit in all (`room`).
 //! - A new exchange is opened if there is room (`open`), and each response is stored for its own
 //!   exchange (`close`).
+//! - `held_at` returns how many exchanges are within their lifetime at a time, and `places` the
+//!   limit on their number.
 //! - `comparisons` returns at most 17 for every table, and at most 11 for a table of 1,024 places.
 //!   The contract of `look` doesn't say that this is the number of keys that the last look
 //!   compared.
 //!
-//! By the contracts of `Exchanges::look`, `room`, `open`, `close`, `expire`, `comparisons`.
+//! By the contracts of `Exchanges::look`, `room`, `open`, `close`, `expire`, `held_at`,
+//! `places`, `comparisons`.
 #![tactic(auto)]
 
 mod answers;

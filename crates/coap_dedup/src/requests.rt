@@ -139,6 +139,16 @@ impl Requests {
         }
     }
 
+    // Returns how many requests are within their lifetime.
+    pub(crate) fn live_at(&self, now: u64) -> usize
+        ensures { result ≡ length (filter (request_is_live now) self.now.items) }
+    {
+        self.ring
+            .iter()
+            .filter(|opened| is_live(now, opened))
+            .count()
+    }
+
     // Removes the oldest request, which has this key. It isn't inlined, since its caller usually
     // finds that no request has expired.
     #[inline(never)]

@@ -8,6 +8,8 @@ use Rattle.fc_core.specs.declared.front.Delivered.{Delivered}
 use Rattle.fc_core.specs.Answering.{AnswersIn, after_answered, emission_of}
 use Rattle.fc_core.specs.Contents.{Content}
 use Rattle.fc_core.specs.Exchanges.{FrontState, advanced}
+use Rattle.fc_core.specs.Gauges.{gauges_at}
+use Rattle.fc_core.specs.declared.gauges.FrontGauges.{FrontGauges}
 use Rattle.fc_core.specs.Ids.{drawn_for, free_id}
 use Rattle.fc_core.specs.Receiving.{after_delivered, delivered}
 use Rattle.fc_kinds.specs.Meaning.{Program}
@@ -30,7 +32,7 @@ use Rattle.fc_registry.specs.Changes.{after_changes}
 use Rattle.fc_registry.specs.Notes.{NotesTo}
 use Rattle.fc_registry.specs.Slots.{Shard, Ticket, slot_in, with_slot}
 use Rattle.fc_registry.specs.Turns.{due_job}
-use Rattle.fc_registry.specs.Watches.{StaysIdleUntil, after_due, after_given_up, shard_after_tick, due_place, at_time, is_idle, overdue_place, signal_call, signalled, ticked_in}
+use Rattle.fc_registry.specs.Watches.{StaysIdleUntil, after_due, after_given_up, shard_after_tick, due_place, at_time, is_idle, observer_counts, overdue_place, signal_call, signalled, ticked_in}
 
 -- a run is committed at this time.
 abbrev pub CommitsAt : ℕ → Ran → Ticket → Shard → Committed → Shard → Type 0
@@ -52,6 +54,10 @@ PassesIfIdle now before idle after =
 -- a time is returned before which the shard is idle.
 abbrev pub TellsIdleUntil : Shard → ℕ → Shard → Type 0
 TellsIdleUntil before until after = StaysIdleUntil until before × (after ≡ before)
+
+-- the numbers of observers of a shard's slots, by place, are returned.
+abbrev pub TellsObservers : Shard → List ℕ → Shard → Type 0
+TellsObservers before counts after = (counts ≡ observer_counts before) × (after ≡ before)
 
 -- the first observer with a pending notification at this time gets a lease.
 abbrev pub GivesTurnAt : ℕ → Shard → Option Job → Shard → Type 0
@@ -117,6 +123,10 @@ HandlesAt now from bytes brings before after =
 -- counts as this one.
 unfoldable pub AdvancesTo : ℕ → FrontState → FrontState → Type 0
 AdvancesTo now before after = after ≡ advanced before now
+
+-- the gauges of a front at this time are returned.
+abbrev pub TellsGauges : ℕ → FrontState → FrontGauges → FrontState → Type 0
+TellsGauges now before gauges after = (gauges ≡ gauges_at now before) × (after ≡ before)
 
 -- the timer of a slot fires at this time. The timer's job depends on the slot alone.
 unfoldable pub FiresAt : ℕ → FrontState → FrontState → Type 0

@@ -7,7 +7,7 @@ ghost use Rattle.fc_registry.specs.Notes.{noted_as};
 ghost use Rattle.fc_registry.specs.Slots.{IsOwned, Shard as Seen};
 ghost use Rattle.fc_registry.specs.Turns.{written_if};
 ghost use Rattle.fc_calls.specs.Doings.{CommitsAt, DescribesTo, GivesTurnAt, GivesUpAt, HandsOn, InstallsTo, NotesAt, PassesIfIdle};
-ghost use Rattle.fc_calls.specs.Doings.{RemovesFrom, TakesInto, TellsIdleUntil, TicksAt};
+ghost use Rattle.fc_calls.specs.Doings.{RemovesFrom, TakesInto, TellsIdleUntil, TellsObservers, TicksAt};
 ghost use Rattle.fc_calls.specs.Kept.{HasEightSlots, commit_changes, confirm_times, install_changes, removal_changes, serials};
 
 use coap_msg::{Emission, Endpoint};
@@ -15,8 +15,8 @@ use fc_help::Readings;
 use fc_machine::Outcome;
 use fc_observe::{Ticked, Turn};
 use fc_registry::{
-    Committed, Job, Made, NoteOutcome, Notification, Receipt, Removal, Shard, SlotSnapshot, Taken,
-    Ticket,
+    Committed, Job, Made, NoteOutcome, Notification, PLACES, Receipt, Removal, Shard, SlotSnapshot,
+    Taken, Ticket,
 };
 use fc_verify::Verified;
 use std::sync::Arc;
@@ -277,6 +277,22 @@ impl ShardCall for IdleUntil {
 
     fn call(self, shard: &mut Shard, _: &mut ()) -> u64 {
         shard.idle_until()
+    }
+}
+
+/// Returns how many observers each slot has, by place. See [`Shard::observer_counts`].
+#[derive(Drop)]
+pub struct CountObservers;
+
+impl ShardCall for CountObservers {
+    type Answer = [u8; PLACES];
+
+    type Room = ();
+
+    ghost does = { λ call before answer room after. TellsObservers before answer after };
+
+    fn call(self, shard: &mut Shard, _: &mut ()) -> [u8; PLACES] {
+        shard.observer_counts()
     }
 }
 

@@ -6,6 +6,7 @@ pub mod Ends
 pub mod Replies
 pub mod Policies
 pub mod Exchanges
+pub mod Gauges
 pub mod Receiving
 pub mod Askings
 pub mod Answering

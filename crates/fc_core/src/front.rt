@@ -8,6 +8,7 @@ ghost use Rattle.fc_core.specs.Askings.{IsAsking, IsServable, asked_in, new_requ
 ghost use Rattle.fc_core.specs.Contents.{IsOf};
 ghost use Rattle.fc_core.specs.Exchanges as spec;
 ghost use Rattle.fc_core.specs.Exchanges.{advanced, first_front, front_expired, handed};
+ghost use Rattle.fc_core.specs.Gauges.{gauges_at};
 ghost use Rattle.fc_core.specs.Ids.{drawn_for, free_id};
 ghost use Rattle.fc_core.specs.Policies.{is_allowed};
 ghost use Rattle.coap_block.specs.Transfers.{after_addition};
@@ -18,11 +19,13 @@ ghost use Rattle.fc_core.specs.Timers.{timer_job, timer_request};
 ghost use Rattle.coap_reply.specs.Responses.{reset_of, settled_by};
 
 use crate::answer::Answer;
+use crate::gauges::FrontGauges;
 use crate::ids::MessageIds;
 use crate::policy::{Managers, Policy, changes_program, is_manager};
 use crate::reply;
 use crate::reply::immediate;
 use arrayvec::ArrayVec;
+use coap_block::uploads::TRANSFERS;
 use coap_block::{Added, Body, Uploads};
 use coap_dedup::{Exchanges, Looked, Room};
 use coap_msg::{
@@ -267,6 +270,22 @@ impl Front {
         self.exchanges
             .close(self.now, job.origin.opening.number, &reply.bytes);
         Responded::Sent
+    }
+
+    /// Returns how many exchanges and transfers the front holds at `now`, and their limits.
+    ///
+    /// `now` is in milliseconds; an earlier time counts as the front's own. Those whose lifetime
+    /// has passed by then don't count. Nothing changes.
+    pub fn gauges(&self, now: u64) -> FrontGauges
+        ensures { result ≡ gauges_at now self.entry.now }
+    {
+        let now = self.now.max(now);
+        FrontGauges {
+            exchanges: self.exchanges.held_at(now),
+            most_exchanges: self.exchanges.places(),
+            transfers: self.uploads.held_at(now),
+            most_transfers: TRANSFERS,
+        }
     }
 
     // Returns the message ID of a response: the request's `id` for an acknowledgement, otherwise

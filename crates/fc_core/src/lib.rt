@@ -33,14 +33,17 @@
 //!   since block number 0, joined.
 //! - A timer that fires makes the job of a POST of its slot's resource. The job has no exchange, so
 //!   answering the job sends nothing.
+//! - `gauges` returns how many exchanges and transfers a front holds at a time, and their limits. It
+//!   changes nothing.
 //!
 //! By the contracts of `Front::deliver`, `handle`, `answer`, `respond`, `tick`, `fire`, `fresh_id`,
-//! `Heads`, `Task`, `Answer::ran`.
+//! `gauges`, `Heads`, `Task`, `Answer::ran`.
 #![tactic(auto)]
 
 pub mod answer;
 pub mod event;
 pub mod front;
+pub mod gauges;
 pub mod heads;
 mod ids;
 pub mod policy;
@@ -52,6 +55,7 @@ mod text;
 pub use answer::{Answer, End, Words};
 pub use event::Event;
 pub use front::{Answered, Delivered, Front, Handled, Responded};
+pub use gauges::FrontGauges;
 pub use heads::{Heads, head_word};
 pub use policy::{ANY_ADDRESS, DEFAULT_POLICY, MOST_NETWORKS, Managers, Network, Policy};
 pub use stage::{Stage, Step, Task, TurnStep};

@@ -2,6 +2,7 @@
 ghost use Rattle.std.specs.Prelude.{◌≡◌, ◌≤◌, ◌++◌, ◌∷◌, [], true};
 ghost use Rattle.fc_core.specs.Answering.{emission_of, responded};
 ghost use Rattle.fc_core.specs.Contents.{IsOf};
+ghost use Rattle.fc_core.specs.Gauges.{gauges_at};
 ghost use Rattle.fc_core.specs.Receiving.{handled};
 ghost use Rattle.fc_core.specs.Timers.{timer_job};
 ghost use Rattle.fc_book.specs.Tracks.{part_view, with_part};
@@ -16,7 +17,7 @@ use crate::book::{FiledTrack, ServerBook, ServerName, ServerTracks, file_as};
 use crate::view::FiledName;
 use coap_msg::{Emission, Endpoint};
 use fc_book::Part;
-use fc_core::{Answer, Front, Handled, Responded};
+use fc_core::{Answer, Front, FrontGauges, Handled, Responded};
 use fc_registry::{Job, SlotNumber};
 use std::marker::{Brand, Model, PhantomData};
 
@@ -62,6 +63,15 @@ impl<J: ServerName> FiledFront<J> {
         ensures { result ≡ record { front = front; calls = [] } }
     {
         FiledFront { front, track }
+    }
+
+    /// Returns how many exchanges and transfers the front holds at `now` ms, and their limits.
+    ///
+    /// A read changes nothing and isn't filed. See [`Front::gauges`].
+    pub fn gauges(&self, now: u64) -> FrontGauges
+        ensures { result ≡ gauges_at now self.now.front }
+    {
+        self.front.gauges(now)
     }
 
     /// Handles a datagram at `now` ms, as [`Front::handle`] does, and files that.

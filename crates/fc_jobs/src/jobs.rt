@@ -104,6 +104,13 @@ impl Jobs {
 }
 
 impl Sent {
+    /// Returns how many jobs were sent.
+    pub fn count(&self) -> u64
+        ensures { result ≡ length self.now.sent }
+    {
+        self.next
+    }
+
     // Sends a numbered job, or returns the job if the channel can't take it. If the job is
     // returned, the next job gets the same number.
     fn send<R: Wait>(&mut self, rt: &R, numbered: Numbered) -> Option<Job>

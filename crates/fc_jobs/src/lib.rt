@@ -28,10 +28,11 @@
 //!
 //! - A job is sent under the next number, from 0 on, or returned. A job that a worker receives is
 //!   listed with its number, which is new to that worker.
+//! - `Sent::count` returns how many jobs were sent.
 //! - Every send and receive keeps the channel's rule: a job that was received was sent under its
 //!   number, and no number is received twice. The contracts don't say that a call returns.
 //!
-//! By the contracts of `Jobs::new`, `send`, `next`.
+//! By the contracts of `Jobs::new`, `send`, `next`, `Sent::count`.
 #![tactic(auto)]
 
 mod ends;

@@ -64,18 +64,21 @@
 //! - A delivery that makes a job opens the job's exchange, which stays in its place. Each job is
 //!   that of an observer's lease, of a request with an exchange, or of the timer of its slot. If no
 //!   timer has fired, no job is that of a timer.
+//! - The gauges of a front count the exchanges and transfers of the last 247 s, and have the limits
+//!   of its policy, by default 1,024 exchanges, and 16 transfers.
 //! - A notification is confirmable exactly if the policy's time has passed since the observer's
 //!   registration or last confirmable notification. By default this time is 86,400,000 ms.
 //!
 //! By the contracts of `laws`, `slot_laws`, `ask_laws`, `answer_laws`, `exchange_laws`,
 //! `body_laws`, `way_laws`, `reply_laws`, `response_laws`, `refusal_laws`, `observe_laws`,
-//! `policy_laws`, `shard_laws`, `timer_laws`, `turn_laws`.
+//! `policy_laws`, `shard_laws`, `timer_laws`, `turn_laws`, `gauge_laws`.
 #![tactic(auto)]
 
 pub mod answer_laws;
 pub mod ask_laws;
 pub mod body_laws;
 pub mod exchange_laws;
+pub mod gauge_laws;
 pub mod laws;
 pub mod observe_laws;
 pub mod policy_laws;

@@ -86,9 +86,11 @@
 //! - `check_idle` returns `true` exactly if no notification has timed out, and no observer has a
 //!   pending one, whatever the list cached before. Before the time that `idle_until` returns, both
 //!   conditions hold unless the list is called.
+//! - `len` returns the number of observers.
 //!
 //! By the contracts of `Observers::register`, `next_due`, `check_idle`, `idle_until`, `out`,
-//! `mark_missing`, `sent`, `end`, `give_up`, `reset`, `acked`, `tick`, `laws`.
+//! `mark_missing`, `sent`, `end`, `give_up`, `reset`, `acked`, `tick`, `len`,
+//! `laws`.
 #![tactic(auto)]
 
 pub mod entry;

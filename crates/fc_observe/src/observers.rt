@@ -382,6 +382,14 @@ impl Observers {
             && first_overdue(&self.held, self.time.max(now)).is_some()
     }
 
+    /// Returns the number of observers.
+    pub fn len(&self) -> usize
+        ensures count { result ≡ length self.now.held }
+        ensures most { result ≤ 32 }
+    {
+        self.held.len()
+    }
+
     /// Returns whether there is no observer.
     pub fn is_empty(&self) -> bool
         ensures { IsTrue result ↔ (self.now.held ≡ []) }

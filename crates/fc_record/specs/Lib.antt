@@ -1,3 +1,4 @@
+pub mod Gauges
 pub mod ProgramRequests
 pub mod Recording
 pub mod Reports

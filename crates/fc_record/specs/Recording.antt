@@ -1,5 +1,5 @@
 -- The changes that are recorded: each change that is answered, once, and nothing else.
-use Rattle.std.specs.Prelude.{◌≡◌, ◌⊎◌, ℕ, List, Option}
+use Rattle.std.specs.Prelude.{◌≡◌, ℕ, List, Option}
 use Rattle.std.specs.Borrow.{Bor}
 use Rattle.coap_msg.specs.declared.types.Emission.{Emission}
 use Rattle.coap_msg.specs.declared.types.Endpoint.{Endpoint}
@@ -10,7 +10,7 @@ use Rattle.fc_core.specs.declared.front.Handled.{Handled}
 use Rattle.fc_core.specs.Exchanges.{advanced}
 use Rattle.fc_core.specs.Receiving.{delivered, emission_if}
 use Rattle.fc_calls.specs.Logged.{AnswersRequest, LoggedCall}
-use Rattle.fc_server.specs.SingleThread.{HandlesAlone, NotifiesAlone, PassesAlone, PassesOverAlone, ResendsAlone, StaysIdleAlone}
+use Rattle.fc_server.specs.SingleThread.{HandlesAlone, NotifiesAlone, PassesAlone, PassesOverAlone, ResendsAlone, StaysIdleAlone, TellsGaugesAlone, TellsObserversAlone, TellsOffloadedAlone}
 use Rattle.fc_server.specs.Ingresses.{IngressCalls, is_reply}
 use Rattle.fc_server.specs.Shown.{IsShown}
 use Rattle.fc_server.specs.declared.alone.SingleThread.{SingleThread}
@@ -67,4 +67,7 @@ module _ (Recorded : Requested → CallLog → CallLog → Type 0) where
     passes_over = λ shard now old new. PassesOverAlone shard now old.alone new.alone × (new.log ≡ old.log);
     notifies = λ shard now old new told. NotifiesAlone shard now old.alone new.alone told × (new.log ≡ old.log);
     stays_idle = λ shard now until. StaysIdleAlone shard now.alone until;
+    tells_gauges = λ now state gauges. TellsGaugesAlone now state.alone gauges;
+    tells_observers = λ shard now counts. TellsObserversAlone shard now.alone counts;
+    tells_offloaded = λ now count. TellsOffloadedAlone now.alone count;
   }

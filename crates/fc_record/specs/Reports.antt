@@ -9,12 +9,14 @@ use Rattle.fc_observe.specs.declared.observers.Ticked.{Ticked}
 use Rattle.fc_observe.specs.declared.observers.Ticked.TheVariants.{Quiet, Removed, Resend}
 use Rattle.fc_server.specs.Notified.{Notified, is_given}
 use Rattle.fc_workers.specs.Answers.{saturated}
+use Rattle.fc_record.specs.Gauges.{gauges_text, no_gauges}
 use Rattle.fc_record.specs.declared.report.Report.{Report}
 
 -- ---- counts
 
+-- no call was counted, and nothing is held.
 abbrev pub nothing_counted : Report
-nothing_counted = record { received = 0; forbidden = 0; unavailable = 0; notified = 0; resent = 0; removed = 0 }
+nothing_counted = record { received = 0; forbidden = 0; unavailable = 0; notified = 0; resent = 0; removed = 0; gauges = no_gauges }
 
 abbrev pub one_more_if : Bool → ℕ → ℕ
 one_more_if true count = saturated (count + 1)
@@ -50,9 +52,14 @@ lease_counted told r = record r { notified = one_more_if (is_given told) r.notif
 
 -- ---- the text
 
--- the line of a report, as
+-- the counts of a report, as
 -- `report received=1204 forbidden=1 unavailable=3 notified=40 resent=2 removed=1`.
-abbrev pub report_text : Report → List ℕ
-report_text r =
+abbrev pub counts_text : Report → List ℕ
+counts_text r =
     codes "report received=" ++ (decimal r.received ++ (codes " forbidden=" ++ (decimal r.forbidden ++ (codes " unavailable=" ++ (decimal r.unavailable
     ++ (codes " notified=" ++ (decimal r.notified ++ (codes " resent=" ++ (decimal r.resent ++ (codes " removed=" ++ decimal r.removed))))))))))
+
+-- the line of a report: its counts, and its gauges, as ` offloaded=7 exchanges=12/1024
+-- transfers=1/16 observers/7=2`.
+abbrev pub report_text : Report → List ℕ
+report_text r = counts_text r ++ gauges_text r.gauges

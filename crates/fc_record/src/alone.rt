@@ -4,9 +4,10 @@ ghost use Rattle.fc_record.specs.Recording.{recorded_calls};
 
 use crate::recorder::{ChangeLog, Recorder};
 use coap_msg::{Emission, Endpoint};
-use fc_core::Handled;
+use fc_core::{FrontGauges, Handled};
 use fc_help::Readings;
 use fc_observe::Ticked;
+use fc_registry::PLACES;
 use fc_server::engine::NotifyOutcome;
 use fc_server::{Ingress, SingleThread};
 use std::marker::Model;
@@ -76,6 +77,18 @@ impl<'a, C: Recorder> Ingress for RecordedAlone<'a, C> {
 
     fn idle_until(&self, shard: u8) -> u64 {
         self.alone.idle_until(shard)
+    }
+
+    fn gauges(&self, now: u64) -> FrontGauges {
+        self.alone.gauges(now)
+    }
+
+    fn observer_counts(&self, shard: u8) -> [u8; PLACES] {
+        self.alone.observer_counts(shard)
+    }
+
+    fn offloaded(&self) -> u64 {
+        self.alone.offloaded()
     }
 
     fn notify(&mut self, shard: u8, now: u64, emission: &mut Emission) -> NotifyOutcome {

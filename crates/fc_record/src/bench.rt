@@ -3,14 +3,14 @@ ghost use Rattle.fc_record.specs.Recording.{IsRecordedCall};
 
 use crate::recorder::{Recorder, record_answer};
 use coap_msg::{Emission, Endpoint};
-use fc_core::{Answer, Handled};
+use fc_core::{Answer, FrontGauges, Handled};
 use fc_heads::HeadSeat;
 use fc_help::Readings;
 use fc_machine::Outcome;
 use fc_observe::{Ticked, Turn};
 use fc_registry::{
-    Committed, Job, Made, NoteOutcome, Notification, Receipt, Removal, SlotNumber, SlotSnapshot,
-    Taken, Ticket,
+    Committed, Job, Made, NoteOutcome, Notification, PLACES, Receipt, Removal, SlotNumber,
+    SlotSnapshot, Taken, Ticket,
 };
 use fc_verify::Verified;
 use fc_workers::{Bench, TrackLog};
@@ -123,6 +123,14 @@ impl<'a, B: Bench, C: Recorder> Bench for RecordedBench<'a, B, C> {
 
     fn idle_until<R: Wait>(&self, rt: &R, shard: u8) -> u64 {
         self.bench.idle_until(rt, shard)
+    }
+
+    fn gauges<R: Wait>(&self, rt: &R, now: u64) -> FrontGauges {
+        self.bench.gauges(rt, now)
+    }
+
+    fn observer_counts<R: Wait>(&self, rt: &R, shard: u8) -> [u8; PLACES] {
+        self.bench.observer_counts(rt, shard)
     }
 
     fn next_due<R: Wait>(

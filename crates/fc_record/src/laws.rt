@@ -9,6 +9,7 @@ ghost use Rattle.coap_msg.specs.declared.types.Endpoint.{Endpoint};
 ghost use Rattle.fc_core.specs.declared.front.Handled.TheVariants.{Job, Nothing, Reply};
 ghost use Rattle.fc_observe.specs.declared.observers.Ticked.TheVariants.{Quiet, Removed, Resend};
 ghost use Rattle.fc_record.specs.ProgramRequests.{Coded, request_text};
+ghost use Rattle.fc_record.specs.declared.gauges.Gauges.{Gauges};
 ghost use Rattle.fc_record.specs.Reports.{datagram_counted, lease_counted, nothing_counted, report_text, tick_counted};
 ghost use Rattle.fc_server.specs.Notified.{Nobody, Starved, Unsent};
 
@@ -36,9 +37,20 @@ pub fn requests_are_written_so()
 {}
 
 /// The exact text of a report.
+///
+/// Two observers of slot 7, at the first place of shard 7, and one of slot 12, at the second place
+/// of shard 4, are written by these numbers of slots. Other slots aren't written.
 pub fn reports_are_written_so()
-    ensures { report_text (record { received = 1204; forbidden = 1; unavailable = 3; notified = 40; resent = 2; removed = 5 })
-        ≡ codes "report received=1204 forbidden=1 unavailable=3 notified=40 resent=2 removed=5" }
+    ensures { let none : List ℕ = 0 ∷ 0 ∷ 0 ∷ 0 ∷ 0 ∷ 0 ∷ 0 ∷ 0 ∷ [] in
+        let four : List ℕ = 0 ∷ 1 ∷ 0 ∷ 0 ∷ 0 ∷ 0 ∷ 0 ∷ 0 ∷ [] in
+        let seven : List ℕ = 2 ∷ 0 ∷ 0 ∷ 0 ∷ 0 ∷ 0 ∷ 0 ∷ 0 ∷ [] in
+        let gauges : Gauges = record {
+          offloaded = 9;
+          front = record { exchanges = 12; most_exchanges = 1024; transfers = 3; most_transfers = 16 };
+          observers = record { shards = none ∷ none ∷ none ∷ none ∷ four ∷ none ∷ none ∷ seven ∷ [] };
+        } in
+        report_text (record { received = 1204; forbidden = 1; unavailable = 3; notified = 40; resent = 2; removed = 5; gauges = gauges })
+        ≡ codes "report received=1204 forbidden=1 unavailable=3 notified=40 resent=2 removed=5 offloaded=9 exchanges=12/1024 transfers=3/16 observers/7=2 observers/12=1" }
 {}
 
 /// The counts of a report after one call.

@@ -4,8 +4,9 @@
 //! It has a text. A [`Recorder`] gets each such request once: [`RecordedBench`] passes it those
 //! that workers answer, and [`RecordedAlone`] those of a single-threaded server.
 //!
-//! [`Report`] has counts of a server's datagrams and notifications, and a text. A [`Reporter`] gets
-//! such a report from time to time; `fc_service` says when.
+//! [`Report`] has counts of a server's datagrams and notifications, and its [`Gauges`]: what the
+//! server holds at the time of the report. It has a text. A [`Reporter`] gets such a report from
+//! time to time; `fc_service` says when.
 //!
 //! # What is proved
 //!
@@ -18,18 +19,21 @@
 //!   single-threaded server (`RecordedAlone`, by `recorded_calls`). A duplicate request is no job,
 //!   and so no change.
 //! - **A report** counts each call by its result: a datagram, and its immediate response by its
-//!   code; a retransmission or a removed observer; a lease. Its text is exact (`Report`, by
-//!   `datagram_counted`, `tick_counted`, `lease_counted` and `report_text`).
+//!   code; a retransmission or a removed observer; a lease. Its text is exact, with
+//!   its gauges (`Report`, by `datagram_counted`, `tick_counted`, `lease_counted` and
+//!   `report_text`; `Gauges`, by `gauges_text`).
 //! - The contracts don't say what a logger does with a record or a report, nor how many datagrams
 //!   couldn't be sent.
 //!
 //! By the contracts of `ProgramRequest::of`, `ProgramRequest`'s `Display`, `RecordedBench`,
-//! `RecordedAlone`, `Report`, `laws`.
+//! `RecordedAlone`, `Report`, `Gauges`, `ObserverCounts`, `laws`.
 #![tactic(auto)]
 
 pub mod alone;
 pub mod bench;
+pub mod gauges;
 pub mod laws;
+pub mod observer_counts;
 pub mod recorder;
 pub mod report;
 pub mod reporter;
@@ -38,6 +42,8 @@ mod text;
 
 pub use alone::RecordedAlone;
 pub use bench::RecordedBench;
+pub use gauges::Gauges;
+pub use observer_counts::ObserverCounts;
 pub use recorder::{ChangeLog, LoggedChanges, NoChanges, Recorder};
 pub use report::Report;
 pub use reporter::{LoggedReports, NoReports, Reporter};

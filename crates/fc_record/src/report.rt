@@ -1,17 +1,18 @@
-//! Reports: counts of a server's datagrams, and of its notifications.
+//! Reports: counts of a server's datagrams and notifications, and its gauges.
 ghost use Rattle.std.specs.Prelude.{◌≡◌};
 ghost use Rattle.fc_record.specs.Reports.{datagram_counted, lease_counted, nothing_counted, one_more_if, response_counted, second_byte, tick_counted};
 ghost use Rattle.fc_server.specs.Notified.{notified_as};
 
+use crate::gauges::Gauges;
 use coap_msg::{Code, Emission};
 use fc_core::Handled;
 use fc_observe::Ticked;
 use fc_server::engine::NotifyOutcome;
 use std::fmt;
 
-/// Counts of a server's datagrams, and of its notifications, since its start.
+/// Counts of a server's datagrams and notifications since its start, and its gauges.
 ///
-/// Each count stops at 2^64 - 1. It is written as a line of words.
+/// Each count stops at 2^64 - 1. A report is written as a line of words.
 #[derive(Clone, Copy, Debug, PartialEq, Eq)]
 pub struct Report {
     /// The datagrams received, the requests of timers included.
@@ -26,10 +27,12 @@ pub struct Report {
     pub resent: u64,
     /// The observers that were removed, since they acknowledged no transmission.
     pub removed: u64,
+    /// The gauges of the report's time, or of the last report's until then.
+    pub gauges: Gauges,
 }
 
 impl Report {
-    /// Returns counts of zero.
+    /// Returns counts of zero, and gauges of zero.
     pub fn none() -> Report
         ensures { result ≡ nothing_counted }
     {
@@ -40,6 +43,7 @@ impl Report {
             notified: 0,
             resent: 0,
             removed: 0,
+            gauges: Gauges::none(),
         }
     }
 
@@ -106,9 +110,10 @@ fn second_byte(bytes: &[u8]) -> u8
     }
 }
 
-/// Writes the counts as a line of words.
+/// Writes a report as a line of words.
 ///
-/// An example: `report received=1204 forbidden=1 unavailable=3 notified=40 resent=2 removed=1`.
+/// An example: `report received=1204 forbidden=1 unavailable=3
+/// notified=40 resent=2 removed=1 offloaded=7 exchanges=12/1024 transfers=1/16 observers/7=2`.
 impl fmt::Display for Report {
     ghost use Rattle.std.specs.Prelude.{Some};
     ghost use Rattle.fc_record.specs.Reports.{report_text};
@@ -123,10 +128,12 @@ impl fmt::Display for Report {
             notified,
             resent,
             removed,
+            gauges,
         } = *self;
         write!(
             f,
             "report received={received} forbidden={forbidden} unavailable={unavailable} notified={notified} resent={resent} removed={removed}"
-        )
+        )?;
+        write!(f, "{gauges}")
     }
 }

@@ -12,3 +12,4 @@ mod Quiet
 pub mod Watched
 pub mod Asked
 pub mod Plans
+pub mod Counted

@@ -1,5 +1,5 @@
 -- The observers of a shard's slots, and the calls on them.
-use Rattle.std.specs.Prelude.{◌≡◌, ℕ, zero, suc, ◌+◌, ◌*◌, ◌/◌, ◌<◌, ◌≤◌, Bool, true, false, if◌then◌else◌, Option, Some, None, is_none, is_some, ◌&&◌, List, [], ◌∷◌, ◌++◌, map, max, slice_index_or, slice_set}
+use Rattle.std.specs.Prelude.{◌≡◌, ℕ, zero, suc, ◌+◌, ◌*◌, ◌/◌, ◌<◌, ◌≤◌, Bool, true, false, if◌then◌else◌, Option, Some, None, is_none, is_some, ◌&&◌, List, [], ◌∷◌, ◌++◌, length, map, max, slice_index_or, slice_set}
 use Rattle.std.specs.List.{All}
 use Rattle.coap_msg.specs.declared.types.Endpoint.{Endpoint}
 use Rattle.fc_observe.specs.declared.entry.Turn.{Turn}
@@ -23,6 +23,10 @@ at_time shard now = record shard { now = max shard.now now }
 -- the observers of the slot at a place.
 abbrev pub watch_at : Shard → ℕ → ObserverList
 watch_at shard k = slice_index_or shard.watches k (no_observers 0 0)
+
+-- how many observers each slot has, by place.
+abbrev pub observer_counts : Shard → List ℕ
+observer_counts shard = map (λ w. length w.held) shard.watches
 
 -- the notify serial of the slot at a place.
 abbrev pub noticed_at : Shard → ℕ → ℕ

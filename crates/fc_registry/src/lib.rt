@@ -56,6 +56,7 @@
 //! - No observer was sent a serial above that of its slot. An idle shard has no retransmission to
 //!   send, and no observer with a pending notification. Before the time that `idle_until` returns,
 //!   a shard that isn't called has neither.
+//! - The numbers of a shard's observers are those of its slots' lists, by place.
 //! - Before a change is made, its update is known: the slot's next serial, and the variables that
 //!   the change leaves. A store that applies the update, with an image of the program, has the
 //!   state of the slot after the change.
@@ -65,8 +66,8 @@
 //!
 //! By the contracts of `plan_install`, `plan_commit`, `plan_removal`, `Shard::restore`, `take`,
 //! `take_into`, `would_write`, `commit`, `install`, `remove`, `receipt`, `next_due`, `note`,
-//! `give_up`, `signal`, `tick`, `advance_if_idle`, `idle_until`, `rings_are_chains`,
-//! `no_observer_is_ahead`, `laws`.
+//! `give_up`, `signal`, `tick`, `advance_if_idle`, `idle_until`, `observer_counts`,
+//! `rings_are_chains`, `no_observer_is_ahead`, `laws`.
 #![tactic(auto)]
 
 mod body;
@@ -94,7 +95,7 @@ pub use plan::{plan_commit, plan_install, plan_removal};
 pub use receipt::Receipt;
 pub use restore::RestoreError;
 pub use ring::Entry;
-pub use shard::{Made, Removal, Shard, Taken, Took};
+pub use shard::{Made, PLACES, Removal, Shard, Taken, Took};
 pub use shards::make_shards;
 pub use slot::LAST_SERIAL;
 pub use slot_number::{SHARDS, SLOTS, SlotNumber};

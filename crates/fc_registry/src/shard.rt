@@ -2,7 +2,7 @@
 //!
 //! A single-threaded server calls a shard itself. A worker calls a shard while the worker holds the
 //! shard's lock.
-ghost use Rattle.std.specs.Prelude.{◌≡◌, ◌↔◌, IsTrue, if◌then◌else◌, ℕ, ◌/◌, ◌<◌, ◌≤◌, false, length, map, IfErr, IfOk, IfSome, OnErr, OnOk};
+ghost use Rattle.std.specs.Prelude.{◌≡◌, ◌↔◌, IsTrue, if◌then◌else◌, ℕ, ◌/◌, ◌<◌, ◌≤◌, false, length, map, slice_index_or, IfErr, IfOk, IfSome, OnErr, OnOk};
 ghost use Rattle.fc_registry.specs.Shards.{empty_shard};
 ghost use Rattle.fc_registry.specs.Slots.{IsOwned, slot_in, with_slot, last_serial, version_in, vars_in};
 ghost use Rattle.fc_registry.specs.Changes.{after_changes, vars_installed};
@@ -11,10 +11,11 @@ ghost use Rattle.fc_registry.specs.Views.{HasSize, as_seen, taken_with};
 ghost use Rattle.fc_registry.specs.Plans.{IsRestoreError, RestoresTo};
 ghost use Rattle.fc_registry.specs.Record.{IsRecord};
 ghost use Rattle.fc_observe.specs.Calls.{observers_after};
+ghost use Rattle.fc_observe.specs.Observers.{no_observers};
 ghost use Rattle.fc_observe.specs.Quiet.{AreIdleUntil};
 ghost use Rattle.fc_registry.specs.Notes.{IsKeptUnlessSent, NotesTo, noted_as};
 ghost use Rattle.fc_registry.specs.Turns.{due_job, written_if};
-ghost use Rattle.fc_registry.specs.Watches.{AreWatched, IsSentUpTo, StaysIdleUntil, after_due, after_given_up, shard_after_tick, due_place, at_time, has_due, has_overdue, is_idle, is_idle_at, overdue_place, new_watches, noticed_at, signal_call, signalled, ticked_in, watch_at};
+ghost use Rattle.fc_registry.specs.Watches.{AreWatched, IsSentUpTo, StaysIdleUntil, after_due, after_given_up, shard_after_tick, due_place, at_time, has_due, has_overdue, is_idle, is_idle_at, overdue_place, new_watches, noticed_at, observer_counts, signal_call, signalled, ticked_in, watch_at};
 
 use crate::commit::Committed;
 use crate::job::{InitialVars, Job};
@@ -38,8 +39,8 @@ use std::alloc::{AllocError, Global};
 use std::marker::Model;
 use std::sync::Arc;
 
-// The number of slots of a shard. A slot's place is its index in the shard's list.
-const PLACES: usize = 8;
+/// The number of slots of a shard. A slot's place is its index in the shard's list.
+pub const PLACES: usize = 8;
 
 /// The slots of one shard, each with its observers.
 ///
@@ -613,6 +614,25 @@ impl Shard {
         (0..PLACES).find(|place| self.is_overdue_at(now, *place))
     }
 
+    /// Returns how many observers each slot has, by its place in the shard.
+    ///
+    /// Slot n is at place n / 8.
+    pub fn observer_counts(&self) -> [u8; PLACES]
+        ensures { result ≡ observer_counts self.entry.now }
+    {
+        let watches = &self.watches;
+        [
+            count_at(watches, 0),
+            count_at(watches, 1),
+            count_at(watches, 2),
+            count_at(watches, 3),
+            count_at(watches, 4),
+            count_at(watches, 5),
+            count_at(watches, 6),
+            count_at(watches, 7),
+        ]
+    }
+
     /// The ring of each slot is a chain, after any calls in any order.
     ///
     /// The entries of a ring are the last commits of the present program since its install, or
@@ -655,6 +675,14 @@ fn have_observers(watches: &[Observers]) -> bool
     ensures { AreWatched result watches.now }
 {
     watches.iter().any(|watch| !watch.is_empty())
+}
+
+// Returns the number of observers of the slot at a place.
+fn count_at(watches: &[Observers], place: usize) -> u8
+    requires { place < length watches.now }
+    ensures { result ≡ length (slice_index_or watches.now place (no_observers 0 0)).held }
+{
+    watches[place].len() as u8
 }
 
 // Passes a signal to the observers of each slot.

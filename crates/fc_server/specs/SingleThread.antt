@@ -5,13 +5,15 @@ use Rattle.std.specs.Borrow.{Bor}
 use Rattle.coap_msg.specs.declared.types.Emission.{Emission}
 use Rattle.coap_msg.specs.declared.types.Endpoint.{Endpoint}
 use Rattle.fc_core.specs.Exchanges.{advanced}
+use Rattle.fc_core.specs.Gauges.{gauges_at}
+use Rattle.fc_core.specs.declared.gauges.FrontGauges.{FrontGauges}
 use Rattle.fc_core.specs.Ids.{free_id}
 use Rattle.fc_core.specs.Legal.{resent}
 use Rattle.fc_core.specs.Receiving.{delivered, emission_if}
 use Rattle.fc_core.specs.declared.front.Handled.{Handled}
 use Rattle.fc_observe.specs.declared.observers.Ticked.{Ticked}
 use Rattle.fc_registry.specs.Shards.{shard_at}
-use Rattle.fc_registry.specs.Watches.{StaysIdleUntil, at_time, is_idle}
+use Rattle.fc_registry.specs.Watches.{StaysIdleUntil, at_time, is_idle, observer_counts}
 use Rattle.fc_server.specs.Ingresses.{IngressCalls, is_reply}
 use Rattle.fc_server.specs.Notified.{Notified, Starved, is_given, notification_in}
 use Rattle.fc_server.specs.Serving.{AsksForTurn, Handles, Passes, TicksShard}
@@ -43,6 +45,16 @@ NotifiesAlone shard now old new told =
 abbrev pub StaysIdleAlone : ℕ → SingleThread → ℕ → Type 0
 StaysIdleAlone shard now until = StaysIdleUntil until (shard_at now.engine.shards (shard % 8))
 
+abbrev pub TellsGaugesAlone : ℕ → SingleThread → FrontGauges → Type 0
+TellsGaugesAlone now state gauges = gauges ≡ gauges_at now state.engine.front
+
+abbrev pub TellsObserversAlone : ℕ → SingleThread → List ℕ → Type 0
+TellsObserversAlone shard now counts = counts ≡ observer_counts (shard_at now.engine.shards (shard % 8))
+
+-- a server on one thread sends no job to workers.
+abbrev pub TellsOffloadedAlone : SingleThread → ℕ → Type 0
+TellsOffloadedAlone now count = count ≡ 0
+
 abbrev pub alone_calls : IngressCalls SingleThread
 alone_calls = record {
   handles = HandlesAlone;
@@ -51,4 +63,7 @@ alone_calls = record {
   passes_over = PassesOverAlone;
   notifies = NotifiesAlone;
   stays_idle = StaysIdleAlone;
+  tells_gauges = TellsGaugesAlone;
+  tells_observers = TellsObserversAlone;
+  tells_offloaded = TellsOffloadedAlone;
 }

@@ -16,10 +16,10 @@ use crate::ingress::Ingress;
 use crate::server::Begin;
 use crate::witness::{NoWitness, Witness};
 use coap_msg::{Emission, Endpoint};
-use fc_core::Handled;
+use fc_core::{FrontGauges, Handled};
 use fc_help::{NO_READINGS, Readings};
 use fc_observe::Ticked;
-use fc_registry::SHARDS;
+use fc_registry::{PLACES, SHARDS};
 use std::alloc::{AllocError, Global};
 
 /// Input for jobs: sensor readings, and a random word for timeouts.
@@ -126,6 +126,19 @@ impl Ingress for SingleThread {
 
     fn idle_until(&self, shard: u8) -> u64 {
         self.engine.idle_until(shard % SHARDS)
+    }
+
+    fn gauges(&self, now: u64) -> FrontGauges {
+        self.engine.gauges(now)
+    }
+
+    fn observer_counts(&self, shard: u8) -> [u8; PLACES] {
+        self.engine.observer_counts(shard % SHARDS)
+    }
+
+    // A server on one thread has no workers.
+    fn offloaded(&self) -> u64 {
+        0
     }
 
     fn notify(&mut self, shard: u8, now: u64, emission: &mut Emission) -> NotifyOutcome {

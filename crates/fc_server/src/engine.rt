@@ -5,9 +5,10 @@ ghost use Rattle.std.specs.Prelude.{◌≡◌, ℕ, ◌<◌, ◌≤◌, List, []
 ghost use Rattle.arrayvec.specs.ArrayVec.{ArrayVec};
 ghost use Rattle.coap_msg.specs.declared.types.Emission.{Emission as Emitted};
 ghost use Rattle.fc_registry.specs.Shards.{shard_at, slot_in_shards};
-ghost use Rattle.fc_registry.specs.Watches.{StaysIdleUntil, at_time, is_idle};
+ghost use Rattle.fc_registry.specs.Watches.{StaysIdleUntil, at_time, is_idle, observer_counts};
 ghost use Rattle.fc_core.specs.Stage.{Stage};
 ghost use Rattle.fc_core.specs.Exchanges.{advanced, has_exchange};
+ghost use Rattle.fc_core.specs.Gauges.{gauges_at};
 ghost use Rattle.fc_core.specs.Ids.{free_id};
 ghost use Rattle.fc_core.specs.Receiving.{delivered, emission_if};
 ghost use Rattle.fc_core.specs.Legal.{resent};
@@ -22,10 +23,10 @@ use crate::server::{Begin, Server};
 use crate::witness::Witness;
 use coap_msg::{Emission, Endpoint};
 use fc_core::front::blank_emission;
-use fc_core::{Handled, Step, Task};
+use fc_core::{FrontGauges, Handled, Step, Task};
 use fc_help::Readings;
 use fc_observe::Ticked;
-use fc_registry::{SHARDS, SLOTS, SlotNumber};
+use fc_registry::{PLACES, SHARDS, SLOTS, SlotNumber};
 use std::alloc::{AllocError, Global};
 use std::marker::Model;
 
@@ -185,6 +186,25 @@ impl Engine {
         ensures { StaysIdleUntil result (shard_at self.now.shards shard) }
     {
         self.server.idle_until(shard)
+    }
+
+    /// Returns how many exchanges and transfers the front holds at `now`, and their limits.
+    ///
+    /// `now` is in milliseconds. This is no event: nothing changes.
+    pub fn gauges(&self, now: u64) -> FrontGauges
+        ensures { result ≡ gauges_at now self.now.front }
+    {
+        self.server.gauges(now)
+    }
+
+    /// Returns how many observers each slot of a shard, 0 to 7, has, by its place in the shard.
+    ///
+    /// This is no event: nothing changes.
+    pub fn observer_counts(&self, shard: u8) -> [u8; PLACES]
+        requires { shard < 8 }
+        ensures { result ≡ observer_counts (shard_at self.now.shards shard) }
+    {
+        self.server.observer_counts(shard)
     }
 
     /// Notifies the first observer of a shard, 0 to 7, that has a pending notification.

@@ -7,8 +7,9 @@ ghost use Rattle.fc_server.specs.Notified.{notified_as};
 
 use crate::engine::NotifyOutcome;
 use coap_msg::{Emission, Endpoint};
-use fc_core::Handled;
+use fc_core::{FrontGauges, Handled};
 use fc_observe::Ticked;
+use fc_registry::PLACES;
 
 /// A server that handles datagrams and notifies observers.
 ///
@@ -51,6 +52,20 @@ pub trait Ingress {
     /// milliseconds, and needn't be the latest such time. 2^64 - 1 means that neither is expected.
     fn idle_until(&self, shard: u8) -> u64
         ensures { calls.stays_idle shard self.now result };
+
+    /// Returns how many exchanges and transfers the front holds at `now`, and their limits.
+    ///
+    /// `now` is in milliseconds. Nothing changes.
+    fn gauges(&self, now: u64) -> FrontGauges
+        ensures { calls.tells_gauges now self.now result };
+
+    /// Returns how many observers each slot of a shard, 0 to 7, has, by its place in the shard.
+    fn observer_counts(&self, shard: u8) -> [u8; PLACES]
+        ensures { calls.tells_observers shard self.now result };
+
+    /// Returns how many jobs were sent to workers since the server's start.
+    fn offloaded(&self) -> u64
+        ensures { calls.tells_offloaded self.now result };
 
     /// Notifies the first observer of a shard, 0 to 7, that has a pending notification.
     ///

@@ -52,9 +52,11 @@
 //!   notification has timed out, then until no observer has a pending one. At the end this was
 //!   found for each shard, or no message ID was available. `flush::idle_until` returns the earliest
 //!   of the times that the shards return.
+//! - The gauges of the front at a time, and the numbers of a shard's observers, are read. A read is
+//!   no event.
 //!
 //! By the contracts of `Server`, `Engine::handle`, `tick`, `fire`, `resend`, `notify`, `idle_until`,
-//! `SingleThread`, `Flushing::begin`, `step`, `flush::idle_until`.
+//! `gauges`, `observer_counts`, `SingleThread`, `Flushing::begin`, `step`, `flush::idle_until`.
 #![tactic(auto)]
 
 pub mod alone;

@@ -5,9 +5,10 @@
 ghost use Rattle.std.specs.Prelude.{◌≡◌, ℕ, List, ◌<◌, ◌≤◌, if◌then◌else◌, [], false, length, slice_set, IfOk, OnOk};
 ghost use Rattle.fc_registry.specs.Shards.{first_shards, shard_at};
 ghost use Rattle.fc_registry.specs.Turns.{written_if};
-ghost use Rattle.fc_registry.specs.Watches.{StaysIdleUntil, at_time, is_idle, signal_call, signalled};
+ghost use Rattle.fc_registry.specs.Watches.{StaysIdleUntil, at_time, is_idle, observer_counts, signal_call, signalled};
 ghost use Rattle.fc_core.specs.declared.event.Event.{Event};
 ghost use Rattle.fc_core.specs.Exchanges.{advanced, first_front};
+ghost use Rattle.fc_core.specs.Gauges.{gauges_at};
 ghost use Rattle.fc_core.specs.Heads.{no_words};
 ghost use Rattle.fc_core.specs.Receiving.{after_delivered, delivered, emission_if, handled};
 ghost use Rattle.fc_core.specs.Timers.{timer_job};
@@ -16,11 +17,11 @@ ghost use Rattle.fc_server.specs.Steps.{shard_asked, shard_ticked, shard_told, s
 
 use coap_msg::{Emission, Endpoint};
 use fc_core::front::blank_emission;
-use fc_core::{DEFAULT_POLICY, Event, Front, Handled, Heads, Policy, Responded, Task};
+use fc_core::{DEFAULT_POLICY, Event, Front, FrontGauges, Handled, Heads, Policy, Responded, Task};
 use fc_help::Readings;
 use fc_machine::Frame;
 use fc_observe::Ticked;
-use fc_registry::{Job, Shard, SlotNumber, make_shards};
+use fc_registry::{Job, PLACES, Shard, SlotNumber, make_shards};
 use std::alloc::{AllocError, Global};
 use std::marker::Model;
 
@@ -190,6 +191,23 @@ impl Server {
         ensures { StaysIdleUntil result (shard_at self.now.shards shard) }
     {
         self.shards[usize::from(shard)].idle_until()
+    }
+
+    /// Returns how many exchanges and transfers the front holds at `now`, and their limits.
+    ///
+    /// `now` is in milliseconds. See [`Front::gauges`].
+    pub fn gauges(&self, now: u64) -> FrontGauges
+        ensures { result ≡ gauges_at now self.now.front }
+    {
+        self.front.gauges(now)
+    }
+
+    /// Returns how many observers each slot of a shard has, by its place in the shard.
+    pub fn observer_counts(&self, shard: u8) -> [u8; PLACES]
+        requires { shard < length self.now.shards }
+        ensures { result ≡ observer_counts (shard_at self.now.shards shard) }
+    {
+        self.shards[usize::from(shard)].observer_counts()
     }
 
     /// Applies an event to the task of the job that it names, and returns its emission.

@@ -10,7 +10,7 @@ use Rattle.fc_server.specs.Notified.{Notified, is_given, notification_in}
 use Rattle.fc_workers.specs.Answers.{IsSomeIdle, IsSomeTick}
 use Rattle.fc_workers.specs.Asked.{IsLoggedCall, IsServerCall}
 use Rattle.fc_calls.specs.Logged.{AdvancesFront, AdvancesIdle, AdvancesShard, LoggedCall}
-use Rattle.fc_workers.specs.Called.{BenchCall, LooksAhead, WorkerView, WireCall, worker_view}
+use Rattle.fc_workers.specs.Called.{BenchCall, CountsObservers, LooksAhead, ReadsGauges, WorkerView, WireCall, worker_view}
 use Rattle.fc_workers.specs.Counts.{Tallies}
 use Rattle.fc_workers.specs.Fronts.{Beginning}
 use Rattle.fc_workers.specs.Dispatch.{HasCalled, IsTakenIn, IsTurnAsked}
@@ -81,6 +81,9 @@ module _ {T : Type 0} (s : WorkerView T) where
     passes_over = PassesOverPooled;
     notifies = NotifiesPooled;
     stays_idle = StaysIdlePooled;
+    tells_gauges = λ now state gauges. s.bench (ReadsGauges now gauges);
+    tells_observers = λ shard now counts. s.bench (CountsObservers shard counts);
+    tells_offloaded = λ now count. count ≡ length now.done.sent.sent;
   }
 
   -- these are the shares of as many workers. They got exactly the jobs of this channel that they

@@ -1,10 +1,10 @@
 //! Consequences of the service's definitions: each function's contract is a law.
-ghost use Rattle.std.specs.Prelude.{◌≡◌, ◌+◌, ◌-◌, ◌*◌, ◌%◌, ◌<◌, ◌≤◌, ◌↔◌, ◌⊎◌, ℕ, Bool, List, [], ◌∷◌, None, Option, Some, codes, false, flat_map, map, true};
+ghost use Rattle.std.specs.Prelude.{◌≡◌, ◌+◌, ◌-◌, ◌*◌, ◌/◌, ◌%◌, ◌<◌, ◌≤◌, ◌↔◌, ◌⊎◌, ℕ, Bool, List, [], ◌∷◌, None, Option, Some, codes, false, flat_map, length, map, true};
 ghost use Rattle.fc_core.specs.declared.front.Handled.TheVariants.{Job, Nothing, Reply, Signal};
 ghost use Rattle.fc_observe.specs.declared.observers.Ticked.{Ticked};
 ghost use Rattle.fc_observe.specs.declared.observers.Ticked.TheVariants.{Quiet};
 ghost use Rattle.fc_registry.specs.Shards.{shard_at};
-ghost use Rattle.fc_registry.specs.Watches.{at_time, overdue_place};
+ghost use Rattle.fc_registry.specs.Watches.{at_time, overdue_place, watch_at};
 ghost use Rattle.fc_server.specs.Notified.{Nobody, Notified};
 ghost use Rattle.fc_server.specs.Steps.{shard_turn};
 ghost use Rattle.fc_server.specs.declared.server.Begin.{Begin};
@@ -17,9 +17,13 @@ ghost use Rattle.fc_service.specs.Histories.{IsOneHistory, arrivals_in, arrivals
 ghost use Rattle.fc_server.specs.Ingresses.{is_reply};
 ghost use Rattle.fc_lines.specs.Emissions.{printed};
 ghost use Rattle.fc_service.specs.Playing.{IsNextText, IsPlayedOut, PlayedLine, printed_lines};
+ghost use Rattle.fc_core.specs.Gauges.{gauges_at};
+ghost use Rattle.fc_record.specs.Gauges.{observers_of};
+ghost use Rattle.fc_record.specs.Recording.{Recording, recorded_calls};
 ghost use Rattle.fc_record.specs.Reports.{nothing_counted};
+ghost use Rattle.fc_record.specs.declared.gauges.Gauges.{Gauges};
 ghost use Rattle.fc_service.specs.Logs.{ArePeriods, IsReportText};
-ghost use Rattle.fc_service.specs.Reporting.{Reporting, ReportsIfDue, reported_calls, reporting_from};
+ghost use Rattle.fc_service.specs.Reporting.{AreGaugesOf, Reporting, ReportsIfDue, reported_calls, reporting_from};
 ghost use Rattle.fc_workers.specs.declared.call_log.CallLog.{CallLog};
 ghost use Rattle.fc_service.specs.Rounds.{EndsInTime, HasServed, WaitsAfter, round_calls, sendings_in};
 ghost use Rattle.fc_server.specs.Flushing.{most_steps};
@@ -179,14 +183,27 @@ pub fn restarts_keep_the_order_of_observe()
 /// A report is made when it is due or later, once, and an idle server wakes up for it.
 ///
 /// A server that reports each minute makes no report before 60,000 ms. At 61,500 ms, with nothing
-/// counted, it reports that, once, and the next report is due at 121,500 ms. No server is idle for
+/// counted, it reports that, once, with the gauges of this time, and the next report is due at
+/// 121,500 ms. No server is idle for
 /// longer than until its next report is due.
 pub fn reports_come_in_time<N: Ingress, Q: Reporter>()
     ensures early { (s : N) (log : CallLog) (new : Reporting N) → ReportsIfDue Q.reported N.calls 59999 (reporting_from 60000 log s) new → new ≡ reporting_from 60000 log s }
     ensures overdue { (s : N) (log : CallLog) (new : Reporting N) → ReportsIfDue Q.reported N.calls 61500 (reporting_from 60000 log s) new
-        → (after : CallLog) × Q.reported nothing_counted log after
-        × (new ≡ record { ingress = s; report = nothing_counted; every = 60000; due = 121500; log = after }) }
+        → (gauges : Gauges) × AreGaugesOf N.calls 61500 s gauges
+        × (after : CallLog) × Q.reported (record nothing_counted { gauges = gauges }) log after
+        × (new ≡ record { ingress = s; report = record nothing_counted { gauges = gauges }; every = 60000; due = 121500; log = after }) }
     ensures awake { (shard until : ℕ) (now : Reporting N) → (reported_calls Q.reported N.calls).stays_idle shard now until → until ≤ now.due }
+{}
+
+/// The gauges of a server on one thread are its own.
+///
+/// They are those of its front at the time of the report. The observers of slot n are those in its
+/// list, at place n / 8 of shard n mod 8. No job was sent to a worker.
+pub fn gauges_of_one_thread_are_its_own<C: Recorder>()
+    ensures front { (now : ℕ) (s : Recording) (gauges : Gauges) → AreGaugesOf (recorded_calls C.recorded) now s gauges → gauges.front ≡ gauges_at now s.alone.engine.front }
+    ensures observers { (now n : ℕ) (s : Recording) (gauges : Gauges) → n < 64 → AreGaugesOf (recorded_calls C.recorded) now s gauges
+        → observers_of gauges.observers.shards n ≡ length (watch_at (shard_at s.alone.engine.shards (n % 8)) (n / 8)).held }
+    ensures offloaded { (now : ℕ) (s : Recording) (gauges : Gauges) → AreGaugesOf (recorded_calls C.recorded) now s gauges → gauges.offloaded ≡ 0 }
 {}
 
 /// The texts of `--log` that give a period of reports.

@@ -97,9 +97,11 @@
 //!   again (`serials::serial_of_start`, `laws`). Tests show that a server with workers begins at
 //!   this serial, and that the time is the system clock's.
 //! - **Reports**: with a period, a report is made at the first round at or after the report's due
-//!   time, before the round's datagram is handled. It is made once, of the counts up to then, and
-//!   the next is due one period later. The counts are those of the calls' results, in both kinds of
-//!   servers. Each wait ends when a report is due, or up to 100 ms later (`serve_at`, by
+//!   time, before the round's datagram is handled. It is made once, of the counts up to then and
+//!   the gauges of the round's time, and the next is due one period later. The counts are those of
+//!   the calls' results, in both kinds of servers. On one thread the gauges are the server's. With
+//!   workers they are those of some state of its front and of each shard, and the number of jobs
+//!   that were sent is the dispatcher's. Each wait ends when a report is due, or up to 100 ms later (`serve_at`, by
 //!   `HasRunReported`, whose calls are `reported_calls`). The contract doesn't say how such a run
 //!   left the server, and no law says that its rounds are one history. Without a period, the server
 //!   is called directly, and nothing is counted.

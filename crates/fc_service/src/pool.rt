@@ -18,11 +18,12 @@ ghost use Rattle.fc_workers.specs.OneOrder.{HaveOneOrder, IsNewLog, logs_of};
 
 use crate::replies::Replies;
 use coap_msg::{Emission, Endpoint};
-use fc_core::Handled;
+use fc_core::{FrontGauges, Handled};
 use fc_filed::{NewServerBook, ServerName};
 use fc_jobs::{Jobs, Sent};
 use fc_observe::Ticked;
 use fc_record::{RecordedBench, Recorder};
+use fc_registry::PLACES;
 use fc_server::Begin;
 pub use fc_server::Ingress;
 use fc_server::engine::NotifyOutcome;
@@ -128,6 +129,18 @@ impl<'a, 'b, R: Wait, B: Bench, G: Gate, W: Wire, M: TimeSource> Ingress
         } else {
             0
         }
+    }
+
+    fn gauges(&self, now: u64) -> FrontGauges {
+        self.dispatcher.gauges(self.rt, now)
+    }
+
+    fn observer_counts(&self, shard: u8) -> [u8; PLACES] {
+        self.dispatcher.observer_counts(self.rt, shard)
+    }
+
+    fn offloaded(&self) -> u64 {
+        self.dispatcher.offloaded()
     }
 
     // Counts the job of the lease that a shard granted. Nothing is written over `emission`: the job

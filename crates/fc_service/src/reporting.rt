@@ -1,12 +1,13 @@
 //! A server that reports its counts, with a period in milliseconds.
 ghost use Rattle.std.specs.Prelude.{◌≡◌};
-ghost use Rattle.fc_service.specs.Reporting.{ReportsIfDue, readies_through, reported_calls, reporting_from};
+ghost use Rattle.fc_service.specs.Reporting.{AreGaugesOf, ReportsIfDue, readies_through, reported_calls, reporting_from};
 
 use crate::rounds::Preparation;
 use coap_msg::{Emission, Endpoint};
-use fc_core::Handled;
+use fc_core::{FrontGauges, Handled};
 use fc_observe::Ticked;
-use fc_record::{Report, Reporter};
+use fc_record::{Gauges, ObserverCounts, Report, Reporter};
+use fc_registry::PLACES;
 use fc_server::Ingress;
 use fc_server::engine::NotifyOutcome;
 use fc_workers::CallLog;
@@ -60,8 +61,31 @@ impl<'a, N: Ingress, Q: Reporter> Reporting<'a, N, Q> {
         if now < self.due {
             return;
         }
+        self.report.gauges = gauges_of(self.ingress, now);
         self.reporter.report(&self.report, &mut self.log);
         self.due = now.saturating_add(self.every);
+    }
+}
+
+// Returns the gauges of a server at `now`, in milliseconds.
+fn gauges_of<N: Ingress>(ingress: &N, now: u64) -> Gauges
+    ensures { AreGaugesOf N.calls now ingress.now result }
+{
+    Gauges {
+        offloaded: ingress.offloaded(),
+        front: ingress.gauges(now),
+        observers: ObserverCounts {
+            shards: [
+                ingress.observer_counts(0),
+                ingress.observer_counts(1),
+                ingress.observer_counts(2),
+                ingress.observer_counts(3),
+                ingress.observer_counts(4),
+                ingress.observer_counts(5),
+                ingress.observer_counts(6),
+                ingress.observer_counts(7),
+            ],
+        },
     }
 }
 
@@ -93,6 +117,18 @@ impl<'a, N: Ingress, Q: Reporter> Ingress for Reporting<'a, N, Q> {
     // Returns no later time than that of the next report, so that the server wakes up for it.
     fn idle_until(&self, shard: u8) -> u64 {
         self.ingress.idle_until(shard).min(self.due)
+    }
+
+    fn gauges(&self, now: u64) -> FrontGauges {
+        self.ingress.gauges(now)
+    }
+
+    fn observer_counts(&self, shard: u8) -> [u8; PLACES] {
+        self.ingress.observer_counts(shard)
+    }
+
+    fn offloaded(&self) -> u64 {
+        self.ingress.offloaded()
     }
 
     fn notify(&mut self, shard: u8, now: u64, emission: &mut Emission) -> NotifyOutcome {

@@ -4,10 +4,11 @@ ghost use Rattle.fc_service.specs.Ingresses.{calls_through, waited_calls};
 
 use crate::lines::LineIngress;
 use coap_msg::{Emission, Endpoint};
-use fc_core::Handled;
+use fc_core::{FrontGauges, Handled};
 use fc_help::Readings;
 use fc_host::scripted::ScriptedHost;
 use fc_observe::Ticked;
+use fc_registry::PLACES;
 use fc_server::Ingress;
 use fc_server::engine::NotifyOutcome;
 use std::sync::Wait;
@@ -52,6 +53,18 @@ impl<'a, 'b, R: Wait, N: Ingress> Ingress for LockStep<'a, 'b, R, N> {
 
     fn idle_until(&self, shard: u8) -> u64 {
         self.ingress.idle_until(shard)
+    }
+
+    fn gauges(&self, now: u64) -> FrontGauges {
+        self.ingress.gauges(now)
+    }
+
+    fn observer_counts(&self, shard: u8) -> [u8; PLACES] {
+        self.ingress.observer_counts(shard)
+    }
+
+    fn offloaded(&self) -> u64 {
+        self.ingress.offloaded()
     }
 
     // Waits for the worker of the lease, and returns its notification as one to be sent. A lease

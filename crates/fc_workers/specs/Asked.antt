@@ -7,11 +7,11 @@ use Rattle.fc_workers.specs.Fronts.{BeganAt, Beginning}
 use Rattle.fc_workers.specs.declared.call_log.CallLog.{CallLog}
 use Rattle.fc_workers.specs.Logs.{IsUnfiled, TrackedLog, with_filed_call}
 use Rattle.fc_registry.specs.Slots.{Shard}
-use Rattle.fc_workers.specs.Called.{BenchCall, LeavesUnquiet, LooksAhead}
+use Rattle.fc_workers.specs.Called.{BenchCall, CountsObservers, LeavesUnquiet, LooksAhead, ReadsGauges}
 use Rattle.fc_calls.specs.Logged.{LoggedCall, HandlesDatagram, DrawsId, AnswersRequest, TakesForJob, CommitsRun, InstallsProgram, RemovesProgram, TellsReceipt}
 use Rattle.fc_calls.specs.Logged.{GivesReadings, LooksAt, AdvancesFront, FiresTimer, HandsSignal, AdvancesIdle, AdvancesShard, GivesTurn, NotesTurn, GivesUpTurn, RaisesWord}
 use Rattle.fc_calls.specs.Kept.{confirm_times}
-use Rattle.fc_calls.specs.Doings.{AdvancesTo, AnswersAt, CommitsAt, DescribesTo, DrawsAt, FiresAt, GivesTurnAt, GivesUpAt, HandsOn, HandlesAt, InstallsTo, NotesAt, PassesIfIdle, RemovesFrom, TakesTo, TellsIdleUntil, TicksAt}
+use Rattle.fc_calls.specs.Doings.{AdvancesTo, AnswersAt, CommitsAt, DescribesTo, DrawsAt, FiresAt, GivesTurnAt, GivesUpAt, HandsOn, HandlesAt, InstallsTo, NotesAt, PassesIfIdle, RemovesFrom, TakesTo, TellsGauges, TellsIdleUntil, TellsObservers, TicksAt}
 
 -- a call with this effect was made on the shard with this index, 0 to 7, of a server that began so.
 pub record IsAsked (first : Beginning) (index : ℕ) (Does : Shard → Shard → Type 0) : Type 0 where
@@ -28,10 +28,13 @@ pub record IsFrontAsked (first : FrontState) (Does : FrontState → FrontState �
   pub began : ∥ BeganAt first before ∥₁
   pub does : Does before after
 
--- the meaning of an unlogged call of a server that began so: the shard with this index was called.
+-- the meaning of an unlogged call of a server that began so: the front, or the shard with this
+-- index, was called.
 abbrev pub IsServerCall : Beginning → BenchCall → Type 0
 IsServerCall first (LeavesUnquiet shard now) = IsAsked first shard (λ before after. PassesIfIdle now before false after)
 IsServerCall first (LooksAhead shard until) = IsAsked first shard (λ before after. TellsIdleUntil before until after)
+IsServerCall first (ReadsGauges now gauges) = IsFrontAsked first.front (λ before after. TellsGauges now before gauges after)
+IsServerCall first (CountsObservers shard counts) = IsAsked first shard (λ before after. TellsObservers before counts after)
 
 -- a call with this effect was made on such a front, and is filed: it is the last entry on the
 -- worker's own track.

@@ -1,8 +1,9 @@
 -- The calls that workers make, each with its arguments and its result, and the contracts of the
 -- called parts.
-use Rattle.std.specs.Prelude.{ℕ, Bool}
+use Rattle.std.specs.Prelude.{ℕ, Bool, List}
 use Rattle.coap_msg.specs.declared.types.Emission.{Emission}
 use Rattle.fc_calls.specs.Logged.{LoggedCall}
+use Rattle.fc_core.specs.declared.gauges.FrontGauges.{FrontGauges}
 use Rattle.fc_workers.specs.declared.call_log.CallLog.{CallLog}
 use Rattle.fc_workers.specs.Logs.{IsUnfiled, TrackedLog}
 
@@ -13,6 +14,10 @@ pub data BenchCall : Type 0 where
   LeavesUnquiet : (shard now : ℕ) → BenchCall
   -- a shard returns this time, before which it is idle unless it is called.
   LooksAhead : (shard until : ℕ) → BenchCall
+  -- the front has these gauges at this time.
+  ReadsGauges : (now : ℕ) (gauges : FrontGauges) → BenchCall
+  -- the slots of a shard have these numbers of observers, by place.
+  CountsObservers : (shard : ℕ) (counts : List ℕ) → BenchCall
 
 -- a call of a transmitter for the job with this number.
 pub data WireCall : Type 0 where

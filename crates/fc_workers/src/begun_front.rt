@@ -7,18 +7,18 @@ ghost use Rattle.fc_core.specs.Answering.{emission_of, responded};
 ghost use Rattle.fc_core.specs.Contents.{IsOf};
 ghost use Rattle.fc_core.specs.Receiving.{handled};
 ghost use Rattle.fc_core.specs.Timers.{timer_job};
-ghost use Rattle.fc_calls.specs.Doings.{AdvancesTo, AnswersAt, DrawsAt, FiresAt, HandlesAt};
+ghost use Rattle.fc_calls.specs.Doings.{AdvancesTo, AnswersAt, DrawsAt, FiresAt, HandlesAt, TellsGauges};
 ghost use Rattle.fc_calls.specs.Logged.{AdvancesFront, AnswersRequest, DrawsId, FiresTimer, HandlesDatagram};
 ghost use Rattle.fc_linear.specs.Operations.{FrontDoes};
 ghost use Rattle.fc_linear.specs.Parts.{first_server};
 ghost use Rattle.fc_filed.specs.Tracked.{IsPartClosed};
-ghost use Rattle.fc_workers.specs.Asked.{IsFrontCall};
+ghost use Rattle.fc_workers.specs.Asked.{IsFrontAsked, IsFrontCall};
 ghost use Rattle.fc_workers.specs.Fronts.{BeganAt};
 
 use crate::books::{Books, ServerOf};
 use crate::track_log::TrackLog;
 use coap_msg::{Emission, Endpoint};
-use fc_core::{Answer, Front, Handled, Responded};
+use fc_core::{Answer, Front, FrontGauges, Handled, Responded};
 use fc_filed::{FiledFront, FiledTrack, FrontOf, ServerBook, ServerTracks};
 use fc_registry::{Job, SlotNumber};
 use std::marker::PhantomData;
@@ -68,6 +68,15 @@ impl<B: Books> BegunFront<B> {
         let tracks = &mut log.tracks;
         self.filed
             .handle_for_first(book, tracks, log.who, now, endpoint, bytes, job, reply)
+    }
+
+    /// Returns how many exchanges and transfers the front holds at `now`, and their limits.
+    ///
+    /// A read changes nothing and isn't filed. See [`Front::gauges`].
+    pub(crate) fn gauges(&self, now: u64) -> FrontGauges
+        ensures { IsFrontAsked B.first.front (λ before after. TellsGauges now before result after) }
+    {
+        self.filed.gauges(now)
     }
 
     /// Advances the clock to `now`, and files the call. See [`Front::tick`].

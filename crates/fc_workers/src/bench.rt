@@ -9,7 +9,7 @@ ghost use Rattle.fc_registry.specs.Notes.{noted_as};
 ghost use Rattle.fc_registry.specs.Turns.{written_if};
 ghost use Rattle.fc_registry.specs.Views.{HasSize, taken_with};
 ghost use Rattle.fc_heads.specs.Heads.{IsRaised, fresh, peeked, word_of};
-ghost use Rattle.fc_workers.specs.Called.{BenchCall, LeavesUnquiet, LooksAhead};
+ghost use Rattle.fc_workers.specs.Called.{BenchCall, CountsObservers, LeavesUnquiet, LooksAhead, ReadsGauges};
 ghost use Rattle.fc_calls.specs.Logged.{AdvancesFront, AdvancesIdle, FiresTimer, GivesReadings, HandsSignal, LooksAt};
 ghost use Rattle.fc_calls.specs.Logged.{AdvancesShard, AnswersRequest, CommitsRun, DrawsId, GivesTurn, GivesUpTurn, HandlesDatagram};
 ghost use Rattle.fc_calls.specs.Logged.{InstallsProgram};
@@ -22,15 +22,15 @@ ghost use Rattle.fc_workers.specs.Answers.{ended_by, saturated};
 
 use crate::track_log::TrackLog;
 use coap_msg::{Emission, Endpoint};
-use fc_core::{Answer, Handled};
+use fc_core::{Answer, FrontGauges, Handled};
 use fc_filed::ServerName;
 use fc_heads::HeadSeat;
 use fc_help::Readings;
 use fc_machine::Outcome;
 use fc_observe::{Ticked, Turn};
 use fc_registry::{
-    Committed, Job, Made, NoteOutcome, Notification, Receipt, Removal, SlotNumber, SlotSnapshot,
-    Taken, Ticket,
+    Committed, Job, Made, NoteOutcome, Notification, PLACES, Receipt, Removal, SlotNumber,
+    SlotSnapshot, Taken, Ticket,
 };
 use fc_verify::Verified;
 use std::sync::{Arc, Wait};
@@ -242,6 +242,21 @@ pub trait Bench {
     /// See [`Shard::idle_until`](fc_registry::Shard::idle_until).
     fn idle_until<R: Wait>(&self, rt: &R, shard: u8) -> u64
         ensures { called (LooksAhead shard result) };
+
+    /// Returns how many exchanges and transfers the front holds at `now`, and their limits.
+    ///
+    /// `now` is in milliseconds. Nothing changes, and the log doesn't have the call. Another thread
+    /// may call the front at any time: its state is that at some time during this call. See
+    /// [`Front::gauges`](fc_core::Front::gauges).
+    fn gauges<R: Wait>(&self, rt: &R, now: u64) -> FrontGauges
+        ensures { called (ReadsGauges now result) };
+
+    /// Returns how many observers each slot of a shard, 0 to 7, has, by its place in the shard.
+    ///
+    /// Nothing changes, and the log doesn't have the call. Another thread may call the shard at any
+    /// time. See [`Shard::observer_counts`](fc_registry::Shard::observer_counts).
+    fn observer_counts<R: Wait>(&self, rt: &R, shard: u8) -> [u8; PLACES]
+        ensures { called (CountsObservers shard result) };
 
     /// Asks a shard, 0 to 7, for its next lease, at a time in milliseconds.
     ///

@@ -1,11 +1,11 @@
 //! The dispatcher, which sends jobs to workers or runs them itself.
 //!
 //! A pool's driver calls it for each datagram (`fc_service`).
-ghost use Rattle.std.specs.Prelude.{◌≡◌, ◌<◌, true, MatchBool, None};
+ghost use Rattle.std.specs.Prelude.{◌≡◌, ◌<◌, true, length, MatchBool, None};
 ghost use Rattle.fc_jobs.specs.Ends.{with_sent};
 ghost use Rattle.fc_workers.specs.Answers.{IsSomeIdle, IsSomeTick};
 ghost use Rattle.fc_calls.specs.Logged.{AdvancesFront, AdvancesIdle, AdvancesShard};
-ghost use Rattle.fc_workers.specs.Called.{LeavesUnquiet, LooksAhead, worker_view};
+ghost use Rattle.fc_workers.specs.Called.{CountsObservers, LeavesUnquiet, LooksAhead, ReadsGauges, worker_view};
 ghost use Rattle.fc_workers.specs.Dispatch.{AreSignalled, HasCalled, IsExpensive, IsExpensiveAt, IsDispatched, IsPriced, IsTakenIn, IsTimerFired, IsTurnAsked, IsWorkedHere, MayGo, logged_at};
 ghost use Rattle.fc_workers.specs.Logs.{TrackedLog as Log};
 ghost use Rattle.fc_workers.specs.declared.dispatcher.Offload.TheVariants.{Expensive};
@@ -19,10 +19,10 @@ use crate::track_log::TrackLog;
 use crate::worker_seed::WorkerSeed;
 use coap_msg::{Emission, Endpoint};
 use fc_core::front::blank_job;
-use fc_core::{Handled, Step};
+use fc_core::{FrontGauges, Handled, Step};
 use fc_jobs::{Jobs, Sent};
 use fc_observe::Ticked;
-use fc_registry::{Ask, Job, SHARDS, SlotNumber};
+use fc_registry::{Ask, Job, PLACES, SHARDS, SlotNumber};
 use std::mem;
 use std::sync::Wait;
 
@@ -206,6 +206,31 @@ impl<'a, B: Bench, G: Gate, W: Wire, M: TimeSource> Dispatcher<'a, B, G, W, M> {
         ensures { B.called (LooksAhead shard result) }
     {
         self.context.bench.idle_until(rt, shard)
+    }
+
+    /// Returns how many exchanges and transfers the front holds at `now`, and their limits.
+    ///
+    /// `now` is in milliseconds. See [`Bench::gauges`].
+    pub fn gauges<R: Wait>(&self, rt: &R, now: u64) -> FrontGauges
+        ensures { B.called (ReadsGauges now result) }
+    {
+        self.context.bench.gauges(rt, now)
+    }
+
+    /// Returns how many observers each slot of a shard, 0 to 7, has, by its place in the shard.
+    ///
+    /// See [`Bench::observer_counts`].
+    pub fn observer_counts<R: Wait>(&self, rt: &R, shard: u8) -> [u8; PLACES]
+        ensures { B.called (CountsObservers shard result) }
+    {
+        self.context.bench.observer_counts(rt, shard)
+    }
+
+    /// Returns how many jobs were sent to the workers.
+    pub fn offloaded(&self) -> u64
+        ensures { result ≡ length self.now.done.sent.sent }
+    {
+        self.done.sent.count()
     }
 
     /// Asks a shard, 0 to 7, for its next lease, and dispatches the lease's job.

@@ -117,6 +117,9 @@
 //!   each of the eight shards from the server's first shard to its last (`HaveOneOrder`). So two
 //!   threads that draw a message ID each draw two, and two that install a program each in one slot
 //!   get two serials (`laws`).
+//! - The gauges that a server returns are those of a front that began so, at the given time, and the
+//!   numbers of observers are those of a shard with the given index. Neither read changes anything
+//!   or is filed. A dispatcher returns how many jobs it sent.
 //! - The readings that a server returns are those of some call of its device
 //!   (`Device::are_readings`).
 //! - A head word that a worker reads is no less than the worker has seen of that slot. After a raise
@@ -126,7 +129,7 @@
 //!   and that a call returns.
 //!
 //! By the contracts of `Context::work_off`, `Context::work`, `worker`, `run_workers`,
-//! `drive_workers`, `Dispatcher::handle`, `Dispatcher::notify`, the clauses of `Bench`,
+//! `drive_workers`, `Dispatcher::handle`, `notify`, `offloaded`, the clauses of `Bench`,
 //! `Locked::new`, `close`, `laws`.
 #![tactic(auto)]
 

@@ -54,19 +54,19 @@ use crate::track_log::{TrackLog, begin_logs};
 use crate::unassigned::Unassigned;
 use coap_msg::{Emission, Endpoint};
 use fc_calls::calls::{
-    AdvanceIfIdle, Commit, Describe, GiveUp, IdleUntil, Install, NextDue, Note, Remove, Signal,
-    Take, Tick,
+    AdvanceIfIdle, Commit, CountObservers, Describe, GiveUp, IdleUntil, Install, NextDue, Note,
+    Remove, Signal, Take, Tick,
 };
 use fc_calls::{Change, ShardCall};
-use fc_core::{Answer, Front, Handled, Policy, Responded};
+use fc_core::{Answer, Front, FrontGauges, Handled, Policy, Responded};
 use fc_filed::{FiledCall, NewServerBook, ServerBook, ServerTracks};
 use fc_heads::{HeadSeat, Heads};
 use fc_help::Readings;
 use fc_machine::Outcome;
 use fc_observe::{Ticked, Turn};
 use fc_registry::{
-    Committed, Job, Made, NoteOutcome, Notification, Receipt, Removal, SHARDS, Shard, SlotNumber,
-    SlotSnapshot, Taken, Ticket, make_shards,
+    Committed, Job, Made, NoteOutcome, Notification, PLACES, Receipt, Removal, SHARDS, Shard,
+    SlotNumber, SlotSnapshot, Taken, Ticket, make_shards,
 };
 use fc_verify::Verified;
 use std::alloc::{AllocError, Global};
@@ -542,6 +542,15 @@ impl<'a, B: Books, D: Device> Bench for Locked<'a, B, D> {
 
     fn idle_until<R: Wait>(&self, rt: &R, shard: u8) -> u64 {
         self.inspect(rt, shard, IdleUntil, &mut ())
+    }
+
+    fn gauges<R: Wait>(&self, rt: &R, now: u64) -> FrontGauges {
+        let front = self.front.lock(rt);
+        front.gauges(now)
+    }
+
+    fn observer_counts<R: Wait>(&self, rt: &R, shard: u8) -> [u8; PLACES] {
+        self.inspect(rt, shard, CountObservers, &mut ())
     }
 
     fn next_due<R: Wait>(

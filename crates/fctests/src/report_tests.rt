@@ -5,11 +5,11 @@
 use crate::socket_tests::put_datagram;
 use coap_dedup::Limits;
 use coap_msg::{Emission, Endpoint};
-use fc_core::{MOST_NETWORKS, Network, Policy};
+use fc_core::{DEFAULT_POLICY, FrontGauges, MOST_NETWORKS, Network, Policy};
 use fc_host::sensors::NoSensors;
 use fc_host::socket::{Buffer, Sink, Source};
 use fc_observe::CONFIRM_AFTER;
-use fc_record::{LoggedReports, NoChanges, Report, Reporter};
+use fc_record::{Gauges, LoggedReports, NoChanges, ObserverCounts, Report, Reporter};
 use fc_service::command::command;
 use fc_service::options::{BadOption, serve_options};
 use fc_service::reports::Reports;
@@ -50,10 +50,16 @@ const GET_3: [u8; 8] = [0x40, 0x01, 0x00, 0x03, 0xb1, b'r', 0x01, b'1'];
 // An empty confirmable message, which is rejected by a Reset message.
 const EMPTY_4: [u8; 4] = [0x40, 0x00, 0x00, 0x04];
 
-// A source that returns no datagram at its first and its sixth call.
+// The bytes of the datagrams of each call of a source, from the second on. An empty one is none.
+type Datagrams = &'static [&'static [u8]];
+
+const REFUSED: Datagrams = &[&DELETE_1, &GET_2, &GET_3, &EMPTY_4, &[], &EMPTY_4];
+
+// A source that returns no datagram at its first call, and none after its last datagram.
 #[derive(Drop)]
 struct Script {
     calls: usize,
+    datagrams: Datagrams,
 }
 
 impl Source for Script {
@@ -65,12 +71,10 @@ impl Source for Script {
     ) -> Option<(usize, Endpoint)> {
         let _ = log;
         let _ = wait;
-        self.calls = self.calls.saturating_add(1);
-        match self.calls {
-            2 => put_datagram(&DELETE_1, buffer),
-            3 => put_datagram(&GET_2, buffer),
-            4 => put_datagram(&GET_3, buffer),
-            5 | 7 => put_datagram(&EMPTY_4, buffer),
+        let calls = self.calls;
+        self.calls = calls.saturating_add(1);
+        match self.datagrams.get(calls.checked_sub(1)?) {
+            Some(bytes) if !bytes.is_empty() => put_datagram(bytes, buffer),
             _ => None,
         }
     }
@@ -92,35 +96,77 @@ impl Sink for Lossy {
 
 // The reports before each of the seven rounds.
 const EXPECTED: &str = "\
-[INFO  fcd] report received=0 forbidden=0 unavailable=0 notified=0 resent=0 removed=0 sent=0 failed=0
-[INFO  fcd] report received=0 forbidden=0 unavailable=0 notified=0 resent=0 removed=0 sent=0 failed=0
-[INFO  fcd] report received=1 forbidden=1 unavailable=0 notified=0 resent=0 removed=0 sent=1 failed=0
-[INFO  fcd] report received=2 forbidden=1 unavailable=0 notified=0 resent=0 removed=0 sent=1 failed=1
-[INFO  fcd] report received=3 forbidden=1 unavailable=1 notified=0 resent=0 removed=0 sent=2 failed=1
-[INFO  fcd] report received=4 forbidden=1 unavailable=1 notified=0 resent=0 removed=0 sent=2 failed=2
-[INFO  fcd] report received=4 forbidden=1 unavailable=1 notified=0 resent=0 removed=0 sent=2 failed=2
+[INFO  fcd] report received=0 forbidden=0 unavailable=0 notified=0 resent=0 removed=0 offloaded=0 exchanges=0/2 transfers=0/16 sent=0 failed=0
+[INFO  fcd] report received=0 forbidden=0 unavailable=0 notified=0 resent=0 removed=0 offloaded=0 exchanges=0/2 transfers=0/16 sent=0 failed=0
+[INFO  fcd] report received=1 forbidden=1 unavailable=0 notified=0 resent=0 removed=0 offloaded=0 exchanges=1/2 transfers=0/16 sent=1 failed=0
+[INFO  fcd] report received=2 forbidden=1 unavailable=0 notified=0 resent=0 removed=0 offloaded=0 exchanges=2/2 transfers=0/16 sent=1 failed=1
+[INFO  fcd] report received=3 forbidden=1 unavailable=1 notified=0 resent=0 removed=0 offloaded=0 exchanges=2/2 transfers=0/16 sent=2 failed=1
+[INFO  fcd] report received=4 forbidden=1 unavailable=1 notified=0 resent=0 removed=0 offloaded=0 exchanges=2/2 transfers=0/16 sent=2 failed=2
+[INFO  fcd] report received=4 forbidden=1 unavailable=1 notified=0 resent=0 removed=0 offloaded=0 exchanges=2/2 transfers=0/16 sent=2 failed=2
 ";
 
-// Serves the script with this many workers and this period in milliseconds. Returns the lines of
+// PUT /p/7 of the program `mov64 r0, 69` and `exit`; GET /r/7 with Observe 0; PUT /p/9 of a first
+// block of 16 bytes; and an empty confirmable message.
+const PUT_7: [u8; 41] = *b"\x40\x03\x00\x01\xb1p\x017\xffFCB1\x00\x00\x02\x00\x02\x00\x00\x00\x00\x00\x00\x00\xb7\x00\x00\x00\x45\x00\x00\x00\x95\x00\x00\x00\x00\x00\x00\x00";
+
+const OBSERVE_7: [u8; 9] = *b"\x40\x01\x00\x02\x60\x51r\x017";
+
+const BLOCK_9: [u8; 28] = *b"\x40\x03\x00\x03\xb1p\x019\xd1\x03\x08\xffFCB1\x00\x00\x02\x00\x02\x00\x00\x00\x00\x00\x00\x00";
+
+const HELD: Datagrams = &[&PUT_7, &OBSERVE_7, &BLOCK_9, &EMPTY_4];
+
+// The reports before each of the five rounds.
+const EXPECTED_HELD: &str = "\
+[INFO  fcd] report received=0 forbidden=0 unavailable=0 notified=0 resent=0 removed=0 offloaded=0 exchanges=0/1024 transfers=0/16 sent=0 failed=0
+[INFO  fcd] report received=0 forbidden=0 unavailable=0 notified=0 resent=0 removed=0 offloaded=0 exchanges=0/1024 transfers=0/16 sent=0 failed=0
+[INFO  fcd] report received=1 forbidden=0 unavailable=0 notified=0 resent=0 removed=0 offloaded=0 exchanges=1/1024 transfers=0/16 sent=1 failed=0
+[INFO  fcd] report received=2 forbidden=0 unavailable=0 notified=0 resent=0 removed=0 offloaded=0 exchanges=2/1024 transfers=0/16 observers/7=1 sent=1 failed=1
+[INFO  fcd] report received=3 forbidden=0 unavailable=0 notified=0 resent=0 removed=0 offloaded=0 exchanges=3/1024 transfers=1/16 observers/7=1 sent=2 failed=1
+";
+
+// The datagrams of a server, its policy, and the number of datagrams after which it ends.
+#[derive(Clone, Copy)]
+struct Played {
+    datagrams: Datagrams,
+    policy: Policy,
+    limit: u32,
+}
+
+const PLAYED_REFUSED: Played = Played {
+    datagrams: REFUSED,
+    policy: POLICY,
+    limit: 5,
+};
+
+const PLAYED_HELD: Played = Played {
+    datagrams: HELD,
+    policy: DEFAULT_POLICY,
+    limit: 4,
+};
+
+// Serves the datagrams with this many workers and this period in milliseconds. Returns the lines of
 // the reports.
 fn reported_by<R: Abort + AllocGlobal + Threads + Wait + Clock + Sync>(
     rt: &R,
+    played: &Played,
     workers: u8,
     every: Option<u64>,
 ) -> Vec<u8> {
     let alloc = rt.alloc();
     let lines = Locked::new(rt, Vec::new(alloc));
     let logger = Logged::new(rt, LevelFilter::Info, &lines);
-    let served = serve_by(rt, alloc, &LoggedReports::new(&logger), workers, every);
+    let reporter = LoggedReports::new(&logger);
+    let served = serve_by(rt, alloc, &reporter, played, workers, every);
     assert!(rt; served);
     lines.into_inner()
 }
 
-// Serves the script with this reporter. Returns whether serving succeeded.
+// Serves the datagrams with this reporter. Returns whether serving succeeded.
 fn serve_by<R: Threads + Wait + Clock + Sync, Q: Reporter + Sync>(
     rt: &R,
     alloc: Global,
     reporter: &Q,
+    played: &Played,
     workers: u8,
     every: Option<u64>,
 ) -> bool {
@@ -128,10 +174,14 @@ fn serve_by<R: Threads + Wait + Clock + Sync, Q: Reporter + Sync>(
     let mut err = Vec::new(alloc);
     let extent = Extent {
         workers,
-        limit: 5,
+        limit: played.limit,
         started: 0,
         first_id: 0,
-        policy: POLICY,
+        policy: played.policy,
+    };
+    let script = Script {
+        calls: 0,
+        datagrams: played.datagrams,
     };
     let lossy = Lossy {
         sends: AtomicUsize::new(0),
@@ -142,7 +192,7 @@ fn serve_by<R: Threads + Wait + Clock + Sync, Q: Reporter + Sync>(
         &records_of(&end, Reports { every, reporter }),
         &mut err,
         &NoSensors,
-        Script { calls: 0 },
+        script,
         &lossy,
         extent,
     );
@@ -165,8 +215,18 @@ fn records_of<'a, L: Log, Q: Reporter>(
 #[test]
 fn reports_have_the_counts_of_their_rounds(rt: HostRuntime) -> Result<(), Fail> {
     for workers in [1, 2] {
-        let lines = reported_by(&rt, workers, Some(0));
+        let lines = reported_by(&rt, &PLAYED_REFUSED, workers, Some(0));
         assert!(rt; lines.as_slice() == EXPECTED.as_bytes(), "{workers}");
+    }
+    Ok(())
+}
+
+// An upload and a registration are answered, and an upload in blocks is in progress.
+#[test]
+fn reports_have_the_gauges_of_their_rounds(rt: HostRuntime) -> Result<(), Fail> {
+    for workers in [1, 2] {
+        let lines = reported_by(&rt, &PLAYED_HELD, workers, Some(0));
+        assert!(rt; lines.as_slice() == EXPECTED_HELD.as_bytes(), "{workers}");
     }
     Ok(())
 }
@@ -175,11 +235,34 @@ fn reports_have_the_counts_of_their_rounds(rt: HostRuntime) -> Result<(), Fail> 
 #[test]
 fn nothing_is_reported_before_it_is_due(rt: HostRuntime) -> Result<(), Fail> {
     for every in [None, Some(86_400_000)] {
-        assert!(rt; reported_by(&rt, 1, every).is_empty());
-        assert!(rt; reported_by(&rt, 2, every).is_empty());
+        assert!(rt; reported_by(&rt, &PLAYED_REFUSED, 1, every).is_empty());
+        assert!(rt; reported_by(&rt, &PLAYED_REFUSED, 2, every).is_empty());
     }
     Ok(())
 }
+
+// Nine jobs of workers, 12 exchanges, three transfers, two observers of slot 7 and one of slot 12.
+const GAUGES: Gauges = Gauges {
+    offloaded: 9,
+    front: FrontGauges {
+        exchanges: 12,
+        most_exchanges: 1024,
+        transfers: 3,
+        most_transfers: 16,
+    },
+    observers: ObserverCounts {
+        shards: [
+            [0; 8],
+            [0; 8],
+            [0; 8],
+            [0; 8],
+            [0, 1, 0, 0, 0, 0, 0, 0],
+            [0; 8],
+            [0; 8],
+            [2, 0, 0, 0, 0, 0, 0, 0],
+        ],
+    },
+};
 
 // Reports these counts after a datagram that couldn't be sent and two that were sent.
 fn report_after_a_failure<L: Log>(logger: &L, report: &Report) {
@@ -202,10 +285,11 @@ fn a_report_has_each_of_its_numbers(rt: HostRuntime) -> Result<(), Fail> {
         notified: 40,
         resent: 2,
         removed: 5,
+        gauges: GAUGES,
     };
     report_after_a_failure(&logger, &report);
     let text =
-        "[INFO  fcd] report received=1204 forbidden=1 unavailable=3 notified=40 resent=2 removed=5 sent=2 failed=1\n";
+        "[INFO  fcd] report received=1204 forbidden=1 unavailable=3 notified=40 resent=2 removed=5 offloaded=9 exchanges=12/1024 transfers=3/16 observers/7=2 observers/12=1 sent=2 failed=1\n";
     assert!(rt; lines.into_inner().as_slice() == text.as_bytes());
     Ok(())
 }
