@@ -1,17 +1,18 @@
 #!/usr/bin/env python3
-"""Tries the timers of `fcd serve --every`: their beats, their observers, late ones, and an idle
-server's wakes.
+"""Tries the timers of `fcd serve --every`: their beats, their observers, late ones, expensive ones,
+and an idle server's wakes.
 
 Run it at the top of the repository, after `rt run` in crates/fcd and crates/fcreq, which builds the
 programs:
 
     python3 tests/timers/try.py [WORD..] [--seconds SECONDS]
 
-The tries are `mistakes`, `beats`, `late`, `many` and `idle`; the named ones are made, or all.
-`many` has ten timers of 100 ms and a client with four requests a second, with one worker and with
-two, for 60 s unless `--seconds` says otherwise. Each wrong row is printed with its result, and then
-the status is 1."""
+The tries are `mistakes`, `beats`, `late`, `many`, `expensive` and `idle`; the named ones are made, or
+all. `many` has ten timers of 100 ms, each with an observer, and a client with four requests a second,
+with one worker and with two, for 60 s unless `--seconds` says otherwise. Each wrong row is printed
+with its result, and then the status is 1."""
 import argparse
+import select
 import signal
 import socket
 import subprocess
@@ -29,6 +30,14 @@ COUNTER = bytes.fromhex(
     "4643423108000f000f00000000000000" "7116000000000000" "bf27000000000000" "5506070002000000" "b701000000000000" "8500000003000000"
     "bf02000000000000" "0702000001000000" "b701000000000000" "8500000004000000" "8500000007000000" "bf71000000000000" "b702000008000000"
     "8500000005000000" "b700000000000000" "9500000000000000"
+)
+
+# A program that counts to 20 times 1,000,000, adds one to the count in its variables, and notifies:
+# some 40,000,000 instructions.
+SLOW = (
+    bytes.fromhex("4643423208000f00") + (1 + 20 * (3 + 2 * 1_000_000) + 9).to_bytes(4, "little") + bytes(4) + bytes.fromhex("b706000000000000" "b707000000000000" "0707000001000000")
+    + bytes.fromhex("a507feff") + (1_000_000).to_bytes(4, "little") + bytes.fromhex("0706000001000000" "a506fbff") + (20).to_bytes(4, "little")
+    + bytes.fromhex("b701000000000000" "8500000003000000" "0700000001000000" "bf02000000000000" "b701000000000000" "8500000004000000" "8500000007000000" "b700000000000000" "9500000000000000")
 )
 
 
@@ -94,9 +103,6 @@ def mistakes(_seconds):
         (["--every", "0:7"], "a period of 1 to 86400000 ms"),
         (["--every", "1000:64"], "a slot of 0 to 63"),
         (["--every", "1000"], "for example 1000:7"),
-        (["--every", "482:1"], "more than 512 exchanges"),
-        (["--every", "100:1", "--exchanges", "4096"], "more than 2048 exchanges"),
-        (["--every", "1000:1", "--share", "100"], "more than 100 exchanges"),
     ]:
         ran = subprocess.run([FCD, "serve", "--port", str(free_port()), *words], capture_output=True, text=True, timeout=10)
         wrong += row(f"{' '.join(words)} is refused", ran.returncode == 2 and said in ran.stderr, ran.stderr.strip())
@@ -119,8 +125,8 @@ def beats(_seconds):
 
 
 def late(_seconds):
-    """Tries a server that is stopped for 3 s: it makes one late request, and continues at its own
-    beat."""
+    """Tries a server that is stopped for 3 s: the program runs once late, and then at its own
+    beats."""
     with Server("--every", "500:0", slots=[0]) as server:
         time.sleep(1)
         server.it.send_signal(signal.SIGSTOP)
@@ -141,35 +147,101 @@ def ask_at_rate(server, until, codes):
         time.sleep(0.25)
 
 
+class Observers:
+    """Observers of some slots, which count their notifications."""
+
+    def __init__(self, port, slots):
+        self.sockets, self.told, self.codes = {}, dict.fromkeys(slots, 0), set()
+        for slot in slots:
+            it = socket.socket(socket.AF_INET, socket.SOCK_DGRAM)
+            it.connect(("127.0.0.1", port))
+            # A confirmable GET of /r/SLOT with Observe 0 and a token of one byte (RFC 7641, 2).
+            it.send(bytes([0x41, 1, 0, slot, slot, 0x60, 0x51, 0x72, 0x01, 0x30 + slot]))
+            self.sockets[it] = slot
+        self.stopped = threading.Event()
+        self.thread = threading.Thread(target=self.listen)
+        self.thread.start()
+
+    def listen(self):
+        """Counts notifications, and acknowledges those that ask for it."""
+        while not self.stopped.is_set():
+            for it in select.select(list(self.sockets), [], [], 0.2)[0]:
+                got = it.recv(2000)
+                self.codes.add(got[1])
+                if got[0] >> 4 & 3 == 0:
+                    it.send(bytes([0x60, 0]) + got[2:4])
+                if got[0] >> 4 & 3 < 2:
+                    self.told[self.sockets[it]] += 1
+
+    def __enter__(self):
+        return self
+
+    def __exit__(self, *_):
+        self.stopped.set()
+        self.thread.join()
+        for it in self.sockets:
+            it.close()
+
+
 def many(seconds):
-    """Tries ten timers of 100 ms and a client with four requests a second."""
+    """Tries ten timers of 100 ms, an observer of each, and a client with four requests a second."""
     wrong = 0
     every = [it for slot in range(10) for it in ("--every", f"100:{slot}")]
     for workers in (1, 2):
-        with Server("--workers", workers, "--exchanges", 65536, *every, slots=range(10)) as server:
+        with Server("--workers", workers, *every, slots=range(10)) as server, Observers(server.port, range(10)) as seen:
+            time.sleep(0.5)
             counts, codes, began = [server.count(slot) for slot in range(10)], [], time.monotonic()
+            before = dict(seen.told)
             asking = threading.Thread(target=ask_at_rate, args=(server, began + seconds, codes))
             asking.start()
             time.sleep(seconds)
+            told = [seen.told[slot] - before[slot] for slot in range(10)]
             runs = [server.count(slot) - count for slot, count in enumerate(counts)]
             asking.join()
         least = int(0.99 * seconds * 10)
         wrong += row(f"{workers} workers: ten timers of 100 ms for {seconds} s", min(runs) >= least, f"{min(runs)} to {max(runs)} runs, {least} at least")
+        wrong += row(f"{workers} workers: an observer of each is notified", min(told) >= least and seen.codes == {0x45}, f"{min(told)} to {max(told)} notifications, codes {sorted(seen.codes)}")
         wrong += row(f"{workers} workers: the client beside them", all(it == ["2.05"] for it in codes), f"{len(codes)} requests")
     return wrong
 
 
+def expensive(_seconds):
+    """Tries a timer of 50 ms whose program takes longer, at a worker: its beats don't pile up, and the
+    server responds meanwhile."""
+    with Server("--workers", 2, "--every", "50:0") as server:
+        fcreq("--port", server.port, "get", "/.well-known/core")
+        put, listed = fcreq("--port", server.port, "put", "/p/0", body=SLOW), []
+        with Observers(server.port, [0]) as seen:
+            for _ in range(40):
+                began = time.monotonic()
+                fcreq("--port", server.port, "get", "/.well-known/core")
+                listed.append(time.monotonic() - began)
+                time.sleep(0.1)
+            runs = seen.told[0]
+            fcreq("--port", server.port, "delete", "/p/0")
+            time.sleep(0.5)
+            ended = seen.told[0]
+            time.sleep(2)
+            after = seen.told[0] - ended
+    wrong = row("an expensive program runs again and again at a worker", runs >= 5, f"{put[1]} {runs} notifications in {sum(listed) + 4:.1f} s")
+    wrong += row("the server responds meanwhile", max(listed) < 0.25, f"{max(listed):.3f} s at most")
+    return wrong + row("no beat has piled up", after == 0, f"{after} notifications after the removal")
+
+
 def idle(_seconds):
-    """Returns how often a server with one timer of 2 s wakes in 10 s."""
-    with Server("--workers", 1, "--every", "2000:0", slots=[0]) as server:
-        time.sleep(1)
-        before = server.wakes()
-        time.sleep(10)
-        wakes = server.wakes() - before
-    return row("one timer of 2 s: at most three wakes a request", wakes <= 15, f"{wakes} in 10 s")
+    """Tries how often a server with one timer of 10 s wakes in 30 s, with one worker and with two."""
+    wrong = 0
+    for workers in (1, 2):
+        with Server("--workers", workers, "--every", "10000:0", slots=[0]) as server:
+            time.sleep(1)
+            before = server.wakes()
+            time.sleep(30)
+            wakes = server.wakes() - before
+        wrong += row(f"{workers} workers: one timer of 10 s wakes the server once in 10 s", wakes == 3, f"{wakes} in 30 s")
+    return wrong
 
 
-TRIES = {"mistakes": mistakes, "beats": beats, "late": late, "many": many, "idle": idle}
+TRIES = {"mistakes": mistakes, "beats": beats, "late": late, "many": many, "expensive": expensive, "idle": idle}
 
 
 def main():

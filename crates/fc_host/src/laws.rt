@@ -1,9 +1,9 @@
 //! Consequences of the host's definitions: each function's contract is a law.
-ghost use Rattle.std.specs.Prelude.{◌≡◌, ◌+◌, ◌*◌, ◌-◌, ◌<◌, ◌≤◌, ◌^◌, ℕ, [], ◌∷◌, List, None, Option, Some, length};
+ghost use Rattle.std.specs.Prelude.{◌≡◌, ◌+◌, ◌*◌, ◌-◌, ◌<◌, ◌≤◌, ◌^◌, ℕ, [], ◌∷◌, List, length};
 ghost use Rattle.std.specs.List.{All};
 ghost use Rattle.coap_msg.specs.Wire.{Message, SpellsMessage};
 ghost use Rattle.fc_host.specs.Clocks.{device_readings, no_sensors};
-ghost use Rattle.fc_host.specs.Timers.{EndsWithin, new_timer, next_beat, put_off, request_bytes, until_due};
+ghost use Rattle.fc_host.specs.Timers.{first_due, new_timer, next_beat, put_off};
 ghost use Rattle.fc_host.specs.declared.timer.Timer.{Timer};
 
 use crate::socket::{BUFFER, SHORTEST_WAIT};
@@ -32,15 +32,6 @@ pub fn shortest_wait_is_100_ms()
     ensures { SHORTEST_WAIT ≡ 100 }
 {}
 
-/// A timer's request is a non-confirmable POST to its slot.
-///
-/// It is a message of version 1 without a token, with a message ID of two bytes. Its Uri-Path
-/// options are `r` and the slot's number (RFC 7252, sections 3 and 5.10).
-pub fn timers_post_to_their_slot()
-    ensures seven { request_bytes 0 7 ≡ 0x50 ∷ 0x02 ∷ 0 ∷ 0 ∷ 0xb1 ∷ 0x72 ∷ 0x01 ∷ 0x37 ∷ [] }
-    ensures last { request_bytes 258 63 ≡ 0x50 ∷ 0x02 ∷ 1 ∷ 2 ∷ 0xb1 ∷ 0x72 ∷ 0x02 ∷ 0x36 ∷ 0x33 ∷ [] }
-{}
-
 /// A timer skips the beats that it missed.
 ///
 /// A timer of 1,000 ms is due at 1,000 ms first, and then at 2,000 ms. If it is 3,300 ms overdue,
@@ -55,13 +46,12 @@ pub fn timers_keep_their_beat()
     ensures whole { (now : ℕ) (t : Timer) → t.due ≤ now → now + t.every < 2 ^ 64 → (beats : ℕ) × (next_beat now t ≡ t.due + beats * t.every) }
 {}
 
-/// A receive waits no longer than until a timer is due.
+/// No timer is due before the first.
 ///
-/// At 4,200 ms, with timers due at 5,000 and 7,000 ms, it waits at most 800 ms, and no longer than
-/// it would without them.
-pub fn waits_end_when_a_timer_is_due()
-    ensures endless { (t : Timer) → until_due 4200 (record t { due = 5000 } ∷ record t { due = 7000 } ∷ []) None ≡ Some 800 }
-    ensures shorter { (t : Timer) → until_due 4200 (record t { due = 5000 } ∷ record t { due = 7000 } ∷ []) (Some 100) ≡ Some 100 }
-    ensures all { (now : ℕ) (ts : List Timer) (wait : Option ℕ) → All (λ t. EndsWithin (t.due - now) (until_due now ts wait)) ts }
-    ensures none { (now : ℕ) (wait : Option ℕ) → until_due now [] wait ≡ wait }
+/// Of timers that are due at 5,000 and 7,000 ms, the first is due at 5,000 ms, in either order.
+pub fn no_timer_is_due_before_the_first()
+    ensures rising { (t : Timer) → first_due (record t { due = 5000 } ∷ record t { due = 7000 } ∷ []) ≡ 5000 }
+    ensures falling { (t : Timer) → first_due (record t { due = 7000 } ∷ record t { due = 5000 } ∷ []) ≡ 5000 }
+    ensures all { (ts : List Timer) → All (λ t. first_due ts ≤ t.due) ts }
+    ensures none { first_due [] ≡ 2 ^ 64 - 1 }
 {}

@@ -33,11 +33,8 @@
 //! - **A reply** that a workers' transmitter sends is passed to its sink, once, with the
 //!   transmitter's log. The sink returns whether the reply was sent. If a job ends, nothing is
 //!   passed.
-//! - **A timer** makes a request at its beats. No request is early, no beat has two requests, and
-//!   missed beats are skipped. A receive waits no longer than until a timer is due. A timer's
-//!   request is a non-confirmable POST of its slot's resource. A response to it isn't passed to the
-//!   sink. `Timed::next` guarantees this for its timers. `Source` has no clause on timers: by the
-//!   trait, this holds of a receive for some timers.
+//! - **A timer** is first due one period after the start, and then at its beats: missed beats are
+//!   skipped, and the next beat is later than the present time (`laws`).
 //! - **Tested, not proved**: a time is the clock's, and a random word is its low bits. A file is
 //!   read again. A socket is opened at its address and port; tests show what it sends and how long
 //!   it waits.
@@ -45,8 +42,7 @@
 //!   were set.
 //!
 //! By the contracts of `clock::SensingDevice`, `sensors::NoSensors`, `read_sensed`,
-//! `socket::Source`, `endpoint_of`, `address_of`, `Replying`, `timers::Timers`, `Timed`,
-//! `PastTimers`, `laws`.
+//! `socket::Source`, `endpoint_of`, `address_of`, `Replying`, `Timer`, `timers::first_due`, `laws`.
 #![tactic(auto)]
 
 pub mod clock;

@@ -1,4 +1,4 @@
-//! A timer: a slot whose program is called periodically.
+//! A timer: a slot whose program runs periodically.
 use fc_registry::SlotNumber;
 use std::marker::Model;
 
@@ -41,12 +41,14 @@ impl Period {
     }
 }
 
-/// A slot, the period of its program's calls, and the time of the next call.
+/// A slot, the period of its program's runs, and the time of the next run.
 ///
-/// The time is in milliseconds since the start.
+/// The time is in milliseconds since the start. `offloaded` says that the last run was sent to a
+/// worker.
 #[derive(Clone, Copy)]
 pub struct Timer {
     pub every: Period,
     pub slot: SlotNumber,
     pub due: u64,
+    pub offloaded: bool,
 }

@@ -104,7 +104,7 @@ impl Jobs {
 }
 
 impl Sent {
-    /// Returns how many jobs were sent.
+    /// Returns the number of jobs that were sent, which is the number of the next job.
     pub fn count(&self) -> u64
         ensures { result ≡ length self.now.sent }
     {

@@ -10,8 +10,8 @@ use Rattle.fc_core.specs.declared.front.Handled.{Handled}
 use Rattle.fc_core.specs.Exchanges.{advanced}
 use Rattle.fc_core.specs.Receiving.{delivered, emission_if}
 use Rattle.fc_calls.specs.Logged.{AnswersRequest, LoggedCall}
-use Rattle.fc_server.specs.SingleThread.{HandlesAlone, NotifiesAlone, PassesAlone, PassesOverAlone, ResendsAlone, StaysIdleAlone, TellsGaugesAlone, TellsObserversAlone, TellsOffloadedAlone}
-use Rattle.fc_server.specs.Ingresses.{IngressCalls, is_reply}
+use Rattle.fc_server.specs.SingleThread.{FiresAlone, HandlesAlone, NotifiesAlone, PassesAlone, PassesOverAlone, ResendsAlone, StaysIdleAlone, TellsGaugesAlone, TellsObserversAlone, TellsOffloadedAlone}
+use Rattle.fc_server.specs.Ingresses.{IngressCalls, is_reply, never}
 use Rattle.fc_server.specs.Shown.{IsShown}
 use Rattle.fc_server.specs.declared.alone.SingleThread.{SingleThread}
 use Rattle.fc_workers.specs.declared.call_log.CallLog.{CallLog}
@@ -63,6 +63,8 @@ module _ (Recorded : Requested → CallLog → CallLog → Type 0) where
   recorded_calls = record {
     handles = HandlesRecorded;
     passes = λ now old new. PassesAlone now old.alone new.alone × (new.log ≡ old.log);
+    fires = λ slot now old new outcome. FiresAlone slot now old.alone new.alone outcome × (new.log ≡ old.log);
+    is_first_due = λ now due. due ≡ never;
     resends = λ shard now old new ticked. ResendsAlone shard now old.alone new.alone ticked × (new.log ≡ old.log);
     passes_over = λ shard now old new. PassesOverAlone shard now old.alone new.alone × (new.log ≡ old.log);
     notifies = λ shard now old new told. NotifiesAlone shard now old.alone new.alone told × (new.log ≡ old.log);

@@ -7,8 +7,8 @@ use coap_msg::{Emission, Endpoint};
 use fc_core::{FrontGauges, Handled};
 use fc_help::Readings;
 use fc_observe::Ticked;
-use fc_registry::PLACES;
-use fc_server::engine::NotifyOutcome;
+use fc_registry::{PLACES, SlotNumber};
+use fc_server::engine::{FireOutcome, NotifyOutcome};
 use fc_server::{Ingress, SingleThread};
 use std::marker::Model;
 
@@ -65,6 +65,14 @@ impl<'a, C: Recorder> Ingress for RecordedAlone<'a, C> {
 
     fn tick(&mut self, now: u64) {
         self.alone.tick(now);
+    }
+
+    fn fire(&mut self, slot: SlotNumber, now: u64) -> FireOutcome {
+        self.alone.fire(slot, now)
+    }
+
+    fn first_due(&self) -> u64 {
+        self.alone.first_due()
     }
 
     fn resend(&mut self, shard: u8, now: u64) -> Ticked {

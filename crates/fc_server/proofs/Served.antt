@@ -31,7 +31,7 @@ use Rattle.fc_core.specs.Stage.{ToTake}
 use Rattle.fc_core.specs.Stages.{first_stage, new_task}
 use Rattle.fc_core.specs.Timers.{timer_job}
 use Rattle.fc_server.specs.Agreement.{Agrees, Parts}
-use Rattle.fc_server.specs.Serving.{TurnGiven, Delivers, FiresTimer, Handled, Handles, IsReachable, AsksForTurn, Passes, TicksShard, Serves, next, signalled_below, turned, with_tasks, worked, IsBegun, IsSignalled, WorksOff}
+use Rattle.fc_server.specs.Serving.{TurnGiven, Delivers, FiresTimer, Handled, Handles, IsReachable, AsksForTurn, Passes, TicksShard, Serves, next, run_through, signalled_below, turned, with_tasks, worked, IsBegun, IsSignalled, WorksOff}
 use Rattle.fc_server.specs.States.{Responds, AtWork, Does, DrawsId, ServerState}
 use Rattle.fc_server.specs.Steps.{DeliveredTo, Done, IsOfJob, IsReached, resent_if, shard_asked, shard_changed, shard_resent, shard_ticked, shard_turn, turn_if}
 use Rattle.fc_server.proofs.Others.{delivered_done, does_done, draws_done, fired_done, responds_done, shard_done, ticked_done}
@@ -266,10 +266,10 @@ module _ (slot now : ℕ) (old mid : ServerState) (front : mid.front ≡ advance
   pub fired_begun : IsReachable old → IsBegun mid (new_task (timer_job slot))
   fired_begun s = record { history = next s.history (Fire slot now) None; rest = s.tasks; serves = fired_on s.history s.tasks s.serves }
 
-pub fired_served : (readings : List ℕ) (slot now : ℕ) (old new : ServerState) → IsReachable old → FiresTimer readings slot now old new → IsReachable new
-fired_served readings slot now old new s fires =
+pub fired_served : (readings : List ℕ) (slot now : ℕ) (memory : Bool) (old new : ServerState) → IsReachable old → FiresTimer readings slot now memory old new → IsReachable new
+fired_served readings slot now memory old new s fires =
     let w = fires s.history s.tasks s.serves in
-    record { history = worked readings (ToTake 0) slot (length s.tasks) w.memory now None (next s.history (Fire slot now) None); tasks = w.tasks; serves = w.serves }
+    record { history = run_through readings (length s.tasks) memory now None (next s.history (Fire slot now) None); tasks = w.tasks; serves = w.serves }
 
 -- ---- a lease
 

@@ -8,11 +8,16 @@ use Rattle.fc_core.specs.declared.front.Handled.TheVariants.{Reply}
 use Rattle.fc_core.specs.declared.gauges.FrontGauges.{FrontGauges}
 use Rattle.fc_observe.specs.declared.observers.Ticked.{Ticked}
 use Rattle.fc_server.specs.Notified.{Notified}
+use Rattle.fc_server.specs.declared.engine.FireOutcome.{FireOutcome}
 
 -- whether the datagram that was written is to be sent.
 abbrev pub is_reply : Handled → Bool
 is_reply Reply = true
 is_reply other = false
+
+-- the time at which a timer of a server without timers is due: it isn't one.
+abbrev pub never : ℕ
+never = 18446744073709551615
 
 -- the effects and results of the calls of an ingress.
 pub record IngressCalls (S : Type 0) : Type 1 where
@@ -21,6 +26,10 @@ pub record IngressCalls (S : Type 0) : Type 1 where
   pub handles : ℕ → Endpoint → Bor (List ℕ) → S → S → Handled → Emission → Type 0
   -- time passed until this time.
   pub passes : ℕ → S → S → Type 0
+  -- the timer of a slot fired at this time, with this result.
+  pub fires : ℕ → ℕ → S → S → FireOutcome → Type 0
+  -- the first timer that the server fires itself is due at this time.
+  pub is_first_due : S → ℕ → Type 0
   -- a shard was advanced to this time, with this result.
   pub resends : ℕ → ℕ → S → S → Ticked → Type 0
   -- a shard that was idle at this time was advanced to it.

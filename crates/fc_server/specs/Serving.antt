@@ -108,10 +108,10 @@ abbrev pub Passes : ℕ → ServerState → ServerState → Type 0
 Passes now old new = (h : History) → (tasks : List Task) → Serves h old tasks → Serves (next h (Tick now) None) new tasks
 
 -- the timer of a slot fires, after every history so far. The timer's job, which gets the next
--- number, runs; nothing is sent.
-abbrev pub FiresTimer : List ℕ → ℕ → ℕ → ServerState → ServerState → Type 0
-FiresTimer readings slot now old new = (h : History) → (tasks : List Task) → Serves h old tasks
-    → Worked readings (next h (Fire slot now) None) (length tasks) (ToTake 0) slot now new None
+-- number, runs; nothing is sent. `memory` says whether memory for the job's snapshot was allocated.
+abbrev pub FiresTimer : List ℕ → ℕ → ℕ → Bool → ServerState → ServerState → Type 0
+FiresTimer readings slot now memory old new = (h : History) → (tasks : List Task) → Serves h old tasks
+    → Reaches (run_through readings (length tasks) memory now None (next h (Fire slot now) None)) new
 
 -- a shard is ticked, after every history so far. The emission is a retransmission, if any.
 abbrev pub TicksShard : ℕ → ℕ → ServerState → ServerState → Option Emission → Type 0
@@ -145,6 +145,12 @@ FindsProgram now shard = (job : Job) × (shard_turn now shard ≡ Some job) × (
 -- the task is the newest job, that of a lease, and it runs.
 abbrev pub Turns : List ℕ → ℕ → ℕ → ServerState → Task → ServerState → Option Emission → Type 0
 Turns readings now random old task new out = (h : History) → (rest : List Task) → Serves h old (rest ++ task ∷ []) → Turned readings h (length rest) now random new out
+
+-- the newest job, of this task, runs after every history so far, and its response is `out`. `memory`
+-- says whether memory for the job's snapshot was allocated.
+abbrev pub Runs : List ℕ → Bool → ℕ → ServerState → Task → ServerState → Option Emission → Type 0
+Runs readings memory now old task new out = (h : History) → (rest : List Task) → Serves h old (rest ++ task ∷ [])
+    → Reaches (run_through readings (length rest) memory now out h) new
 
 -- the task is the newest job, and it runs from this stage.
 abbrev pub WorksOff : List ℕ → Stage → ℕ → ServerState → Task → ServerState → Option Emission → Type 0

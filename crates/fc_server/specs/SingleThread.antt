@@ -1,6 +1,6 @@
 -- The effects of the calls of a server on one thread, with the input for its jobs. A call takes the
 -- number of a shard modulo 8.
-use Rattle.std.specs.Prelude.{◌≡◌, ◌%◌, ℕ, true, List, None, max}
+use Rattle.std.specs.Prelude.{◌≡◌, ◌%◌, ℕ, true, false, List, None, max}
 use Rattle.std.specs.Borrow.{Bor}
 use Rattle.coap_msg.specs.declared.types.Emission.{Emission}
 use Rattle.coap_msg.specs.declared.types.Endpoint.{Endpoint}
@@ -14,11 +14,13 @@ use Rattle.fc_core.specs.declared.front.Handled.{Handled}
 use Rattle.fc_observe.specs.declared.observers.Ticked.{Ticked}
 use Rattle.fc_registry.specs.Shards.{shard_at}
 use Rattle.fc_registry.specs.Watches.{StaysIdleUntil, at_time, is_idle, observer_counts}
-use Rattle.fc_server.specs.Ingresses.{IngressCalls, is_reply}
+use Rattle.fc_server.specs.Ingresses.{IngressCalls, is_reply, never}
 use Rattle.fc_server.specs.Notified.{Notified, Starved, is_given, notification_in}
-use Rattle.fc_server.specs.Serving.{AsksForTurn, Handles, Passes, TicksShard}
+use Rattle.fc_server.specs.Serving.{AsksForTurn, FiresTimer, Handles, Passes, TicksShard}
 use Rattle.fc_server.specs.Steps.{shard_told}
 use Rattle.fc_server.specs.declared.alone.SingleThread.{SingleThread}
+use Rattle.fc_server.specs.declared.engine.FireOutcome.{FireOutcome}
+use Rattle.fc_server.specs.declared.engine.FireOutcome.TheVariants.{Ended, Refused, Sent}
 
 abbrev pub HandlesAlone : ℕ → Endpoint → Bor (List ℕ) → SingleThread → SingleThread → Handled → Emission → Type 0
 HandlesAlone now from bytes old new handled reply =
@@ -26,6 +28,12 @@ HandlesAlone now from bytes old new handled reply =
 
 abbrev pub PassesAlone : ℕ → SingleThread → SingleThread → Type 0
 PassesAlone now old new = Passes now old.engine new.engine × (new.handed ≡ old.handed)
+
+-- the timer's job has ended, with a snapshot or without memory for one. No worker has it.
+abbrev pub FiresAlone : ℕ → ℕ → SingleThread → SingleThread → FireOutcome → Type 0
+FiresAlone slot now old new Ended = FiresTimer old.handed.readings slot now true old.engine new.engine × (new.handed ≡ old.handed)
+FiresAlone slot now old new Refused = FiresTimer old.handed.readings slot now false old.engine new.engine × (new.handed ≡ old.handed)
+FiresAlone slot now old new (Sent number) = ⊥
 
 abbrev pub ResendsAlone : ℕ → ℕ → SingleThread → SingleThread → Ticked → Type 0
 ResendsAlone shard now old new ticked =
@@ -59,6 +67,8 @@ abbrev pub alone_calls : IngressCalls SingleThread
 alone_calls = record {
   handles = HandlesAlone;
   passes = PassesAlone;
+  fires = FiresAlone;
+  is_first_due = λ now due. due ≡ never;
   resends = ResendsAlone;
   passes_over = PassesOverAlone;
   notifies = NotifiesAlone;

@@ -11,7 +11,7 @@ ghost use Rattle.fc_server.specs.Serving.{Serves};
 ghost use Rattle.fc_server.specs.Shown.{IsShown};
 ghost use Rattle.fc_server.specs.States.{CanBegin, begin_of};
 
-use crate::engine::{Engine, NotifyOutcome};
+use crate::engine::{Engine, FireOutcome, NotifyOutcome};
 use crate::ingress::Ingress;
 use crate::server::Begin;
 use crate::witness::{NoWitness, Witness};
@@ -19,7 +19,7 @@ use coap_msg::{Emission, Endpoint};
 use fc_core::{FrontGauges, Handled};
 use fc_help::{NO_READINGS, Readings};
 use fc_observe::Ticked;
-use fc_registry::{PLACES, SHARDS};
+use fc_registry::{PLACES, SHARDS, SlotNumber};
 use std::alloc::{AllocError, Global};
 
 /// Input for jobs: sensor readings, and a random word for timeouts.
@@ -114,6 +114,18 @@ impl Ingress for SingleThread {
 
     fn tick(&mut self, now: u64) {
         self.engine.tick(now);
+    }
+
+    fn fire(&mut self, slot: SlotNumber, now: u64) -> FireOutcome {
+        if self.engine.fire(slot, now, &self.handed.readings) {
+            FireOutcome::Ended
+        } else {
+            FireOutcome::Refused
+        }
+    }
+
+    fn first_due(&self) -> u64 {
+        u64::MAX
     }
 
     fn resend(&mut self, shard: u8, now: u64) -> Ticked {

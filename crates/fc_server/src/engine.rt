@@ -12,7 +12,7 @@ ghost use Rattle.fc_core.specs.Gauges.{gauges_at};
 ghost use Rattle.fc_core.specs.Ids.{free_id};
 ghost use Rattle.fc_core.specs.Receiving.{delivered, emission_if};
 ghost use Rattle.fc_core.specs.Legal.{resent};
-ghost use Rattle.fc_server.specs.Serving.{FindsProgram, Handles, IsBegun, IsOutToTake, IsReachable, AsksForTurn, FiresTimer, Passes, TicksShard, Serves, Turns, WorksOff, WorksOffUnread};
+ghost use Rattle.fc_server.specs.Serving.{FindsProgram, Handles, IsBegun, IsOutToTake, IsReachable, AsksForTurn, FiresTimer, Passes, Runs, TicksShard, Serves, Turns, WorksOff, WorksOffUnread};
 ghost use Rattle.fc_server.specs.Notified.{Starved, Unsent, is_given, notification_in, notified_as};
 ghost use Rattle.fc_server.specs.Serving.{IsSignalled};
 ghost use Rattle.fc_server.specs.Shown.{IsShown};
@@ -139,15 +139,17 @@ impl Engine {
     /// Fires the timer of a slot at `now`, in milliseconds, and runs the timer's job.
     ///
     /// The job's snapshot gets `readings`. The effect is the events `Fire`, `Take`, `Commit`,
-    /// `Raise` and `Answer`, which send nothing.
-    pub fn fire(&mut self, slot: SlotNumber, now: u64, readings: &Readings)
-        ensures { FiresTimer readings.now slot now self.old self.new }
+    /// `Raise` and `Answer`, which send nothing. Returns whether memory for the snapshot could be
+    /// allocated; without it no program runs.
+    pub fn fire(&mut self, slot: SlotNumber, now: u64, readings: &Readings) -> bool
+        ensures { FiresTimer readings.now slot now result self.old self.new }
     {
         let mut reply = blank_emission();
         let task = &mut self.task;
         self.server.fire(slot, now, &mut task.job);
         task.begin();
-        run(&mut self.server, now, task, readings, &mut reply);
+        let ran = run(&mut self.server, now, task, readings, &mut reply);
+        ran.has_memory
     }
 
     /// Advances a shard, 0 to 7, to `now` in milliseconds: the event `ShardTick`.
@@ -255,6 +257,17 @@ pub enum NotifyOutcome {
     Nobody,
 }
 
+/// The result of a timer that fired.
+#[derive(Clone, Copy, PartialEq, Eq)]
+pub enum FireOutcome {
+    /// The timer's job has ended.
+    Ended,
+    /// The job has ended without a run: memory for its snapshot couldn't be allocated.
+    Refused,
+    /// A worker has the job, or has ended it: the job was sent under this number.
+    Sent(u64),
+}
+
 // Passes an acknowledgement or a reset (`reset`) to each shard, for the shard's observers.
 fn signal(server: &mut Server, endpoint: Endpoint, id: u16, reset: bool)
     requires { IsReachable server.old }
@@ -326,7 +339,7 @@ fn work_off(
     let stage = &task.stage;
     match &stage.step {
         Step::ToMatch => look_and_run(server, now, task, readings, reply),
-        Step::ToTake(_) => run(server, now, task, readings, reply),
+        Step::ToTake(_) => run(server, now, task, readings, reply).is_sent,
         Step::ToInstall => install(server, alloc, now, task, reply),
         Step::ToRemove => remove(server, now, task, reply),
         Step::ToDescribe => describe(server, now, task, reply),
@@ -350,27 +363,40 @@ fn look_and_run(
 {
     let slot = task.job.origin.slot.number();
     server.peek(task, slot);
-    run(server, now, task, readings, reply)
+    run(server, now, task, readings, reply).is_sent
+}
+
+// The result of a run: whether memory for the snapshot could be allocated, and whether there is a
+// datagram to send.
+#[derive(Clone, Copy)]
+struct Ran {
+    has_memory: bool,
+    is_sent: bool,
 }
 
 // Runs the program of a job's slot, and answers the job. An event that the job's stage doesn't need
-// has no effect.
+// has no effect. The datagram to send, if there is one, is written over `reply`.
 fn run(
     server: &mut Server,
     now: u64,
     task: &mut Task,
     readings: &Readings,
     reply: &mut Emission,
-) -> bool
+) -> Ran
     requires { IsBegun server.old task.old }
-    ensures works { (count : ℕ) → WorksOff readings.now (Stage.ToTake count) now server.old task.old server.new (emission_if result reply.new) }
+    ensures runs { Runs readings.now result.has_memory now server.old task.old server.new (emission_if result.is_sent reply.new) }
+    ensures works { (count : ℕ) → WorksOff readings.now (Stage.ToTake count) now server.old task.old server.new (emission_if result.is_sent reply.new) }
     ensures job { task.new.job ≡ task.old.job }
-    ensures unsent { has_exchange task.old.job.origin.opening ≡ false → result ≡ false }
+    ensures unsent { has_exchange task.old.job.origin.opening ≡ false → result.is_sent ≡ false }
 {
-    server.take(readings, task);
+    let has_memory = server.take(readings, task);
     server.commit(now, task);
     server.raise(task);
-    server.respond(now, task, reply)
+    let is_sent = server.respond(now, task, reply);
+    Ran {
+        has_memory,
+        is_sent,
+    }
 }
 
 // Installs the program of a job's image, and answers the job.

@@ -5,11 +5,11 @@ ghost use Rattle.fc_registry.specs.Watches.{at_time, is_idle};
 ghost use Rattle.fc_server.specs.Ingresses.{IngressCalls, is_reply};
 ghost use Rattle.fc_server.specs.Notified.{notified_as};
 
-use crate::engine::NotifyOutcome;
+use crate::engine::{FireOutcome, NotifyOutcome};
 use coap_msg::{Emission, Endpoint};
 use fc_core::{FrontGauges, Handled};
 use fc_observe::Ticked;
-use fc_registry::PLACES;
+use fc_registry::{PLACES, SlotNumber};
 
 /// A server that handles datagrams and notifies observers.
 ///
@@ -30,6 +30,19 @@ pub trait Ingress {
     /// Advances the clock to `now`, in milliseconds.
     fn tick(&mut self, now: u64)
         ensures { calls.passes now self.old self.new };
+
+    /// Fires the timer of a slot at `now`, in milliseconds.
+    ///
+    /// The timer's job, a POST of the slot's resource, runs here or on a worker. It sends nothing.
+    fn fire(&mut self, slot: SlotNumber, now: u64) -> FireOutcome
+        ensures { calls.fires slot now self.old self.new result };
+
+    /// Returns when the first timer is due that the server fires itself.
+    ///
+    /// It fires the timer when it handles a datagram or its clock is advanced. The time is in
+    /// milliseconds; 2^64 - 1 means that the server has no timer.
+    fn first_due(&self) -> u64
+        ensures { calls.is_first_due self.now result };
 
     /// Advances a shard, 0 to 7, to `now`, and returns its retransmission.
     ///

@@ -31,7 +31,7 @@ use Rattle.fc_record.specs.ProgramRequests.{Requested}
 use Rattle.fc_record.specs.Recording.{Recording, recorded_calls}
 use Rattle.fc_workers.specs.declared.call_log.CallLog.{CallLog}
 use Rattle.fc_server.specs.SingleThread.{HandlesAlone, PassesAlone, alone_calls}
-use Rattle.fc_service.specs.Histories.{Arrival, IsOneHistory, arrivals_in, arrivals_in_lines, arrived_by, datagram_in, sent_in_lines}
+use Rattle.fc_service.specs.Histories.{Arrival, Datagram, IsOneHistory, Silence, arrival_at, arrivals_in, arrivals_in_lines, arrived_by, datagram_in, sent_in_lines}
 use Rattle.fc_service.specs.Ingresses.{IsHandledBy}
 use Rattle.fc_server.specs.Ingresses.{is_reply}
 use Rattle.fc_service.specs.Playing.{ArePlayedBy, IsCarriedOutBy, IsHandedBy, IsPlayedBy, IsPlayedOut, PlayedLine, time_of, output_by, printed_lines, printed_steps}
@@ -50,20 +50,20 @@ abbrev emitted_in : List Entry → List Emission
 emitted_in entries = flat_map (λ r. option_to_list r.emitted) entries
 
 -- a history is this one and some events after it, with these arrivals and emissions.
-record Follows (h : History) (arrives : List Arrival) (emits : List Emission) (later : History) : Type 0 where
-  entries : List Entry
-  is : later ≡ followed_by h entries
-  arrives_are : arrived_in entries ≡ arrives
-  emits_are : emitted_in entries ≡ emits
+pub record Follows (h : History) (arrives : List Arrival) (emits : List Emission) (later : History) : Type 0 where
+  pub entries : List Entry
+  pub is : later ≡ followed_by h entries
+  pub arrives_are : arrived_in entries ≡ arrives
+  pub emits_are : emitted_in entries ≡ emits
 
 followed_on : (h : History) (xs ys : List Entry) → followed_by (followed_by h xs) ys ≡ followed_by h (xs ++ ys)
 followed_on h [] ys = refl
 followed_on h (x ∷ xs) ys = followed_on (Then h x) xs ys
 
-none_follows : (h : History) → Follows h [] [] h
+pub none_follows : (h : History) → Follows h [] [] h
 none_follows h = record { entries = []; is = refl; arrives_are = refl; emits_are = refl }
 
-one_follows : (h : History) (e : Event) (out : Option Emission) → Follows h (arrived_by e) (option_to_list out) (next h e out)
+pub one_follows : (h : History) (e : Event) (out : Option Emission) → Follows h (arrived_by e) (option_to_list out) (next h e out)
 one_follows h e out = record { entries = did e out ∷ []; is = refl; arrives_are = append-nil (arrived_by e); emits_are = append-nil (option_to_list out) }
 
 both_follow : (h mid later : History) (ds ds' : List Arrival) (es es' : List Emission) → Follows h ds es mid → Follows mid ds' es' later → Follows h (ds ++ ds') (es ++ es') later
@@ -97,7 +97,7 @@ module _ (h : History) (ds : List Arrival) where
   signals_follow to id reset zero mid v = v
   signals_follow to id reset (suc n) mid v = silent_next h (signalled_below to id reset n mid) ds [] (Signal n to id reset) refl (signals_follow to id reset n mid v)
 
-  run_follows : (readings : List ℕ) (k : ℕ) (memory : Bool) (now : ℕ) (out : Option Emission) (mid : History) → Follows h ds [] mid
+  pub run_follows : (readings : List ℕ) (k : ℕ) (memory : Bool) (now : ℕ) (out : Option Emission) (mid : History) → Follows h ds [] mid
       → Follows h ds (option_to_list out) (run_through readings k memory now out mid)
   run_follows readings k memory now out mid v =
       let took = silent_next h mid ds [] (Take k memory readings) refl v in
@@ -131,11 +131,11 @@ turned_follows h readings k memory now random out mid v =
 -- ---- a server's calls
 
 -- a server continued a history: some events with these arrivals and emissions left it.
-record GoesOn (h : History) (ds : List Arrival) (es : List Emission) (new : ServerState) : Type 0 where
-  later : History
-  follows : Follows h ds es later
-  tasks : List Task
-  serves : Serves later new tasks
+pub record GoesOn (h : History) (ds : List Arrival) (es : List Emission) (new : ServerState) : Type 0 where
+  pub later : History
+  pub follows : Follows h ds es later
+  pub tasks : List Task
+  pub serves : Serves later new tasks
 
 -- a datagram.
 handled_goes_on : (readings : List ℕ) (h : History) (k now : ℕ) (to : Endpoint) (bytes : Bor (List ℕ)) (d : Delivered) (new : ServerState) (out : Option Emission)
@@ -174,7 +174,7 @@ turn_goes_on true readings h shard k now random new out w = record {
 }
 
 -- a history leaves a server on one thread, with any input for its jobs.
-abbrev Leaves : History → SingleThread → List Task → Type 0
+abbrev pub Leaves : History → SingleThread → List Task → Type 0
 Leaves h a tasks = Serves h a.engine tasks
 
 -- one step.
@@ -192,12 +192,12 @@ step_goes_on now (Asked shard told) old new h tasks w v =
     turn_goes_on (is_given told) old.handed.readings h (shard % 8) (length tasks) now old.handed.random new.engine (notification_in told) (w.1.0.asked h tasks v)
 
 -- a continuation of a continuation.
-both_go_on : (h : History) (ds ds' : List Arrival) (es es' : List Emission) (mid new : ServerState) (v : GoesOn h ds es mid) → GoesOn v.later ds' es' new → GoesOn h (ds ++ ds') (es ++ es') new
+pub both_go_on : (h : History) (ds ds' : List Arrival) (es es' : List Emission) (mid new : ServerState) (v : GoesOn h ds es mid) → GoesOn v.later ds' es' new → GoesOn h (ds ++ ds') (es ++ es') new
 both_go_on h ds ds' es es' mid new v w =
     record { later = w.later; follows = both_follow h v.later w.later ds ds' es es' v.follows w.follows; tasks = w.tasks; serves = w.serves }
 
 -- steps.
-steps_go_on : (now : ℕ) (steps : List FlushingStep) (old new : SingleThread) (h : History) (tasks : List Task) → AreStepsBy alone_calls now steps old new
+pub steps_go_on : (now : ℕ) (steps : List FlushingStep) (old new : SingleThread) (h : History) (tasks : List Task) → AreStepsBy alone_calls now steps old new
     → Leaves h old tasks → GoesOn h [] (sent_in_steps steps) new.engine
 steps_go_on now [] old new h tasks is v =
     record { later = h; follows = none_follows h; tasks = tasks; serves = subst (λ (a : SingleThread). Leaves h a tasks) (sym is) v }
@@ -207,24 +207,24 @@ steps_go_on now (step ∷ steps) old new h tasks w v =
     (step_goes_on now step w.0 new before.later before.tasks w.1 before.serves)
 
 -- the same, of equal lists.
-goes_on_as : {h : History} {new : ServerState} (ds ds' : List Arrival) (es es' : List Emission) → ds ≡ ds' → es ≡ es' → GoesOn h ds es new → GoesOn h ds' es' new
+pub goes_on_as : {h : History} {new : ServerState} (ds ds' : List Arrival) (es es' : List Emission) → ds ≡ ds' → es ≡ es' → GoesOn h ds es new → GoesOn h ds' es' new
 goes_on_as {h} {new} ds ds' es es' same equal w =
     subst (λ (l : List Arrival). GoesOn h l es' new) same (subst (λ (l : List Emission). GoesOn h ds l new) equal w)
 
 -- a datagram that was received whole.
-datagram_goes_on : (now : ℕ) (incoming : Incoming) (old new : SingleThread) (sent : Option Emission) (h : History) (tasks : List Task) → IsHandledBy HandlesAlone now incoming old sent new
-    → Leaves h old tasks → GoesOn h (record { now = now; came = Some incoming } ∷ []) (option_to_list sent) new.engine
+pub datagram_goes_on : (now : ℕ) (incoming : Incoming) (old new : SingleThread) (sent : Option Emission) (h : History) (tasks : List Task) → IsHandledBy HandlesAlone now incoming old sent new
+    → Leaves h old tasks → GoesOn h (Datagram now incoming ∷ []) (option_to_list sent) new.engine
 datagram_goes_on now incoming old new sent h tasks w v =
-    let came : List ℕ → List Arrival = λ bytes. record { now = now; came = Some (record { from = incoming.from; bytes = bytes }) } ∷ [] in
+    let came : List ℕ → List Arrival = λ bytes. Datagram now (record { from = incoming.from; bytes = bytes }) ∷ [] in
     let out = emission_if (is_reply w.handled) w.reply in
     goes_on_as _ (came incoming.bytes) (option_to_list out) (option_to_list sent) (ap came w.bytes_are) (ap option_to_list (sym w.sent_is))
     (handled_goes_on old.handed.readings h (length tasks) now incoming.from w.borrow (delivered (advanced old.engine.front now) incoming.from w.borrow.now) new.engine out
     (w.handles.0 h tasks v))
 
-passed_goes_on : (now : ℕ) (old new : SingleThread) (sent : Option Emission) (h : History) (tasks : List Task) → PassesAlone now old new → sent ≡ None → Leaves h old tasks
-    → GoesOn h (record { now = now; came = None } ∷ []) (option_to_list sent) new.engine
+pub passed_goes_on : (now : ℕ) (old new : SingleThread) (sent : Option Emission) (h : History) (tasks : List Task) → PassesAlone now old new → sent ≡ None → Leaves h old tasks
+    → GoesOn h (Silence now ∷ []) (option_to_list sent) new.engine
 passed_goes_on now old new sent h tasks passes none v =
-    goes_on_as (record { now = now; came = None } ∷ []) (record { now = now; came = None } ∷ []) [] (option_to_list sent) refl (ap option_to_list (sym none))
+    goes_on_as (Silence now ∷ []) (Silence now ∷ []) [] (option_to_list sent) refl (ap option_to_list (sym none))
     (record { later = next h (Tick now) None; follows = one_follows h (Tick now) None; tasks = tasks; serves = passes.0 h tasks v })
 
 -- ---- rounds
@@ -232,17 +232,17 @@ passed_goes_on now old new sent h tasks passes none v =
 module _ (sensors : List ℕ → Type 0) where
   received_goes_on : (now : ℕ) (received : Option Incoming) (old new : SingleThread) (sent : Option Emission) (h : History) (tasks : List Task)
       → IsReceivedBy (ReadiesAlone sensors) alone_calls now received old sent new → Leaves h old tasks
-      → GoesOn h (record { now = now; came = received } ∷ []) (option_to_list sent) new.engine
+      → GoesOn h (arrival_at now received ∷ []) (option_to_list sent) new.engine
   received_goes_on now (Some incoming) old new sent h tasks w v = datagram_goes_on now incoming old new sent h tasks w v
   received_goes_on now None old new sent h tasks w v = passed_goes_on now old new sent h tasks w.0 w.1 v
 
   round_goes_on : (r : Round) (old new : SingleThread) (h : History) (tasks : List Task)
       → IsRoundBy (ReadiesAlone sensors) alone_calls r old new → Leaves h old tasks
-      → GoesOn h (record { now = r.now; came = r.received } ∷ []) (map (λ s. s.emission) r.sendings) new.engine
+      → GoesOn h (arrival_at r.now r.received ∷ []) (map (λ s. s.emission) r.sendings) new.engine
   round_goes_on r old new h tasks w v =
       let made : Leaves h w.ready tasks = subst (λ (s : ServerState). Serves h s tasks) (sym w.readied.2) v in
       let handled = received_goes_on r.now r.received w.ready w.answered r.sent h tasks w.carried_out made in
-      let came : List Arrival = record { now = r.now; came = r.received } ∷ [] in
+      let came : List Arrival = arrival_at r.now r.received ∷ [] in
       let all = both_go_on h came [] (option_to_list r.sent) (sent_in_steps r.steps) w.answered.engine new.engine handled
       (steps_go_on r.now r.steps w.answered new handled.later handled.tasks w.steps handled.serves) in
       goes_on_as _ came _ (map (λ s. s.emission) r.sendings) refl (sym w.sent) all
@@ -253,12 +253,12 @@ module _ (sensors : List ℕ → Type 0) where
       → IsRoundBy (ReadiesAlone sensors) alone_calls r old new
       → GoesOn h (arrivals_in (r ∷ rounds)) (map (λ s. s.emission) (sendings_in (r ∷ rounds))) new.engine
   round_goes_after r rounds old new h before w =
-      let all = both_go_on h (arrivals_in rounds) (record { now = r.now; came = r.received } ∷ []) (map (λ s. s.emission) (sendings_in rounds)) (map (λ s. s.emission) r.sendings) old.engine new.engine before
+      let all = both_go_on h (arrivals_in rounds) (arrival_at r.now r.received ∷ []) (map (λ s. s.emission) (sendings_in rounds)) (map (λ s. s.emission) r.sendings) old.engine new.engine before
       (round_goes_on r old new before.later before.tasks w before.serves) in
       goes_on_as _ _ _ (map (λ s. s.emission) (sendings_in rounds ++ r.sendings)) refl (sym (map-append (λ (s : Sending). s.emission) (sendings_in rounds) r.sendings)) all
 
 -- it is one history.
-one_history : (begin : Begin) (ds : List Arrival) (es : List Emission) (s : ServerState) → GoesOn (begin_of begin) ds es s → IsOneHistory begin ds es s
+pub one_history : (begin : Begin) (ds : List Arrival) (es : List Emission) (s : ServerState) → GoesOn (begin_of begin) ds es s → IsOneHistory begin ds es s
 one_history begin ds es s w = record {
   entries = w.follows.entries;
   tasks = w.tasks;
@@ -322,17 +322,17 @@ handed_on (lines.Deliver now peer bytes) old new h tasks is v = subst (λ (a : S
 
 told_goes_on : (line : Line) (old new : SingleThread) (sent : Option Emission) (h : History) (tasks : List Task)
     → IsCarriedOutBy HandsAlone alone_calls line old sent new → Leaves h old tasks
-    → GoesOn h (record { now = time_of line; came = datagram_in line } ∷ []) (option_to_list sent) new.engine
+    → GoesOn h (arrival_at (time_of line) (datagram_in line) ∷ []) (option_to_list sent) new.engine
 told_goes_on (lines.Deliver now peer bytes) old new sent h tasks w v = datagram_goes_on now (record { from = peer_endpoint peer; bytes = bytes.items }) old new sent h tasks w v
 told_goes_on (lines.Tick now) old new sent h tasks w v = passed_goes_on now old new sent h tasks w.0 w.1 v
 told_goes_on (lines.Device now readings) old new sent h tasks w v = passed_goes_on now old new sent h tasks w.0 w.1 v
 
 line_goes_on : (p : PlayedLine) (old new : SingleThread) (h : History) (tasks : List Task)
     → IsPlayedBy HandsAlone alone_calls p old new → Leaves h old tasks
-    → GoesOn h (record { now = time_of p.line; came = datagram_in p.line } ∷ []) (option_to_list p.sent ++ sent_in_steps p.steps) new.engine
+    → GoesOn h (arrival_at (time_of p.line) (datagram_in p.line) ∷ []) (option_to_list p.sent ++ sent_in_steps p.steps) new.engine
 line_goes_on p old new h tasks w v =
     let told = told_goes_on p.line w.handed w.answered p.sent h tasks w.carried_out (handed_on p.line old w.handed h tasks w.hands v) in
-    let came : List Arrival = record { now = time_of p.line; came = datagram_in p.line } ∷ [] in
+    let came : List Arrival = arrival_at (time_of p.line) (datagram_in p.line) ∷ [] in
     goes_on_as _ came _ _ refl refl
     (both_go_on h came [] (option_to_list p.sent) (sent_in_steps p.steps) w.answered.engine new.engine told
     (steps_go_on (time_of p.line) p.steps w.answered new told.later told.tasks w.steps told.serves))
@@ -344,7 +344,7 @@ lines_go_on [] old new h tasks is v =
     record { later = h; follows = none_follows h; tasks = tasks; serves = subst (λ (a : SingleThread). Leaves h a tasks) (sym is) v }
 lines_go_on (p ∷ played) old new h tasks w v =
     let before = lines_go_on played old w.0 h tasks w.1 v in
-    both_go_on h (arrivals_in_lines played) (record { now = time_of p.line; came = datagram_in p.line } ∷ []) (sent_in_lines played) (option_to_list p.sent ++ sent_in_steps p.steps) w.0.engine new.engine before
+    both_go_on h (arrivals_in_lines played) (arrival_at (time_of p.line) (datagram_in p.line) ∷ []) (sent_in_lines played) (option_to_list p.sent ++ sent_in_steps p.steps) w.0.engine new.engine before
     (line_goes_on p w.0 new before.later before.tasks w.2 before.serves)
 
 pub lines_are_one_history : (begin : Begin) (had before after : Option (List ℕ)) (w : IsPlayedOut begin had before after)

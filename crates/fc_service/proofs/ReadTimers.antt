@@ -6,11 +6,10 @@ use Rattle.std.specs.Char.{digit_value}
 use Rattle.std.specs.Str.Parse.{AllDigits}
 use Rattle.std.proofs.lemmas.Str.Parse.{digit_from_value}
 use Rattle.std.specs.List.{AllZip}
-use Rattle.std.proofs.lemmas.List.Sums.{sum_by-append}
 use Rattle.fc_host.specs.declared.timer.Timer.{Timer}
 use Rattle.fc_lines.specs.Fields.{IsNoNumber, IsNumber}
 use Rattle.fc_lines.proofs.Reading.{AreSame}
-use Rattle.fc_service.specs.Every.{AreRefusedBy, IsNoTimerText, IsRefusedBy, IsTimerText, Pushes, colon, held_by, timers_hold}
+use Rattle.fc_service.specs.Every.{AreRefusedBy, IsNoTimerText, IsRefusedBy, IsTimerText, Pushes, colon}
 use Rattle.fc_service.specs.declared.every.BadTimer.{BadTimer}
 
 -- one more text.
@@ -26,21 +25,18 @@ timer_suc (text ∷ texts) (suc k) (u ∷ us) t d lt (first, zip) is = (first, t
 one_more : (k : ℕ) → suc k ≡ k + 1
 one_more k = omega arith
 
--- the timers of the first texts, and the exchanges left.
-abbrev pub AreFirst : List (Bor (List ℕ)) → ℕ → ℕ → List Timer → ℕ → Type 0
-AreFirst texts k most ts left = AllZip IsTimerText (map (λ text. text.now) (take k texts)) ts × (timers_hold ts + left ≡ most)
+-- the timers of the first texts.
+abbrev pub AreFirst : List (Bor (List ℕ)) → ℕ → List Timer → Type 0
+AreFirst texts k ts = AllZip IsTimerText (map (λ text. text.now) (take k texts)) ts
 
-timers_after : (texts : List (Bor (List ℕ))) (k most left less : ℕ) (ts : List Timer) (t : Timer) (d : Bor (List ℕ)) → k < length texts
-    → AreFirst texts k most ts left → IsTimerText (slice_index_or texts k d).now t → left ≡ less + held_by t → AreFirst texts (k + 1) most (ts ++ (t ∷ [])) less
-timers_after texts k most left less ts t d lt (zip, all) is takes = (
-  subst (λ (n : ℕ). AllZip IsTimerText (map (λ text. text.now) (take n texts)) (ts ++ (t ∷ []))) (one_more k) (timer_suc texts k ts t d lt zip is),
-  omega (arith, all, takes, sum_by-append held_by ts (t ∷ [])),
-)
+timers_after : (texts : List (Bor (List ℕ))) (k : ℕ) (ts : List Timer) (t : Timer) (d : Bor (List ℕ)) → k < length texts
+    → AreFirst texts k ts → IsTimerText (slice_index_or texts k d).now t → AreFirst texts (k + 1) (ts ++ (t ∷ []))
+timers_after texts k ts t d lt zip is =
+    subst (λ (n : ℕ). AllZip IsTimerText (map (λ text. text.now) (take n texts)) (ts ++ (t ∷ []))) (one_more k) (timer_suc texts k ts t d lt zip is)
 
-pub pushed : (texts : List (Bor (List ℕ))) (k most left less : ℕ) (ts new : List Timer) (d : Bor (List ℕ)) → k < length texts
-    → AreFirst texts k most ts left → Pushes (slice_index_or texts k d).now left ts new less → AreFirst texts (k + 1) most new less
-pushed texts k most left less ts new d lt first p =
-    subst (λ (items : List Timer). AreFirst texts (k + 1) most items less) (sym p.last) (timers_after texts k most left less ts p.timer d lt first p.is p.takes)
+pub pushed : (texts : List (Bor (List ℕ))) (k : ℕ) (ts new : List Timer) (d : Bor (List ℕ)) → k < length texts
+    → AreFirst texts k ts → Pushes (slice_index_or texts k d).now ts new → AreFirst texts (k + 1) new
+pushed texts k ts new d lt first p = subst (λ (items : List Timer). AreFirst texts (k + 1) items) (sym p.last) (timers_after texts k ts p.timer d lt first p.is)
 
 -- ---- texts that are refused
 
@@ -55,17 +51,15 @@ split_at [] k d lt = absurd (omega (arith, lt))
 split_at (text ∷ texts) zero d lt = refl
 split_at (text ∷ texts) (suc k) d lt = ap (λ (l : List (List ℕ)). text.now ∷ l) (split_at texts k d (omega (arith, lt)))
 
-pub refused_at : (texts : List (Bor (List ℕ))) (k most left : ℕ) (ts : List Timer) (d : Bor (List ℕ)) (error : BadTimer) → k < length texts
-    → AreFirst texts k most ts left → IsRefusedBy (slice_index_or texts k d).now left most error → AreRefusedBy (map (λ text. text.now) texts) most error
-refused_at texts k most left ts d error lt (zip, all) refused = record {
+pub refused_at : (texts : List (Bor (List ℕ))) (k : ℕ) (ts : List Timer) (d : Bor (List ℕ)) (error : BadTimer) → k < length texts
+    → AreFirst texts k ts → IsRefusedBy (slice_index_or texts k d).now error → AreRefusedBy (map (λ text. text.now) texts) error
+refused_at texts k ts d error lt zip refused = record {
   before = map (λ text. text.now) (take k texts);
   text = (slice_index_or texts k d).now;
   after = map (λ text. text.now) (drop (suc k) texts);
   texts_are = split_at texts k d lt;
   timers = ts;
   good = zip;
-  left = left;
-  rest = all;
   refused = refused;
 }
 

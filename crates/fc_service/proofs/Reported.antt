@@ -1,11 +1,12 @@
 -- A server whose counts are reported.
-use Rattle.std.proofs.Common.{◌≡◌, ◌∙◌, ◌/◌, ◌%◌, length, map, ℕ, zero, suc, ◌+◌, ◌<◌, ◌≤◌, Bool, List, [], ◌∷◌, arith, Option, Some, None, ap, refl, subst, sym, Bor}
-use Rattle.std.specs.Prelude.{MatchBool, slice_index_or}
+use Rattle.std.proofs.Common.{◌≡◌, ◌∙◌, ◌/◌, ◌%◌, length, map, ℕ, zero, suc, ◌+◌, ◌<◌, ◌≤◌, Bool, false, List, [], ◌∷◌, arith, Option, Some, None, ap, refl, subst, sym, Bor}
+use Rattle.std.specs.Prelude.{◌==◌, MatchBool, slice_index_or}
 use Rattle.std.proofs.lemmas.Bool.{le-ltb}
 use Rattle.coap_msg.specs.declared.types.Emission.{Emission}
 use Rattle.coap_msg.specs.declared.types.Endpoint.{Endpoint}
 use Rattle.fc_core.specs.declared.front.Handled.{Handled}
 use Rattle.fc_host.specs.Sockets.{Receive}
+use Rattle.fc_host.specs.declared.timer.Timer.{Timer}
 use Rattle.fc_record.specs.ProgramRequests.{Requested}
 use Rattle.fc_observe.specs.Observers.{ObserverList, no_observers}
 use Rattle.fc_record.specs.Gauges.{observers_of}
@@ -23,7 +24,7 @@ use Rattle.fc_workers.specs.Answers.{saturated}
 use Rattle.fc_workers.specs.declared.call_log.CallLog.{CallLog}
 use Rattle.fc_service.specs.SingleThread.{ReadiesRecorded}
 use Rattle.fc_service.specs.Reporting.{AreGaugesOf, MakesReport, Reporting, ReportsIfDue, reported_calls}
-use Rattle.fc_service.specs.Rounds.{HasReceivedBy, HasServedBy, RoundCalls}
+use Rattle.fc_service.specs.Rounds.{HasReceivedWith, HasRunTimed, HasServedBy, RoundCalls}
 use Rattle.fc_service.specs.declared.replies.Replies.{Replies}
 
 -- eight lists of numbers of observers, each of its shard.
@@ -64,13 +65,21 @@ module _ {S : Type 0} (Reported : Report → CallLog → CallLog → Type 0) (ca
       → (reported_calls Reported calls).passes now old (record inside { ingress = new })
   passed_after now inside old mid new is due passes = (inside, subst (λ (r : Reporting S). ReportsIfDue Reported calls now old r) (sym is) due, passes, refl)
 
--- a server on one thread has run, with reports or without.
-pub served_by : (every : Option ℕ) (Reported : Report → CallLog → CallLog → Type 0) (sensors : List ℕ → Type 0) (e : RoundCalls) (Recorded : Requested → CallLog → CallLog → Type 0)
+-- a server on one thread has run, with timers or without, and with reports or without.
+pub served_by : (timers : List Timer) (every : Option ℕ) (Reported : Report → CallLog → CallLog → Type 0) (sensors : List ℕ → Type 0) (e : RoundCalls) (Recorded : Requested → CallLog → CallLog → Type 0)
     (limit : ℕ) (begin : Begin) (before after : Option (List Receive)) (first last : Recording) (replies : Replies) → Serves (begin_of begin) first.alone.engine []
-    → HasReceivedBy every Reported (ReadiesRecorded sensors) (recorded_calls Recorded) e limit before after first last replies
-    → HasServedBy every Reported sensors e Recorded limit begin before after replies
-served_by None Reported sensors e Recorded limit begin before after first last replies begins run = record { first = first; last = last; begins = begins; run = run }
-served_by (Some every) Reported sensors e Recorded limit begin before after first last replies begins run = record { first = first; begins = begins; run = run }
+    → HasReceivedWith timers every Reported (ReadiesRecorded sensors) (recorded_calls Recorded) e limit before after first last replies
+    → HasServedBy timers every Reported sensors e Recorded limit begin before after replies
+served_by [] None Reported sensors e Recorded limit begin before after first last replies begins run = record { first = first; last = last; begins = begins; run = run }
+served_by [] (Some every) Reported sensors e Recorded limit begin before after first last replies begins run = record { first = first; begins = begins; run = run }
+served_by (t ∷ ts) every Reported sensors e Recorded limit begin before after first last replies begins run = record { first = first; begins = begins; run = run }
+
+-- a server has run with timers, if there are some.
+pub run_with : {S : Type 0} (timers : List Timer) (every : Option ℕ) (Reported : Report → CallLog → CallLog → Type 0) (Readies : ℕ → S → S → Type 0) (calls : IngressCalls S) (e : RoundCalls)
+    (limit : ℕ) (before after : Option (List Receive)) (first last : S) (replies : Replies) → (length timers == 0) ≡ false
+    → HasRunTimed timers every Reported Readies calls e limit before after first replies → HasReceivedWith timers every Reported Readies calls e limit before after first last replies
+run_with [] every Reported Readies calls e limit before after first last replies some run = absurd (cc some)
+run_with (t ∷ ts) every Reported Readies calls e limit before after first last replies some run = run
 
 -- ---- gauges on one thread
 

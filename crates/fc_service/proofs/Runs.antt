@@ -9,7 +9,7 @@ use Rattle.fc_service.proofs.Traffic.{more_came, more_replies, more_sent, none_c
 use Rattle.fc_service.specs.Counting.{no_replies}
 use Rattle.fc_service.specs.Ingresses.{IsHandledBy}
 use Rattle.fc_server.specs.Ingresses.{IngressCalls}
-use Rattle.fc_service.specs.Rounds.{EndsInTime, HasRounds, IsReceivedBy, Round, RoundCalls, WaitsAfter, received_in, round_receives, sendings_in}
+use Rattle.fc_service.specs.Rounds.{EndsByTimer, HasRounds, IsReceivedBy, Round, RoundCalls, WaitsAfter, received_in, round_receives, sendings_in}
 use Rattle.fc_server.specs.Flushing.{AreFlushed, AreStepsBy, FlushingStep, sent_in_steps}
 use Rattle.fc_service.specs.Traffic.{Sends, counted_each}
 use Rattle.fc_service.specs.declared.replies.SentReplies.{SentReplies}
@@ -42,7 +42,7 @@ module _ {S : Type 0} (Readies : ℕ → S → S → Type 0) (calls : IngressCal
       → Comes mid after (record { wait = wait; came = received } ∷ []) → Readies now last ready
       → ((sent : Option Emission) × IsReceivedBy Readies calls now received ready sent answered × Sends e.went (option_to_list sent) a b)
       → ((steps : List FlushingStep) × AreStepsBy calls now steps answered new × AreFlushed steps × Sends e.went (sent_in_steps steps) b c)
-      → (0 < limit → (count + length (option_to_list received) ≡ next) × (next ≤ limit)) → EndsInTime (λ shard until. calls.stays_idle shard new until) now (is_none received) after_it → Runs limit next after_it before after old new c
+      → (0 < limit → (count + length (option_to_list received) ≡ next) × (next ≤ limit)) → EndsByTimer calls new now (is_none received) after_it → Runs limit next after_it before after old new c
   one_round limit count next wait after_it before mid after old last ready answered new o a b c now received w asks came readied x y counts ends =
       let rounds = w.0 in
       let h = w.1.1 in
@@ -69,21 +69,21 @@ module _ {S : Type 0} (Readies : ℕ → S → S → Type 0) (calls : IngressCal
       → ((sent : Option Emission) × IsHandledBy calls.handles now incoming ready sent handled × Sends e.went (option_to_list sent) a b) → answered ≡ handled → c ≡ b
       → ((steps : List FlushingStep) × AreStepsBy calls now steps answered new × AreFlushed steps × Sends e.went (sent_in_steps steps) c d)
       → (0 < limit → count < limit) → limit ≤ 4294967295 → next ≡ min (count + 1) 4294967295
-      → (idle : Bool) → idle ≡ false → EndsInTime (λ shard until. calls.stays_idle shard new until) now idle after_it → Runs limit next after_it before after old new d
+      → (idle : Bool) → idle ≡ false → EndsByTimer calls new now idle after_it → Runs limit next after_it before after old new d
   handled_round limit count next wait after_it before mid after old last ready handled answered new o a b c d now incoming h asks came readied x same counts y below fits is idle busy ends =
       one_round limit count next wait after_it before mid after old last ready answered new o a c d now (Some incoming) h asks came readied
       (x.0, subst (λ (s : S). IsHandledBy calls.handles now incoming ready x.0 s) (sym same) x.1, subst (λ (o : SentReplies). Sends e.went (option_to_list x.0) a o) (sym counts) x.2) y
       (λ some. let under : count < limit = below some in (omega (arith, under, fits, is), omega (arith, under, fits, is)))
-      (subst (λ (b : Bool). EndsInTime (λ shard until. calls.stays_idle shard new until) now b after_it) busy ends)
+      (subst (λ (b : Bool). EndsByTimer calls new now b after_it) busy ends)
 
   -- one more round without a datagram.
   pub passed_round : (limit count next : ℕ) (wait after_it : Option ℕ) (before mid after : Option (List Receive)) (old last ready passed answered new : S) (o a c d : SentReplies) (now : ℕ)
       → Runs limit count wait before mid old last o → AreAsked wait None now o a
       → Comes mid after (record { wait = wait; came = None } ∷ []) → Readies now last ready → calls.passes now ready passed → answered ≡ passed → c ≡ a
       → ((steps : List FlushingStep) × AreStepsBy calls now steps answered new × AreFlushed steps × Sends e.went (sent_in_steps steps) c d)
-      → next ≡ count → (idle : Bool) → idle ≡ true → EndsInTime (λ shard until. calls.stays_idle shard new until) now idle after_it → Runs limit next after_it before after old new d
+      → next ≡ count → (idle : Bool) → idle ≡ true → EndsByTimer calls new now idle after_it → Runs limit next after_it before after old new d
   passed_round limit count next wait after_it before mid after old last ready passed answered new o a c d now h asks came readied x same counts y is idle is_idle ends =
       one_round limit count next wait after_it before mid after old last ready answered new o a c d now None h asks came readied
       (None, (subst (λ (s : S). calls.passes now ready s) (sym same) x, refl), subst (λ (o : SentReplies). Sends e.went [] a o) (sym counts) (none_sent e.went a)) y
       (λ some. (omega (arith, is), omega (arith, is, (h.2 some).1)))
-      (subst (λ (b : Bool). EndsInTime (λ shard until. calls.stays_idle shard new until) now b after_it) is_idle ends)
+      (subst (λ (b : Bool). EndsByTimer calls new now b after_it) is_idle ends)

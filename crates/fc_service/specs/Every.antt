@@ -1,14 +1,13 @@
 -- The timers that a command line gives.
-use Rattle.std.specs.Prelude.{◌≡◌, ⊤, ℕ, ◌+◌, ◌/◌, ◌<◌, ◌≤◌, List, [], ◌∷◌, ◌++◌, Option, Some, None, codes, min, option_map, sum_by}
+use Rattle.std.specs.Prelude.{◌≡◌, ⊤, ℕ, ◌<◌, ◌≤◌, List, [], ◌∷◌, ◌++◌, Option, Some, None, codes, option_map}
 use Rattle.std.specs.List.{AllZip}
 use Rattle.clap.specs.declared.parser.matches.Found.{Found}
 use Rattle.clap.specs.Matches.{matched_of, raw_values}
-use Rattle.coap_dedup.specs.declared.exchange.Limits.{Limits}
 use Rattle.fc_host.specs.declared.timer.Timer.{Timer}
 use Rattle.fc_host.specs.Timers.{new_timer}
 use Rattle.fc_lines.specs.Fields.{IsNumber}
 use Rattle.fc_service.specs.declared.every.BadTimer.{BadTimer}
-use Rattle.fc_service.specs.declared.every.BadTimer.TheVariants.{Form, Memory, TooMany}
+use Rattle.fc_service.specs.declared.every.BadTimer.TheVariants.{Form, Memory}
 
 abbrev pub texts_by : Option (List (List ℕ)) → List (List ℕ)
 texts_by None = []
@@ -41,46 +40,26 @@ pub record IsNoTimerText (text : List ℕ) : Type 0 where
 abbrev pub AreTimers : List (List ℕ) → List Timer → Type 0
 AreTimers texts ts = AllZip IsTimerText texts ts
 
--- the most requests of a timer that are held at a time, if each comes at its beat. Each is held for
--- 247,000 ms.
-abbrev pub held_by : Timer → ℕ
-held_by t = 247000 / t.every + 1
-
--- the timer of a text is appended, and the exchanges that its requests hold are subtracted from
--- those left.
-pub record Pushes (text : List ℕ) (left : ℕ) (old new : List Timer) (less : ℕ) : Type 0 where
+-- the timer of a text is appended.
+pub record Pushes (text : List ℕ) (old new : List Timer) : Type 0 where
   pub timer : Timer
   pub is : IsTimerText text timer
   pub last : new ≡ old ++ timer ∷ []
-  pub takes : left ≡ less + held_by timer
-
--- the exchanges that the requests of all timers hold.
-abbrev pub timers_hold : List Timer → ℕ
-timers_hold ts = sum_by held_by ts
-
--- the most exchanges that the requests of timers may hold: half of all, and no more than the share
--- of an address.
-abbrev pub most_held : Limits → ℕ
-most_held limits = min (limits.exchanges / 2) limits.share
 
 -- ---- which texts are refused
 
--- a text is refused. It is that of no timer, or the requests of its timer hold more exchanges than
--- are left of this many, or memory couldn't be allocated.
-abbrev pub IsRefusedBy : (text : List ℕ) (left most : ℕ) → BadTimer → Type 0
-IsRefusedBy text left most Form = IsNoTimerText text
-IsRefusedBy text left most (TooMany n) = (n ≡ most) × (t : Timer) × IsTimerText text t × left < held_by t
-IsRefusedBy text left most (Memory refused) = ⊤
+-- a text is refused: it is that of no timer, or memory couldn't be allocated.
+abbrev pub IsRefusedBy : (text : List ℕ) → BadTimer → Type 0
+IsRefusedBy text Form = IsNoTimerText text
+IsRefusedBy text (Memory refused) = ⊤
 
 -- texts are refused by the error of the first text that is refused. The texts before it are those
--- of timers, whose requests hold the rest of the exchanges.
-pub record AreRefusedBy (texts : List (List ℕ)) (most : ℕ) (error : BadTimer) : Type 0 where
+-- of timers.
+pub record AreRefusedBy (texts : List (List ℕ)) (error : BadTimer) : Type 0 where
   pub before : List (List ℕ)
   pub text : List ℕ
   pub after : List (List ℕ)
   pub texts_are : texts ≡ before ++ (text ∷ after)
   pub timers : List Timer
   pub good : AreTimers before timers
-  pub left : ℕ
-  pub rest : timers_hold timers + left ≡ most
-  pub refused : IsRefusedBy text left most error
+  pub refused : IsRefusedBy text error

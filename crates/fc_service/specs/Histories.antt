@@ -1,9 +1,9 @@
 -- All rounds, or all lines, of a server on one thread as one history.
-use Rattle.std.specs.Prelude.{◌≡◌, ℕ, List, [], ◌∷◌, ◌++◌, Option, Some, None, flat_map}
+use Rattle.std.specs.Prelude.{◌≡◌, ℕ, List, [], ◌∷◌, ◌++◌, Option, Some, None, flat_map, map, nat_lt, if◌then◌else◌}
 use Rattle.std.specs.Option.{option_to_list}
 use Rattle.coap_msg.specs.declared.types.Emission.{Emission}
 use Rattle.fc_core.specs.declared.event.Event.{Event}
-use Rattle.fc_core.specs.declared.event.Event.TheVariants.{Deliver, Tick}
+use Rattle.fc_core.specs.declared.event.Event.TheVariants.{Deliver, Fire, Tick}
 use Rattle.fc_core.specs.declared.stage.Task.{Task}
 use Rattle.fc_core.specs.History.{Entry}
 use Rattle.fc_server.specs.declared.server.Begin.{Begin}
@@ -14,24 +14,33 @@ use Rattle.fc_lines.specs.declared.line.Line.{Line}
 use Rattle.fc_lines.specs.declared.line.Line.TheVariants as lines
 use Rattle.fc_lines.specs.Emissions.{peer_endpoint}
 use Rattle.fc_host.specs.Sockets.{Incoming}
+use Rattle.fc_host.specs.Timers.{put_off}
+use Rattle.fc_host.specs.declared.timer.Timer.{Timer}
 use Rattle.fc_service.specs.Playing.{PlayedLine, time_of}
 use Rattle.fc_service.specs.Rounds.{Round}
 use Rattle.fc_server.specs.Flushing.{sent_in_steps}
 
--- at this time a datagram came, or none did and time passed.
-pub record Arrival : Type 0 where
-  pub now : ℕ
-  pub came : Option Incoming
+-- at this time a datagram came, or none came and time passed, or the timer of a slot fired.
+pub data Arrival : Type 0 where
+  Datagram : (now : ℕ) (incoming : Incoming) → Arrival
+  Silence : (now : ℕ) → Arrival
+  Beat : (now slot : ℕ) → Arrival
+
+-- the arrival of a datagram, if one came.
+abbrev pub arrival_at : ℕ → Option Incoming → Arrival
+arrival_at now (Some incoming) = Datagram now incoming
+arrival_at now None = Silence now
 
 -- the arrival that an event has.
 abbrev pub arrived_by : Event → List Arrival
-arrived_by (Deliver now from bytes) = record { now = now; came = Some (record { from = from; bytes = bytes.now }) } ∷ []
-arrived_by (Tick now) = record { now = now; came = None } ∷ []
+arrived_by (Deliver now from bytes) = Datagram now (record { from = from; bytes = bytes.now }) ∷ []
+arrived_by (Tick now) = Silence now ∷ []
+arrived_by (Fire slot now) = Beat now slot ∷ []
 arrived_by other = []
 
 -- there are events of a server from its initial state, each with a permitted emission. They leave
--- this server. Exactly these datagrams were delivered, and time passed if none came, each at its
--- time. These are the emissions, the oldest first.
+-- this server. Exactly these datagrams were delivered, time passed if none came, and exactly these
+-- timers fired, each at its time, in this order. These are the emissions, the oldest first.
 pub record IsOneHistory (begin : Begin) (arrived : List Arrival) (emitted : List Emission) (s : ServerState) : Type 0 where
   pub entries : List Entry
   pub tasks : List Task
@@ -45,7 +54,26 @@ pub record IsOneHistory (begin : Begin) (arrived : List Arrival) (emitted : List
 -- newest.
 abbrev pub arrivals_in : List Round → List Arrival
 arrivals_in [] = []
-arrivals_in (r ∷ rs) = arrivals_in rs ++ record { now = r.now; came = r.received } ∷ []
+arrivals_in (r ∷ rs) = arrivals_in rs ++ arrival_at r.now r.received ∷ []
+
+-- ---- of rounds with timers
+
+-- a timer fires at a time if it is due, and is due at its next beat after that.
+abbrev pub beat_at : ℕ → Timer → List Arrival
+beat_at now t = if nat_lt now t.due then [] else Beat now t.slot ∷ []
+
+abbrev pub after_beat : ℕ → Timer → Timer
+after_beat now t = if nat_lt now t.due then t else put_off now t
+
+-- the timers as rounds leave them, by the times of the rounds.
+abbrev pub timers_after : List Round → List Timer → List Timer
+timers_after [] ts = ts
+timers_after (r ∷ rs) ts = map (after_beat r.now) (timers_after rs ts)
+
+-- the arrivals of rounds. In each round the timers that are due fire first, in their order.
+abbrev pub timed_arrivals_in : List Round → List Timer → List Arrival
+timed_arrivals_in [] ts = []
+timed_arrivals_in (r ∷ rs) ts = timed_arrivals_in rs ts ++ (flat_map (beat_at r.now) (timers_after rs ts) ++ arrival_at r.now r.received ∷ [])
 
 -- ---- of lines
 
@@ -58,7 +86,7 @@ datagram_in other = None
 -- list of lines begins with the newest.
 abbrev pub arrivals_in_lines : List PlayedLine → List Arrival
 arrivals_in_lines [] = []
-arrivals_in_lines (p ∷ ps) = arrivals_in_lines ps ++ record { now = time_of p.line; came = datagram_in p.line } ∷ []
+arrivals_in_lines (p ∷ ps) = arrivals_in_lines ps ++ arrival_at (time_of p.line) (datagram_in p.line) ∷ []
 
 abbrev pub sent_in_lines : List PlayedLine → List Emission
 sent_in_lines [] = []

@@ -8,6 +8,8 @@ use Rattle.fc_core.specs.declared.front.Handled.{Handled}
 use Rattle.fc_core.specs.declared.front.Handled.TheVariants.{Job}
 use Rattle.fc_server.specs.Ingresses.{IngressCalls, is_reply}
 use Rattle.fc_server.specs.Notified.{Notified, Sent, Starved, Unsent}
+use Rattle.fc_server.specs.declared.engine.FireOutcome.{FireOutcome}
+use Rattle.fc_server.specs.declared.engine.FireOutcome.TheVariants as fired
 use Rattle.fc_host.specs.Sockets.{Incoming}
 
 -- a datagram was handled once, whole and from its endpoint, and this was the immediate response.
@@ -37,11 +39,19 @@ abbrev pub IsTurnWaitedFor : Notified → Notified → Type 0
 IsTurnWaitedFor Unsent told = has_ended told ≡ true
 IsTurnWaitedFor asked told = told ≡ asked
 
+-- the result of a timer that fired, of an ingress that waits for workers: the inner result or, if a
+-- worker had the job, that the job has ended.
+abbrev pub IsFireWaitedFor : FireOutcome → FireOutcome → Type 0
+IsFireWaitedFor (fired.Sent number) outcome = outcome ≡ fired.Ended
+IsFireWaitedFor inner outcome = outcome ≡ inner
+
 -- the calls of an ingress that waits for workers, by the inner ingress's calls.
 abbrev pub waited_calls : {S : Type 0} → IngressCalls S → IngressCalls S
 waited_calls calls = record {
   handles = IsWaitedFor calls.handles;
   passes = calls.passes;
+  fires = λ slot now old new outcome. (inner : FireOutcome) × calls.fires slot now old new inner × IsFireWaitedFor inner outcome;
+  is_first_due = calls.is_first_due;
   resends = calls.resends;
   passes_over = calls.passes_over;
   notifies = λ shard now old new told. (asked : Notified) × calls.notifies shard now old new asked × IsTurnWaitedFor asked told;
@@ -56,6 +66,8 @@ abbrev pub calls_through : {H S : Type 0} → (H → S) → IngressCalls S → I
 calls_through held calls = record {
   handles = λ now from bytes old new handled reply. calls.handles now from bytes (held old) (held new) handled reply;
   passes = λ now old new. calls.passes now (held old) (held new);
+  fires = λ slot now old new outcome. calls.fires slot now (held old) (held new) outcome;
+  is_first_due = λ now due. calls.is_first_due (held now) due;
   resends = λ shard now old new ticked. calls.resends shard now (held old) (held new) ticked;
   passes_over = λ shard now old new. calls.passes_over shard now (held old) (held new);
   notifies = λ shard now old new told. calls.notifies shard now (held old) (held new) told;

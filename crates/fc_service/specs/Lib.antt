@@ -5,6 +5,7 @@ pub mod Counting
 pub mod Traffic
 pub mod Options
 pub mod Playing
+pub mod Firing
 pub mod Rounds
 pub mod Histories
 pub mod Policies

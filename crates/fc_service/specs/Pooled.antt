@@ -1,5 +1,5 @@
 -- Effects of a pool's dispatcher and of its driver.
-use Rattle.std.specs.Prelude.{◌≡◌, ◌⊎◌, ⊤, ℕ, Bool, List, length, slice_index, None, true, false}
+use Rattle.std.specs.Prelude.{◌≡◌, ◌⊎◌, ⊤, ℕ, Bool, List, length, slice_index, None, Some, true, false}
 use Rattle.std.specs.List.{All}
 use Rattle.std.specs.Borrow.{Bor}
 use Rattle.coap_msg.specs.declared.types.Emission.{Emission}
@@ -13,7 +13,7 @@ use Rattle.fc_calls.specs.Logged.{AdvancesFront, AdvancesIdle, AdvancesShard, Lo
 use Rattle.fc_workers.specs.Called.{BenchCall, CountsObservers, LooksAhead, ReadsGauges, WorkerView, WireCall, worker_view}
 use Rattle.fc_workers.specs.Counts.{Tallies}
 use Rattle.fc_workers.specs.Fronts.{Beginning}
-use Rattle.fc_workers.specs.Dispatch.{HasCalled, IsTakenIn, IsTurnAsked}
+use Rattle.fc_workers.specs.Dispatch.{HasCalled, IsTakenIn, IsTimerFired, IsTurnAsked}
 use Rattle.fc_workers.specs.Shares.{AreSharesOf, new_share}
 use Rattle.fc_jobs.specs.Ends.{Channel, nothing_got, nothing_sent}
 use Rattle.fc_workers.specs.declared.call_log.CallLog.{CallLog}
@@ -25,7 +25,9 @@ use Rattle.fc_workers.specs.declared.dispatcher.Offload.{Offload}
 use Rattle.fc_workers.specs.declared.dispatcher.Offload.TheVariants.{Never}
 use Rattle.fc_service.specs.Counting.{both_replies, replies_by, replies_of}
 use Rattle.fc_service.specs.declared.replies.Replies.{Replies}
-use Rattle.fc_server.specs.Ingresses.{IngressCalls}
+use Rattle.fc_server.specs.Ingresses.{IngressCalls, never}
+use Rattle.fc_server.specs.declared.engine.FireOutcome.{FireOutcome}
+use Rattle.fc_server.specs.declared.engine.FireOutcome.TheVariants as fired
 use Rattle.fc_server.specs.declared.server.Begin.{Begin}
 use Rattle.fc_record.specs.ProgramRequests.{Requested}
 use Rattle.fc_record.specs.Recording.{IsRecordedCall}
@@ -57,6 +59,12 @@ module _ {T : Type 0} (s : WorkerView T) where
   PassesPooled now old new =
       s.logged (AdvancesFront now) old.done.share.log new.done.share.log × HasCalled old.done new.done × (new.offload ≡ old.offload)
 
+  -- the timer's job went to the workers under this number, or was run here.
+  abbrev pub FiresPooled : ℕ → ℕ → PooledIngress T → PooledIngress T → FireOutcome → Type 0
+  FiresPooled slot now old new (fired.Sent number) = IsTimerFired s old.offload slot now (Some number) old.done new.done × (new.offload ≡ old.offload)
+  FiresPooled slot now old new fired.Ended = IsTimerFired s old.offload slot now None old.done new.done × (new.offload ≡ old.offload)
+  FiresPooled slot now old new fired.Refused = ⊥
+
   abbrev pub ResendsPooled : ℕ → ℕ → PooledIngress T → PooledIngress T → Ticked → Type 0
   ResendsPooled shard now old new ticked =
       IsSomeTick now ticked × s.logged (AdvancesShard shard now ticked) old.done.share.log new.done.share.log × HasCalled old.done new.done × (new.offload ≡ old.offload)
@@ -77,6 +85,8 @@ module _ {T : Type 0} (s : WorkerView T) where
   pooled_calls = record {
     handles = HandlesPooled;
     passes = PassesPooled;
+    fires = FiresPooled;
+    is_first_due = λ now due. due ≡ never;
     resends = ResendsPooled;
     passes_over = PassesOverPooled;
     notifies = NotifiesPooled;

@@ -50,6 +50,8 @@ module _ {S : Type 0} (Reported : Report → CallLog → CallLog → Type 0) (ca
     handles = λ now from bytes old new handled reply. (mid : Reporting S) × ReportsIfDue now old mid × calls.handles now from bytes mid.ingress new.ingress handled reply
         × (new ≡ record mid { ingress = new.ingress; report = datagram_counted handled reply mid.report });
     passes = λ now old new. (mid : Reporting S) × ReportsIfDue now old mid × calls.passes now mid.ingress new.ingress × (new ≡ record mid { ingress = new.ingress });
+    fires = λ slot now old new outcome. calls.fires slot now old.ingress new.ingress outcome × (new ≡ record old { ingress = new.ingress });
+    is_first_due = λ now due. calls.is_first_due now.ingress due;
     resends = λ shard now old new ticked. calls.resends shard now old.ingress new.ingress ticked
         × (new ≡ record old { ingress = new.ingress; report = tick_counted ticked old.report });
     passes_over = λ shard now old new. calls.passes_over shard now old.ingress new.ingress × (new ≡ record old { ingress = new.ingress });

@@ -1,5 +1,5 @@
 -- Rounds of a server that receives datagrams, and a server on one thread.
-use Rattle.std.specs.Prelude.{◌≡◌, ◌-◌, ◌<◌, ◌⊎◌, ⊤, ℕ, max, nat_lt, if◌then◌else◌, List, [], ◌∷◌, ◌++◌, length, map, Bool, false, true, Option, Some, None, is_none}
+use Rattle.std.specs.Prelude.{◌≡◌, ◌-◌, ◌<◌, ◌⊎◌, ⊤, ℕ, max, min, nat_lt, if◌then◌else◌, List, [], ◌∷◌, ◌++◌, length, map, Bool, false, true, Option, Some, None, is_none}
 use Rattle.std.specs.Option.{option_to_list}
 use Rattle.coap_msg.specs.declared.types.Emission.{Emission}
 use Rattle.fc_workers.specs.Counts.{Tallies}
@@ -11,7 +11,7 @@ use Rattle.fc_workers.specs.Called.{WorkerView}
 use Rattle.fc_workers.specs.Fronts.{Beginning, beginning}
 use Rattle.fc_workers.specs.OneOrder.{HaveOneOrder, logs_of}
 use Rattle.fc_workers.specs.declared.closed.ClosedServer.{ClosedServer}
-use Rattle.fc_server.specs.Ingresses.{IngressCalls}
+use Rattle.fc_server.specs.Ingresses.{IngressCalls, never}
 use Rattle.fc_server.specs.Serving.{Serves}
 use Rattle.fc_server.specs.Flushing.{AreIdleUntil, AreFlushed, AreStepsBy, FlushingStep, sent_in_steps}
 use Rattle.fc_server.specs.States.{begin_of}
@@ -20,12 +20,12 @@ use Rattle.fc_record.specs.Recording.{Recording, recorded_calls}
 use Rattle.fc_record.specs.declared.report.Report.{Report}
 use Rattle.fc_server.specs.declared.server.Begin.{Begin}
 use Rattle.fc_host.specs.Sockets.{Comes, Incoming, IsHanded, Receive}
-use Rattle.fc_host.specs.Timers.{GoesPastTimers, IsTimedReceive}
 use Rattle.fc_host.specs.declared.timer.Timer.{Timer}
 use Rattle.fc_service.specs.SingleThread.{ReadiesRecorded}
 use Rattle.fc_host.specs.Clocks.{AreReadAt}
 use Rattle.fc_service.specs.Counting.{both_replies, replies_by, replies_of}
 use Rattle.fc_service.specs.Ingresses.{IsHandledBy}
+use Rattle.fc_service.specs.Firing.{Firing, fired_calls, firing_from, readies_firing}
 use Rattle.fc_service.specs.Serials.{serial_of_start}
 use Rattle.fc_service.specs.Pooled.{AreSharesAt, PooledIngress, IsNew, offload_where, locked_view, pooled_calls}
 use Rattle.fc_service.specs.Reporting.{Reporting, readies_through, reported_calls, reporting_from}
@@ -75,11 +75,26 @@ abbrev pub EndsInTime : (ℕ → ℕ → Type 0) → ℕ → Bool → Option ℕ
 EndsInTime StaysIdle now false wait = wait ≡ Some 100
 EndsInTime StaysIdle now true wait = (time : ℕ) × AreIdleUntil StaysIdle time × (wait ≡ wait_until now time)
 
+-- a wait that begins at a time, shortened to end when a timer is due, and to at least 1 ms. If there
+-- is no timer, the wait isn't shortened.
+abbrev pub at_most : ℕ → Option ℕ → Option ℕ
+at_most ms None = Some ms
+at_most ms (Some wait) = Some (min wait ms)
+
+abbrev pub until_due : (now due : ℕ) → Option ℕ → Option ℕ
+until_due now due wait = if nat_lt due never then at_most (max (due - now) 1) wait else wait
+
+-- how long a receive waits after a round at this time that left a server in this state. The wait
+-- ends when the server's first timer is due.
+abbrev pub EndsByTimer : {S : Type 0} → IngressCalls S → S → ℕ → Bool → Option ℕ → Type 0
+EndsByTimer calls left now idle wait =
+    (due : ℕ) × (own : Option ℕ) × calls.is_first_due left due × EndsInTime (λ shard until. calls.stays_idle shard left until) now idle own × (wait ≡ until_due now due own)
+
 -- how long the first receive waits, and how long a receive waits after rounds that left a server in
 -- this state.
 abbrev pub WaitsAfter : {S : Type 0} → IngressCalls S → List Round → S → Option ℕ → Type 0
 WaitsAfter calls [] left wait = wait ≡ Some 100
-WaitsAfter calls (r ∷ rs) left wait = EndsInTime (λ shard until. calls.stays_idle shard left until) r.now (is_none r.received) wait
+WaitsAfter calls (r ∷ rs) left wait = EndsByTimer calls left r.now (is_none r.received) wait
 
 -- ---- the order of a round's calls
 
@@ -165,6 +180,18 @@ abbrev pub HasReceivedBy : {S : Type 0} → Option ℕ → (Report → CallLog �
 HasReceivedBy None Reported Readies c e limit before after first last replies = HasRun Readies c e limit before after first last replies
 HasReceivedBy (Some every) Reported Readies c e limit before after first last replies = HasRunReported every Reported Readies c e limit before after first replies
 
+-- ---- with timers, or without
+
+-- a server has run in this way from a state, with these timers. The state after that isn't stated.
+pub record HasRunTimed {S : Type 0} (timers : List Timer) (every : Option ℕ) (Reported : Report → CallLog → CallLog → Type 0) (Readies : ℕ → S → S → Type 0) (calls : IngressCalls S) (e : RoundCalls) (limit : ℕ) (before after : Option (List Receive)) (first : S) (replies : Replies) : Type 0 where
+  pub last : Firing S
+  pub run : HasReceivedBy every Reported (readies_firing Readies) (fired_calls calls) e limit before after (firing_from timers first) last replies
+
+-- with timers, they fired; without timers, the server was called directly.
+abbrev pub HasReceivedWith : {S : Type 0} → List Timer → Option ℕ → (Report → CallLog → CallLog → Type 0) → (ℕ → S → S → Type 0) → IngressCalls S → RoundCalls → ℕ → Option (List Receive) → Option (List Receive) → S → S → Replies → Type 0
+HasReceivedWith [] every Reported Readies c e limit before after first last replies = HasReceivedBy every Reported Readies c e limit before after first last replies
+HasReceivedWith (t ∷ ts) every Reported Readies c e limit before after first last replies = HasRunTimed (t ∷ ts) every Reported Readies c e limit before after first replies
+
 -- ---- a server on one thread
 
 -- a server that began at this serial and message ID has run on one thread, with these sensors,
@@ -182,10 +209,17 @@ pub record HasServedReported (every : ℕ) (Reported : Report → CallLog → Ca
   pub begins : Serves (begin_of begin) first.alone.engine []
   pub run : HasRunReported every Reported (ReadiesRecorded sensors) (recorded_calls Recorded) e limit before after first replies
 
--- the same with a period of reports, in milliseconds, or without one.
-abbrev pub HasServedBy : Option ℕ → (Report → CallLog → CallLog → Type 0) → (List ℕ → Type 0) → RoundCalls → (Requested → CallLog → CallLog → Type 0) → ℕ → Begin → Option (List Receive) → Option (List Receive) → Replies → Type 0
-HasServedBy None Reported sensors e Recorded limit begin before after replies = HasServed sensors e Recorded limit begin before after replies
-HasServedBy (Some every) Reported sensors e Recorded limit begin before after replies = HasServedReported every Reported sensors e Recorded limit begin before after replies
+-- the same with these timers, and with a period of reports or without one.
+pub record HasServedTimed (timers : List Timer) (every : Option ℕ) (Reported : Report → CallLog → CallLog → Type 0) (sensors : List ℕ → Type 0) (e : RoundCalls) (Recorded : Requested → CallLog → CallLog → Type 0) (limit : ℕ) (begin : Begin) (before after : Option (List Receive)) (replies : Replies) : Type 0 where
+  pub first : Recording
+  pub begins : Serves (begin_of begin) first.alone.engine []
+  pub run : HasRunTimed timers every Reported (ReadiesRecorded sensors) (recorded_calls Recorded) e limit before after first replies
+
+-- the same with timers or without, and with a period of reports, in milliseconds, or without one.
+abbrev pub HasServedBy : List Timer → Option ℕ → (Report → CallLog → CallLog → Type 0) → (List ℕ → Type 0) → RoundCalls → (Requested → CallLog → CallLog → Type 0) → ℕ → Begin → Option (List Receive) → Option (List Receive) → Replies → Type 0
+HasServedBy [] None Reported sensors e Recorded limit begin before after replies = HasServed sensors e Recorded limit begin before after replies
+HasServedBy [] (Some every) Reported sensors e Recorded limit begin before after replies = HasServedReported every Reported sensors e Recorded limit begin before after replies
+HasServedBy (t ∷ ts) every Reported sensors e Recorded limit begin before after replies = HasServedTimed (t ∷ ts) every Reported sensors e Recorded limit begin before after replies
 
 -- ---- a server with workers
 
@@ -200,16 +234,16 @@ served_view sensors e Recorded begin = locked_view begin (AreReadAt e.time senso
 -- The replies are those of the rounds, of the jobs of this number of workers, and of the
 -- dispatcher's jobs. The calls that the workers and the dispatcher filed have one order. The front's,
 -- and each shard's, led from the first one of the server to a closed server's.
-pub record HasServedPooled (every : Option ℕ) (Reported : Report → CallLog → CallLog → Type 0) (sensors : List ℕ → Type 0) (e : RoundCalls) (Recorded : Requested → CallLog → CallLog → Type 0) (workers limit : ℕ) (begin : Begin) (before after : Option (List Receive)) (replies : Replies) : Type 0 where
+pub record HasServedPooled (s : WorkerView Tallies) (timers : List Timer) (every : Option ℕ) (Reported : Report → CallLog → CallLog → Type 0) (e : RoundCalls) (workers limit : ℕ) (begin : Begin) (before after : Option (List Receive)) (replies : Replies) : Type 0 where
   pub channel : Channel
   pub first : PooledIngress Tallies
   pub last : PooledIngress Tallies
   pub has_workers : Bool
   pub new : IsNew channel (offload_where has_workers (Expensive 6000)) first
   pub at_once : Replies
-  pub run : HasReceivedBy every Reported (λ now old new. new ≡ old) (pooled_calls (served_view sensors e Recorded (beginning begin.policy begin.id))) e limit before after first last at_once
+  pub run : HasReceivedWith timers every Reported (λ now old new. new ≡ old) (pooled_calls s) e limit before after first last at_once
   pub shares : List (Share Tallies)
-  pub worked : AreSharesAt (served_view sensors e Recorded (beginning begin.policy begin.id)) channel shares
+  pub worked : AreSharesAt s channel shares
   pub count : length shares ≡ workers
   pub all : replies ≡ both_replies at_once (both_replies (replies_of shares) (replies_by last.done.share))
   pub closed : ClosedServer
@@ -221,21 +255,7 @@ pub record HasServedPooled (every : Option ℕ) (Reported : Report → CallLog �
 abbrev pub begin_by : Extent → Begin
 begin_by extent = record { serial = serial_of_start extent.started; id = extent.first_id; policy = extent.policy }
 
-abbrev pub IsServed : (List ℕ → Type 0) → RoundCalls → (Requested → CallLog → CallLog → Type 0) → Option ℕ → (Report → CallLog → CallLog → Type 0) → Extent → Option (List Receive) → Option (List Receive) → Replies → Type 0
-IsServed sensors e Recorded every Reported extent before after replies =
-    ((extent.workers ≡ 1) × HasServedBy every Reported sensors e Recorded extent.limit (begin_by extent) before after replies)
-    ⊎ ((extent.workers ≡ 1 → ⊥) × HasServedPooled every Reported sensors e Recorded extent.workers extent.limit (begin_by extent) before after replies)
-
--- ---- timers together with a source
-
--- the calls of rounds by a source and timers. The requests of the timers come between the datagrams
--- of the source, and the responses to them don't reach the sink.
-abbrev pub timed_calls : (Receive → CallLog → CallLog → Type 0) → (ℕ → CallLog → CallLog → Type 0) → (Emission → Bool → CallLog → CallLog → Type 0) → RoundCalls
-timed_calls received time went = round_calls (IsTimedReceive time received) time (GoesPastTimers went)
-
--- a server on a source whose receives are unknown, with timers or without. The timers that a
--- receive had are unknown too.
-abbrev pub IsServedBeside : List Timer → (List ℕ → Type 0) → (Receive → CallLog → CallLog → Type 0) → (ℕ → CallLog → CallLog → Type 0) → (Emission → Bool → CallLog → CallLog → Type 0)
-    → (Requested → CallLog → CallLog → Type 0) → Option ℕ → (Report → CallLog → CallLog → Type 0) → Extent → Replies → Type 0
-IsServedBeside [] sensors received time went Recorded every Reported extent replies = IsServed sensors (round_calls received time went) Recorded every Reported extent None None replies
-IsServedBeside (t ∷ ts) sensors received time went Recorded every Reported extent replies = IsServed sensors (timed_calls received time went) Recorded every Reported extent None None replies
+abbrev pub IsServed : List Timer → (List ℕ → Type 0) → RoundCalls → (Requested → CallLog → CallLog → Type 0) → Option ℕ → (Report → CallLog → CallLog → Type 0) → Extent → Option (List Receive) → Option (List Receive) → Replies → Type 0
+IsServed timers sensors e Recorded every Reported extent before after replies =
+    ((extent.workers ≡ 1) × HasServedBy timers every Reported sensors e Recorded extent.limit (begin_by extent) before after replies)
+    ⊎ ((extent.workers ≡ 1 → ⊥) × HasServedPooled (served_view sensors e Recorded (beginning extent.policy extent.first_id)) timers every Reported e extent.workers extent.limit (begin_by extent) before after replies)

@@ -27,10 +27,9 @@ The server speaks CoAP on UDP, at 127.0.0.1, so that this host alone reaches it,
 address that `--bind` names; 0.0.0.0 is each of this host's. Whoever reaches it may upload
 programs and remove them.
 
-`--every MS:N` has the program of slot N asked each MS milliseconds, by a POST without a payload
+`--every MS:N` runs the program of slot N each MS milliseconds, as for a POST without a payload
 whose response nobody gets: it can look at the readings and notify its observers. A beat that was
-missed isn't made up for. A request of a timer counts as a datagram, and holds an exchange for
-247 s: all timers together may hold half of `--exchanges`, and no more than `--share`.
+missed isn't made up for, and one at which the last run is still at a worker is skipped.
 
 One thread receives datagrams, and runs the programs that take less than 6,000 instructions;
 W others run those that may take more. With `--workers 1` there are no others: the one thread
@@ -152,7 +151,7 @@ fn every<'a>(alloc: Global) -> Arg<'a> {
         alloc,
         "every",
         "MS:N",
-        "Asks the program of slot N each MS milliseconds; may be repeated",
+        "Runs the program of slot N each MS milliseconds; may be repeated",
     )
     .action(ArgAction::Append)
 }

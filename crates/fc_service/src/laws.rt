@@ -9,11 +9,14 @@ ghost use Rattle.fc_server.specs.Notified.{Nobody, Notified};
 ghost use Rattle.fc_server.specs.Steps.{shard_turn};
 ghost use Rattle.fc_server.specs.declared.server.Begin.{Begin};
 ghost use Rattle.fc_host.specs.Sockets.{Receive};
+ghost use Rattle.fc_host.specs.Timers.{put_off};
 ghost use Rattle.fc_host.specs.declared.timer.Timer.{Timer};
+ghost use Rattle.fc_server.specs.declared.engine.FireOutcome.{FireOutcome};
+ghost use Rattle.std.specs.List.{All};
 ghost use Rattle.fc_server.specs.SingleThread.{NotifiesAlone, ResendsAlone};
-ghost use Rattle.fc_host.specs.Timers.{timers};
-ghost use Rattle.fc_service.specs.Every.{IsTimerText, held_by, most_held, timers_hold};
-ghost use Rattle.fc_service.specs.Histories.{IsOneHistory, arrivals_in, arrivals_in_lines, sent_in_lines};
+ghost use Rattle.fc_service.specs.Every.{IsTimerText};
+ghost use Rattle.fc_service.specs.Firing.{Firing, FiresIfDue, fired_calls, is_offloaded};
+ghost use Rattle.fc_service.specs.Histories.{Beat, IsOneHistory, after_beat, arrivals_in, arrivals_in_lines, beat_at, sent_in_lines, timed_arrivals_in};
 ghost use Rattle.fc_server.specs.Ingresses.{is_reply};
 ghost use Rattle.fc_lines.specs.Emissions.{printed};
 ghost use Rattle.fc_service.specs.Playing.{IsNextText, IsPlayedOut, PlayedLine, printed_lines};
@@ -25,16 +28,16 @@ ghost use Rattle.fc_record.specs.declared.gauges.Gauges.{Gauges};
 ghost use Rattle.fc_service.specs.Logs.{ArePeriods, IsReportText};
 ghost use Rattle.fc_service.specs.Reporting.{AreGaugesOf, Reporting, ReportsIfDue, reported_calls, reporting_from};
 ghost use Rattle.fc_workers.specs.declared.call_log.CallLog.{CallLog};
-ghost use Rattle.fc_service.specs.Rounds.{EndsInTime, HasServed, WaitsAfter, round_calls, sendings_in};
+ghost use Rattle.fc_service.specs.Rounds.{EndsInTime, HasServed, HasServedTimed, WaitsAfter, round_calls, sendings_in, until_due};
 ghost use Rattle.fc_server.specs.Flushing.{most_steps};
 ghost use Rattle.fc_service.specs.Serials.{IsNewerNumber, serial_of_start};
 ghost use Rattle.fc_server.specs.declared.alone.SingleThread.{SingleThread};
 ghost use Rattle.fc_service.specs.declared.replies.Replies.{Replies};
 
 use crate::every::LONGEST;
+use fc_host::laws::no_timer_is_due_before_the_first;
 use fc_host::sensors::Sensors;
 use fc_host::socket::{Sink, Source};
-use fc_host::timers::TIMERS;
 use fc_record::{Recorder, Reporter};
 use fc_server::Ingress;
 use fc_server::flush::STEPS;
@@ -55,21 +58,13 @@ pub fn flushing_takes_8192_steps()
     ensures definition { most_steps ≡ 8192 }
 {}
 
-/// The requests of timers come from 0.0.0.0:0, in code and definition.
-///
-/// No host has this address as its source (RFC 1122, section 3.2.1.3).
-pub fn timers_have_no_address()
-    ensures code { TIMERS ≡ record { ip = 0 ∷ 0 ∷ 0 ∷ 0 ∷ []; port = 0 } }
-    ensures definition { timers ≡ record { ip = 0 ∷ 0 ∷ 0 ∷ 0 ∷ []; port = 0 } }
-{}
-
 /// The longest period of a timer is a day.
 ///
 /// A day is 24 hours of 60 minutes of 60 seconds of 1,000 ms. `86400000:7` is the text of a timer,
 /// and no text has a longer period.
 pub fn longest_period_is_a_day()
     ensures code { LONGEST ≡ 24 * 60 * 60 * 1000 }
-    ensures day { IsTimerText (codes "86400000:7") (record { every = 86400000; slot = 7; due = 86400000 }) }
+    ensures day { IsTimerText (codes "86400000:7") (record { every = 86400000; slot = 7; due = 86400000; offloaded = false }) }
     ensures most { (text : List ℕ) (t : Timer) → IsTimerText text t → t.every ≤ 24 * 60 * 60 * 1000 }
 {}
 
@@ -135,6 +130,64 @@ pub fn served_rounds_are_one_history<Z: Sensors, S: Source, M: TimeSource, K: Si
         → IsOneHistory begin (arrivals_in w.run.rounds) (map (λ s. s.emission) (sendings_in w.run.rounds)) w.last.alone.engine }
 {}
 
+/// All rounds of a server on one thread with timers are one history of events.
+///
+/// Exactly the received datagrams are delivered, as without timers. In each round the timers that
+/// are due fire first: each of them once, for its own slot, at the round's time, and no other. It is
+/// due at its next beat after that, so a round fires no timer early, and none twice for one beat.
+/// The emissions of the events are those that the rounds passed to the sink. At its start no timer
+/// has a job at a worker.
+pub fn timed_rounds_are_one_history<
+    Z: Sensors,
+    S: Source,
+    M: TimeSource,
+    K: Sink,
+    C: Recorder,
+    Q: Reporter,
+>()
+    ensures { (timers : List Timer) (limit : ℕ) (begin : Begin) (before after : Option (List Receive)) (replies : Replies) → All (λ t. t.offloaded ≡ false) timers
+        → (w : HasServedTimed timers None Q.reported Z.are_sensed (round_calls S.received M.is_time K.went) C.recorded limit begin before after replies)
+        → IsOneHistory begin (timed_arrivals_in w.run.run.rounds timers) (map (λ s. s.emission) (sendings_in w.run.run.rounds)) w.run.last.ingress.alone.engine }
+{}
+
+/// A timer fires at its first round at or after a beat.
+///
+/// A timer of 1,000 ms of slot 7 doesn't fire before it is due at 5,000 ms. In a round at 5,300 ms
+/// it fires, and is due at 6,000 ms; at 8,300 ms it skips the beats that it missed.
+pub fn timers_fire_when_they_are_due()
+    ensures early { beat_at 4999 (record { every = 1000; slot = 7; due = 5000; offloaded = false }) ≡ [] }
+    ensures due { beat_at 5000 (record { every = 1000; slot = 7; due = 5000; offloaded = false }) ≡ Beat 5000 7 ∷ [] }
+    ensures waits { (t : Timer) → t.due ≡ 5000 → after_beat 4999 t ≡ t }
+    ensures next { (after_beat 5300 (record { every = 1000; slot = 7; due = 5000; offloaded = false })).due ≡ 6000 }
+    ensures late { (after_beat 8300 (record { every = 1000; slot = 7; due = 5000; offloaded = false })).due ≡ 9000 }
+{}
+
+/// A timer skips a beat only if its last job was sent to a worker.
+///
+/// A timer of slot 7 that is due at 5,000 ms fires once in a round at 5,300 ms, by one call of the
+/// server, for slot 7.
+pub fn timers_skip_beats_only_for_a_worker<N: Ingress>()
+    ensures free { (t u : Timer) (before after : N) → t.due ≡ 5000 → t.offloaded ≡ false → FiresIfDue N.calls 5300 t u before after
+        → (outcome : FireOutcome) × N.calls.fires t.slot 5300 before after outcome × (u ≡ record (put_off 5300 t) { offloaded = is_offloaded outcome }) }
+    ensures early { (t u : Timer) (before after : N) → t.due ≡ 5000 → FiresIfDue N.calls 4999 t u before after → (u ≡ t) × (after ≡ before) }
+{}
+
+/// A wait ends when the first timer is due.
+///
+/// At 4,200 ms a wait lasts 800 ms if the first timer is due at 5,000 ms, and is at least 1 ms. It
+/// isn't longer than it would be without timers, and without timers it is the same.
+pub fn waits_end_when_a_timer_is_due<N: Ingress>()
+    ensures endless { until_due 4200 5000 None ≡ Some 800 }
+    ensures longer { until_due 4200 5000 (Some 900) ≡ Some 800 }
+    ensures shorter { until_due 4200 5000 (Some 100) ≡ Some 100 }
+    ensures soon { until_due 4970 5000 (Some 100) ≡ Some 30 }
+    ensures least { until_due 5000 5000 (Some 100) ≡ Some 1 }
+    ensures without { (now : ℕ) (wait : Option ℕ) → until_due now 18446744073709551615 wait ≡ wait }
+    ensures first { (due : ℕ) (f : Firing N) → (fired_calls N.calls).is_first_due f due → All (λ t. due ≤ t.due) f.timers }
+{
+    no_timer_is_due_before_the_first();
+}
+
 /// All lines that a server on one thread plays are one history of events.
 ///
 /// Exactly the datagrams of the lines are delivered, in order, each at its line's time. Time passes
@@ -143,19 +196,6 @@ pub fn played_lines_are_one_history()
     ensures history { (begin : Begin) (had before after : Option (List ℕ)) (w : IsPlayedOut begin had before after)
         → IsOneHistory begin (arrivals_in_lines w.played.lines) (sent_in_lines w.played.lines) w.last.engine }
     ensures printed { (lines : List PlayedLine) → printed_lines lines ≡ flat_map printed (sent_in_lines lines) }
-{}
-
-/// All timers together may hold half of the exchanges, up to an address's share.
-///
-/// A timer of 483 ms holds 512 exchanges at a time, half of 1,024, and one of 482 ms holds 513. All
-/// timers may hold 512 of 1,024 exchanges, 32,768 of 65,536, and no more than the share of an
-/// address.
-pub fn timers_hold_half_of_the_exchanges()
-    ensures held { (t : Timer) → (held_by (record t { every = 483 }) ≡ 512) × (held_by (record t { every = 482 }) ≡ 513) × (held_by (record t { every = 86400000 }) ≡ 1) }
-    ensures half { most_held (record { exchanges = 1024; share = 65536 }) ≡ 512 }
-    ensures most { most_held (record { exchanges = 65536; share = 65536 }) ≡ 32768 }
-    ensures share { most_held (record { exchanges = 1024; share = 100 }) ≡ 100 }
-    ensures all { (a b : Timer) → timers_hold (record a { every = 966 } ∷ record b { every = 966 } ∷ []) ≡ 512 }
 {}
 
 /// A later start begins at a higher serial.

@@ -44,8 +44,15 @@
 //!   socket are unknown (`Source::came`, `Sink::went`).
 //! - **Waits**: the first receive waits 100 ms, and so does each receive after a datagram. After an
 //!   idle round the wait lasts until the earliest time that the shards returned, and at least 100
-//!   ms. It is unlimited if they returned none (`run_rounds`, by `WaitsAfter`). A test shows that
-//!   no job of a server with workers is running when the server calls the shards.
+//!   ms. It is unlimited if they returned none. Each wait but the first also ends when the server's
+//!   first timer is due, and then lasts at least 1 ms (`run_rounds`, by `WaitsAfter`). A test shows
+//!   that no job of a server with workers is running when the server calls the shards.
+//! - **Timers**: in each round the timers that are due fire first, in their order, and no other. Each
+//!   fires by one call of the server, for its own slot, at the round's time, and is next due at its
+//!   first beat after that. A timer skips a beat only if its last job was sent to a worker
+//!   (`serve_timed`, by `HasRunTimed`, whose calls are `fired_calls`). The contract doesn't say that
+//!   this job is running then, nor how such a run left the server. Tests show that the timer goes on
+//!   once its job has ended. Without timers the server is called directly.
 //! - **The options of `fcd serve`** are the values that the command line gives (`serve_options`, by
 //!   `AreServeOptions`). Their defaults are tested.
 //! - **A server that returns its source has run that loop**, with one worker or more. A limit was
@@ -63,8 +70,9 @@
 //! - **One history**: all rounds of a server on one thread, or all lines that it plays, are one
 //!   history of events. Exactly the datagrams that came are delivered, in order. Exactly the
 //!   emissions of the history's events were passed to the sink, or are printed, in that order. Each
-//!   datagram is delivered at the time of its round or line. If none came, time passes at this time
-//!   (`laws`).
+//!   datagram is delivered at the time of its round or line. If none came, time passes at this time.
+//!   With timers, and without reports, the history also has exactly the events of the timers that
+//!   were due, before their round's datagram (`laws`).
 //! - **With more workers** a dispatcher handles each datagram, in order, and each lease that some
 //!   shard gave. Nothing else in a round changes the dispatched jobs (`serve_at`, by
 //!   `HasServedPooled`; `run_pool` passes on its driver's effects, by `IsFedBeside`). The
@@ -111,13 +119,14 @@
 //!
 //! By the contracts of `play::play`, `workers::play_by_workers`, `options::serve_options`,
 //! `lines::play_lines`, `rounds::run_rounds`, `serve::serve`, `serve::serve_at`,
-//! `serve::serve_alone`, `serials::serial_of_start`, `pool::run_pool`, `reports::run_reported`,
-//! `Reporting`, `Replies`, `laws`.
+//! `serve::serve_timed`, `serve::serve_alone`, `serials::serial_of_start`, `pool::run_pool`, `reports::run_reported`,
+//! `Reporting`, `Firing`, `Replies`, `laws`.
 #![tactic(auto)]
 
 mod alone;
 pub mod command;
 pub mod every;
+mod firing;
 pub mod laws;
 mod lines;
 pub mod logging;
@@ -131,5 +140,7 @@ pub mod reports;
 mod rounds;
 pub mod serials;
 pub mod serve;
+mod timed;
+mod timer_jobs;
 mod waiting;
 pub mod workers;

@@ -23,10 +23,10 @@ use fc_filed::{NewServerBook, ServerName};
 use fc_jobs::{Jobs, Sent};
 use fc_observe::Ticked;
 use fc_record::{RecordedBench, Recorder};
-use fc_registry::PLACES;
+use fc_registry::{PLACES, SlotNumber};
 use fc_server::Begin;
 pub use fc_server::Ingress;
-use fc_server::engine::NotifyOutcome;
+use fc_server::engine::{FireOutcome, NotifyOutcome};
 use fc_workers::{
     Bench, Blanks, Books, CallLog, ClosedServer, Context, Device, Dispatcher, Gate, Locked,
     Offload, ServerOf, Share, Tallies, TimeSource, TrackLog, Unassigned, Wire, WorkerSeed,
@@ -111,6 +111,20 @@ impl<'a, 'b, R: Wait, B: Bench, G: Gate, W: Wire, M: TimeSource> Ingress
 
     fn tick(&mut self, now: u64) {
         self.dispatcher.tick(self.rt, now);
+    }
+
+    // Counts the timer's job.
+    fn fire(&mut self, slot: SlotNumber, now: u64) -> FireOutcome {
+        let number = self.dispatcher.fire(self.rt, slot, now);
+        self.begun = self.begun.saturating_add(1);
+        match number {
+            Some(number) => FireOutcome::Sent(number),
+            None => FireOutcome::Ended,
+        }
+    }
+
+    fn first_due(&self) -> u64 {
+        u64::MAX
     }
 
     fn resend(&mut self, shard: u8, now: u64) -> Ticked {

@@ -7,9 +7,9 @@ use coap_msg::{Emission, Endpoint};
 use fc_core::{FrontGauges, Handled};
 use fc_observe::Ticked;
 use fc_record::{Gauges, ObserverCounts, Report, Reporter};
-use fc_registry::PLACES;
+use fc_registry::{PLACES, SlotNumber};
 use fc_server::Ingress;
-use fc_server::engine::NotifyOutcome;
+use fc_server::engine::{FireOutcome, NotifyOutcome};
 use fc_workers::CallLog;
 use std::marker::Model;
 use std::sync::Wait;
@@ -102,6 +102,14 @@ impl<'a, N: Ingress, Q: Reporter> Ingress for Reporting<'a, N, Q> {
     fn tick(&mut self, now: u64) {
         self.report_if_due(now);
         self.ingress.tick(now);
+    }
+
+    fn fire(&mut self, slot: SlotNumber, now: u64) -> FireOutcome {
+        self.ingress.fire(slot, now)
+    }
+
+    fn first_due(&self) -> u64 {
+        self.ingress.first_due()
     }
 
     fn resend(&mut self, shard: u8, now: u64) -> Ticked {

@@ -4,7 +4,7 @@ ghost use Rattle.std.specs.Option.{option_to_list};
 ghost use Rattle.coap_msg.specs.declared.types.Emission.{Emission};
 ghost use Rattle.fc_core.specs.Receiving.{emission_if};
 ghost use Rattle.fc_service.specs.Ingresses.{IsHandledBy};
-ghost use Rattle.fc_service.specs.Rounds.{EndsInTime, HasRun, round_calls};
+ghost use Rattle.fc_service.specs.Rounds.{EndsByTimer, EndsInTime, HasRun, round_calls, until_due};
 ghost use Rattle.fc_server.specs.Flushing.{AreIdleUntil, AreFlushed, AreStepsBy, FlushingStep, sent_in_steps};
 ghost use Rattle.fc_service.specs.Traffic.{Sends};
 
@@ -48,8 +48,8 @@ impl<N: Ingress> Preparation<N> for Unprepared {
 /// worker. After each datagram, and after each receive without one, notifications that have
 /// timed out are retransmitted. Then observers with pending notifications are notified. A receive
 /// waits 100 ms. After a round without a datagram, the next waits until the earliest time at which
-/// there may be work, or without limit. The result counts the replies passed to the sink, once
-/// each.
+/// there may be work, or without limit. Each wait but the first ends when a timer of the server is
+/// due. The result counts the replies passed to the sink, once each.
 pub(crate) fn run_rounds<R: Wait, N: Ingress, P: Preparation<N>, S: Source, K: Sink, M: TimeSource>(
     rt: &R,
     ingress: &mut N,
@@ -89,10 +89,17 @@ pub(crate) fn run_rounds<R: Wait, N: Ingress, P: Preparation<N>, S: Source, K: S
 }
 
 // Returns how long the next receive waits after a round at `now`, in milliseconds. `None` is
-// unlimited. After a round that received a datagram the wait is 100 ms, and no shard is called.
-// After an idle round it lasts until the earliest time at which there may be work, and at least 100
-// ms.
+// unlimited. The wait ends when the first timer is due that the server fires itself.
 fn next_wait<N: Ingress>(ingress: &N, now: u64, idle: bool) -> Option<u64>
+    ensures { EndsByTimer N.calls ingress.now now idle result }
+{
+    until_due(now, ingress.first_due(), next_call(ingress, now, idle))
+}
+
+// Returns how long the next receive waits if the server has no timer. After a round that received a
+// datagram the wait is 100 ms, and no shard is called. After an idle round it lasts until the
+// earliest time at which there may be work, and at least 100 ms.
+fn next_call<N: Ingress>(ingress: &N, now: u64, idle: bool) -> Option<u64>
     ensures { EndsInTime (λ shard until. N.calls.stays_idle shard ingress.now until) now idle result }
 {
     if !idle {
@@ -102,6 +109,21 @@ fn next_wait<N: Ingress>(ingress: &N, now: u64, idle: bool) -> Option<u64>
         u64::MAX => None,
         until => Some(until.saturating_sub(now).max(SHORTEST_WAIT)),
     }
+}
+
+// Shortens a wait that begins at `now` to end at `due`, and to at least 1 ms. Both times are in
+// milliseconds. A wait of `None` is unlimited. If `due` is 2^64 - 1, the wait isn't shortened.
+fn until_due(now: u64, due: u64, wait: Option<u64>) -> Option<u64>
+    ensures { result ≡ until_due now due wait }
+{
+    if due == u64::MAX {
+        return wait;
+    }
+    let most = due.saturating_sub(now).max(1);
+    Some(match wait {
+        Some(wait) => wait.min(most),
+        None => most,
+    })
 }
 
 // Handles a datagram at `now`, in milliseconds, and sends its immediate response, if there is one.

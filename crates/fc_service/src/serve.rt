@@ -1,28 +1,32 @@
 //! A server on a socket, with one thread or with workers.
 //!
 //! One thread receives the datagrams. Their jobs run on worker threads or on the receiving thread.
-ghost use Rattle.std.specs.Prelude.{◌≡◌, ◌≤◌, ◌⊎◌, ⊤, if◌then◌else◌, IfOk, IfSome, None};
+ghost use Rattle.std.specs.Prelude.{◌≡◌, ◌≤◌, ◌⊎◌, ⊤, [], if◌then◌else◌, IfOk, IfSome, None};
+ghost use Rattle.fc_host.specs.Clocks.{AreReadAt};
+ghost use Rattle.fc_service.specs.Pooled.{locked_view};
+ghost use Rattle.fc_service.specs.Rounds.{HasReceivedWith, HasServedBy, HasServedPooled, IsServed, begin_by, round_calls};
 ghost use Rattle.fc_server.specs.States.{CanBegin};
-ghost use Rattle.fc_service.specs.Rounds.{HasReceivedBy, HasServedBy, IsServed, IsServedBeside, round_calls, timed_calls};
+ghost use Rattle.fc_workers.specs.Fronts.{beginning};
 ghost use Rattle.fc_service.specs.declared.replies.Replies.{Replies as Counts};
 ghost use Rattle.fc_cli.specs.declared.status.Status.TheVariants.{Done, Failed};
 
 use crate::alone::Sensed;
 use crate::pool::{Driver, Ingress, Pool, run_pool};
 use crate::replies::Replies;
-use crate::reports::{CountedSink, Reports, run_reported};
+use crate::reports::{CountedSink, Reports};
 use crate::rounds::Unprepared;
 use crate::serials::serial_of_start;
+use crate::timed::{TimersOf, run_timed};
+use crate::timer_jobs::{TimerJobs, TimerWire};
 use fc_cli::status::{Status, tell};
 use fc_core::Policy;
 use fc_host::clock::{Elapsed, SensingDevice};
 use fc_host::sensors::Sensors;
 use fc_host::socket::{Receiving, Replying, Sink, Source, open};
 use fc_host::timer::Timer;
-use fc_host::timers::{PastTimers, Timed, Timers};
 use fc_record::{RecordedAlone, Recorder, Reporter};
 use fc_server::{Begin, SingleThread};
-use fc_workers::{Offload, TimeSource};
+use fc_workers::{Offload, TimeSource, Wire};
 use log::{Log, info};
 use std::alloc::{AllocError, Global};
 use std::io;
@@ -81,9 +85,10 @@ pub struct Records<'a, L: Log, C: Recorder, Q: Reporter> {
 
 /// Serves on UDP at an address and a port of this host, as [`serve_at`] does.
 ///
-/// The requests of timers come between the datagrams. The listening address is written to `err` if
-/// `listening.told` is set. Returns `Done` if `serve_at` returns its source. Otherwise, and if the
-/// socket can't be opened, returns `Failed`, and the reason is written to `err`.
+/// The programs of `timers` run at their beats. The listening address is written to `err` if
+/// `listening.told` is set. Returns `Done` once `extent.limit` datagrams were received. If the
+/// server doesn't start or the socket can't be opened, returns `Failed`, and the reason is written
+/// to `err`.
 pub fn serve<
     R: Threads + Wait + Clock + Net + Sync,
     L: Log,
@@ -102,8 +107,8 @@ pub fn serve<
     extent: Extent,
 ) -> Status
     ensures status { (result ≡ Done) ⊎ (result ≡ Failed) }
-    ensures served { result ≡ Done → (replies : Counts) × IsServedBeside timers.items Z.are_sensed
-        (λ receive before after. after ≡ before) (λ now before after. after ≡ before) (λ emission out before after. ⊤) C.recorded records.now.reports.every Q.reported extent replies }
+    ensures served { result ≡ Done → (replies : Counts) × IsServed timers.items Z.are_sensed
+        (round_calls (λ receive before after. after ≡ before) (λ now before after. after ≡ before) (λ emission out before after. ⊤)) C.recorded records.now.reports.every Q.reported extent None None replies }
 {
     let address = listening.address;
     match open(rt, address) {
@@ -112,58 +117,13 @@ pub fn serve<
                 let _told = writeln!(err, "listening on {address}");
             }
             let source = Receiving::new(&socket);
-            if timers.is_empty() {
-                return done_if(serve_at(
-                    rt, alloc, records, err, sensors, source, &socket, extent,
-                ).is_some());
-            }
-            let timers = Timers::new(timers);
-            serve_timed(
+            done_if(serve_timed(
                 rt, alloc, records, err, sensors, source, &socket, timers, extent,
             )
+            .is_some())
         }
         Err(error) => tell(err, &ServeStop::Socket(address, error), Status::Failed),
     }
-}
-
-// Serves datagrams of a source, and the requests of timers between them. The responses to timers
-// don't reach the sink. The results are those of `serve`; it fails too if the clock can't be read.
-fn serve_timed<
-    R: Threads + Wait + Clock + Sync,
-    S: Source + Drop,
-    K: Sink + Sync,
-    L: Log,
-    C: Recorder + Sync,
-    Q: Reporter + Sync,
-    E: Write,
-    Z: Sensors + Sync,
->(
-    rt: &R,
-    alloc: Global,
-    records: &Records<'_, L, C, Q>,
-    err: &mut E,
-    sensors: &Z,
-    source: S,
-    sink: &K,
-    timers: Timers,
-    extent: Extent,
-) -> Status
-    ensures status { (result ≡ Done) ⊎ (result ≡ Failed) }
-    ensures served { result ≡ Done → (replies : Counts)
-        × IsServed Z.are_sensed (timed_calls S.received (λ now before after. after ≡ before) K.went) C.recorded records.now.reports.every Q.reported extent None None replies }
-{
-    let times = match Elapsed::start(rt) {
-        Ok(times) => times,
-        Err(error) => return tell(err, &ServeStop::Clock(error), Status::Failed),
-    };
-    let timed = Timed {
-        source,
-        timers,
-        times: &times,
-        rt,
-    };
-    let sink = PastTimers { sink };
-    done_if(serve_at(rt, alloc, records, err, sensors, timed, &sink, extent).is_some())
 }
 
 // Returns the status of a server by whether it ran to its end.
@@ -219,9 +179,45 @@ pub fn serve_at<
     extent: Extent,
 ) -> Option<S>
     ensures { IfSome result (λ left. (replies : Counts)
-        × IsServed Z.are_sensed (round_calls S.received (λ now before after. after ≡ before) K.went) C.recorded records.now.reports.every Q.reported extent (S.came source) (S.came left) replies) }
+        × IsServed [] Z.are_sensed (round_calls S.received (λ now before after. after ≡ before) K.went) C.recorded records.now.reports.every Q.reported extent (S.came source) (S.came left) replies) }
 {
-    match serve_counted(rt, alloc, records, err, sensors, source, sink, extent) {
+    let timers = Vec::new(alloc);
+    serve_timed(
+        rt, alloc, records, err, sensors, source, sink, timers, extent,
+    )
+}
+
+/// Serves as [`serve_at`] does, and runs the programs of timers at their beats.
+///
+/// In each round the timers that are due fire before the datagram is handled, in their order. The
+/// job of a timer is that of a POST of its slot's resource, which sends nothing. A timer whose last
+/// job is at a worker skips the beat. Each receive but the first ends when the first timer is due.
+pub fn serve_timed<
+    R: Threads + Wait + Clock + Sync,
+    S: Source + Drop,
+    K: Sink + Sync,
+    L: Log,
+    C: Recorder + Sync,
+    Q: Reporter + Sync,
+    E: Write,
+    Z: Sensors + Sync,
+>(
+    rt: &R,
+    alloc: Global,
+    records: &Records<'_, L, C, Q>,
+    err: &mut E,
+    sensors: &Z,
+    source: S,
+    sink: &K,
+    timers: Vec<Timer>,
+    extent: Extent,
+) -> Option<S>
+    ensures { IfSome result (λ left. (replies : Counts)
+        × IsServed timers.items Z.are_sensed (round_calls S.received (λ now before after. after ≡ before) K.went) C.recorded records.now.reports.every Q.reported extent (S.came source) (S.came left) replies) }
+{
+    match serve_counted(
+        rt, alloc, records, err, sensors, source, sink, timers, extent,
+    ) {
         Ok(Received { source, replies }) => {
             info!(records.end; "{replies}");
             Some(source)
@@ -258,22 +254,27 @@ fn serve_counted<
     sensors: &Z,
     source: S,
     sink: &K,
+    timers: Vec<Timer>,
     extent: Extent,
 ) -> Result<Received<S>, ServeStop>
-    ensures { IfOk result (λ r. IsServed Z.are_sensed (round_calls S.received (λ now before after. after ≡ before) K.went) C.recorded records.now.reports.every Q.reported extent (S.came source) (S.came r.source) r.replies) }
+    ensures { IfOk result (λ r. IsServed timers.items Z.are_sensed (round_calls S.received (λ now before after. after ≡ before) K.went) C.recorded records.now.reports.every Q.reported extent (S.came source) (S.came r.source) r.replies) }
 {
     if records.reports.every.is_none() {
-        return serve_to_end(rt, alloc, records, err, sensors, source, sink, extent);
+        return serve_to_end(
+            rt, alloc, records, err, sensors, source, sink, timers, extent,
+        );
     }
     let counted = CountedSink {
         sink,
         reporter: records.reports.reporter,
     };
-    serve_to_end(rt, alloc, records, err, sensors, source, &counted, extent)
+    serve_to_end(
+        rt, alloc, records, err, sensors, source, &counted, timers, extent,
+    )
 }
 
-// Serves as `serve_at` does, and returns the source and the numbers of replies at the end. Returns
-// why the server doesn't start if the clock can't be read or memory can't be allocated.
+// Serves as `serve_timed` does, and returns the source and the numbers of replies at the end.
+// Returns why the server doesn't start if the clock can't be read or memory can't be allocated.
 fn serve_to_end<
     R: Threads + Wait + Clock + Sync,
     L: Log,
@@ -291,41 +292,138 @@ fn serve_to_end<
     sensors: &Z,
     source: S,
     sink: &K,
+    timers: Vec<Timer>,
     extent: Extent,
 ) -> Result<Received<S>, ServeStop>
-    ensures { IfOk result (λ r. IsServed Z.are_sensed (round_calls S.received (λ now before after. after ≡ before) K.went) C.recorded records.now.reports.every Q.reported extent (S.came source) (S.came r.source) r.replies) }
+    ensures { IfOk result (λ r. IsServed timers.items Z.are_sensed (round_calls S.received (λ now before after. after ≡ before) K.went) C.recorded records.now.reports.every Q.reported extent (S.came source) (S.came r.source) r.replies) }
 {
     let times = Elapsed::start(rt).map_err(ServeStop::Clock)?;
-    let begin = Begin {
+    let has_timers = !timers.is_empty();
+    let jobs = TimerJobs::new(alloc, timers.len())?;
+    let timers = TimersOf {
+        timers,
+        jobs: &jobs,
+    };
+    if extent.workers == 1 {
+        return Ok(serve_alone(
+            rt, alloc, records, sensors, source, sink, &times, timers, extent,
+        )?);
+    }
+    let replying = Replying { sink };
+    if !has_timers {
+        return Ok(serve_pooled(
+            rt, alloc, records, err, sensors, source, sink, &replying, &times, timers, extent,
+        )?);
+    }
+    let wire = TimerWire {
+        wire: &replying,
+        jobs: &jobs,
+    };
+    Ok(serve_pooled(
+        rt, alloc, records, err, sensors, source, sink, &wire, &times, timers, extent,
+    )?)
+}
+
+// Returns the initial state of a server.
+fn begin_by(extent: Extent) -> Begin
+    ensures begin { result ≡ begin_by extent }
+    ensures serial { CanBegin result }
+{
+    Begin {
         serial: serial_of_start(extent.started),
         id: extent.first_id,
         policy: extent.policy,
-    };
-    let limit = extent.limit;
-    let (recorder, reports) = (records.changes, &records.reports);
-    if extent.workers == 1 {
-        return Ok(serve_alone(
-            rt, alloc, begin, recorder, reports, sensors, source, sink, &times, limit,
-        )?);
     }
+}
+
+// A receiver of datagrams, up to a limit. It sends what needs no job, and fires the timers.
+#[derive(Drop)]
+struct Receiver<'a, 'b, S: Source + Drop, K: Sink, M: TimeSource, Q: Reporter> {
+    source: S,
+    sink: &'a K,
+    times: &'a M,
+    limit: u32,
+    reports: &'a Reports<'b, Q>,
+    timers: TimersOf<'a>,
+}
+
+impl<'a, 'b, S: Source + Drop, K: Sink, M: TimeSource, Q: Reporter> Driver<Received<S>>
+    for Receiver<'a, 'b, S, K, M, Q> {
+    ghost drives = { λ T calls self first last given. HasReceivedWith self.timers.timers.items self.reports.now.every Q.reported (λ now old new. new ≡ old)
+        calls (round_calls S.received M.is_time K.went) self.limit (S.came self.source) (S.came given.source) first last given.replies };
+
+    // Receives datagrams up to the limit, as `run_timed` does, and returns the source and the
+    // numbers of replies.
+    fn drive<N: Ingress, R: Wait>(self, rt: &R, ingress: &mut N) -> Received<S> {
+        let Receiver {
+            mut source,
+            sink,
+            times,
+            limit,
+            reports,
+            timers,
+        } = self;
+        let replies = run_timed(
+            rt,
+            ingress,
+            &Unprepared,
+            &mut source,
+            sink,
+            times,
+            limit,
+            reports,
+            timers,
+        );
+        Received { source, replies }
+    }
+}
+
+// Serves with several workers, or with this thread alone if no thread can be created for a worker.
+// The workers' replies are passed to `wire`. Returns the source, and the numbers of replies.
+// Returns `AllocError` if memory for the server can't be allocated.
+fn serve_pooled<
+    R: Threads + Wait + Sync,
+    L: Log,
+    C: Recorder + Sync,
+    Q: Reporter + Sync,
+    E: Write,
+    Z: Sensors + Sync,
+    S: Source + Drop,
+    K: Sink + Sync,
+    W: Wire + Sync,
+    M: TimeSource + Sync,
+>(
+    rt: &R,
+    alloc: Global,
+    records: &Records<'_, L, C, Q>,
+    err: &mut E,
+    sensors: &Z,
+    source: S,
+    sink: &K,
+    wire: &W,
+    times: &M,
+    timers: TimersOf<'_>,
+    extent: Extent,
+) -> Result<Received<S>, AllocError>
+    ensures { let view = locked_view (beginning extent.policy extent.first_id) (AreReadAt M.is_time Z.are_sensed) M.is_time M.is_random W.called C.recorded in
+        IfOk result (λ r. HasServedPooled view timers.entry.timers.items records.now.reports.every Q.reported (round_calls S.received M.is_time K.went) extent.workers extent.limit (begin_by extent) (S.came source) (S.came r.source) r.replies) }
+{
     let pool = Pool {
         workers: extent.workers,
         offload: Offload::Expensive(EXPENSIVE),
-        begin,
-        wire: &Replying { sink },
-        times: &times,
-        device: &SensingDevice {
-            times: &times,
-            sensors,
-        },
-        recorder,
+        begin: begin_by(extent),
+        wire,
+        times,
+        device: &SensingDevice { times, sensors },
+        recorder: records.changes,
     };
     let receiver = Receiver {
         source,
         sink,
-        times: &times,
-        limit,
-        reports,
+        times,
+        limit: extent.limit,
+        reports: &records.reports,
+        timers,
     };
     let fed = run_pool(rt, alloc, err, &pool, receiver)?;
     let Received { source, replies } = fed.given;
@@ -335,50 +433,12 @@ fn serve_to_end<
     })
 }
 
-// A receiver of datagrams, up to a limit. It sends what needs no job.
-#[derive(Drop)]
-struct Receiver<'a, 'b, S: Source + Drop, K: Sink, M: TimeSource, Q: Reporter> {
-    source: S,
-    sink: &'a K,
-    times: &'a M,
-    limit: u32,
-    reports: &'a Reports<'b, Q>,
-}
-
-impl<'a, 'b, S: Source + Drop, K: Sink, M: TimeSource, Q: Reporter> Driver<Received<S>>
-    for Receiver<'a, 'b, S, K, M, Q> {
-    ghost drives = { λ T calls self first last given. HasReceivedBy self.reports.now.every Q.reported (λ now old new. new ≡ old)
-        calls (round_calls S.received M.is_time K.went) self.limit (S.came self.source) (S.came given.source) first last given.replies };
-
-    // Receives datagrams up to the limit, as `run_reported` does, and returns the source and the
-    // numbers of replies.
-    fn drive<N: Ingress, R: Wait>(self, rt: &R, ingress: &mut N) -> Received<S> {
-        let Receiver {
-            mut source,
-            sink,
-            times,
-            limit,
-            reports,
-        } = self;
-        let replies = run_reported(
-            rt,
-            ingress,
-            &Unprepared,
-            &mut source,
-            sink,
-            times,
-            limit,
-            reports,
-        );
-        Received { source, replies }
-    }
-}
-
 // Serves with one worker: runs each datagram's job on this thread, before the next is received.
 // Returns the source, and the numbers of replies, each counted once. Returns `AllocError` if memory
 // for the server can't be allocated.
 fn serve_alone<
     R: Wait,
+    L: Log,
     C: Recorder,
     Q: Reporter,
     S: Source + Drop,
@@ -388,30 +448,30 @@ fn serve_alone<
 >(
     rt: &R,
     alloc: Global,
-    begin: Begin,
-    recorder: &C,
-    reports: &Reports<'_, Q>,
+    records: &Records<'_, L, C, Q>,
     sensors: &Z,
     mut source: S,
     sink: &K,
     times: &M,
-    limit: u32,
+    timers: TimersOf<'_>,
+    extent: Extent,
 ) -> Result<Received<S>, AllocError>
-    requires { CanBegin begin }
-    ensures { IfOk result (λ r. HasServedBy reports.now.every Q.reported Z.are_sensed (round_calls S.received M.is_time K.went) C.recorded limit begin
+    ensures { IfOk result (λ r. HasServedBy timers.entry.timers.items records.now.reports.every Q.reported Z.are_sensed (round_calls S.received M.is_time K.went) C.recorded extent.limit (begin_by extent)
         (S.came source) (S.came r.source) r.replies) }
 {
-    let mut alone = RecordedAlone::new(SingleThread::new(alloc, &begin)?, recorder);
+    let begin = begin_by(extent);
+    let mut alone = RecordedAlone::new(SingleThread::new(alloc, &begin)?, records.changes);
     let sensed = Sensed { sensors };
-    let replies = run_reported(
+    let replies = run_timed(
         rt,
         &mut alone,
         &sensed,
         &mut source,
         sink,
         times,
-        limit,
-        reports,
+        extent.limit,
+        &records.reports,
+        timers,
     );
     Ok(Received { source, replies })
 }

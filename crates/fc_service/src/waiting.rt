@@ -8,9 +8,9 @@ use fc_core::{FrontGauges, Handled};
 use fc_help::Readings;
 use fc_host::scripted::ScriptedHost;
 use fc_observe::Ticked;
-use fc_registry::PLACES;
+use fc_registry::{PLACES, SlotNumber};
 use fc_server::Ingress;
-use fc_server::engine::NotifyOutcome;
+use fc_server::engine::{FireOutcome, NotifyOutcome};
 use std::sync::Wait;
 
 // An ingress that waits at a scripted host for each job and each lease until it was run.
@@ -41,6 +41,22 @@ impl<'a, 'b, R: Wait, N: Ingress> Ingress for LockStep<'a, 'b, R, N> {
 
     fn tick(&mut self, now: u64) {
         self.ingress.tick(now);
+    }
+
+    // Waits for the worker of the timer's job.
+    fn fire(&mut self, slot: SlotNumber, now: u64) -> FireOutcome {
+        self.scripted.begin(self.rt, now);
+        match self.ingress.fire(slot, now) {
+            FireOutcome::Sent(_) => {
+                let _unsent = self.scripted.wait(self.rt);
+                FireOutcome::Ended
+            }
+            outcome => outcome,
+        }
+    }
+
+    fn first_due(&self) -> u64 {
+        self.ingress.first_due()
     }
 
     fn resend(&mut self, shard: u8, now: u64) -> Ticked {

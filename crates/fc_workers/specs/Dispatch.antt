@@ -1,5 +1,5 @@
 -- The effect of a dispatcher on its jobs: each goes to a worker, or the dispatcher runs it.
-use Rattle.std.specs.Prelude.{◌≡◌, ◌⊎◌, ◌+◌, ◌≤◌, ℕ, zero, suc, Bool, true, false, List, Option, Some, None}
+use Rattle.std.specs.Prelude.{◌≡◌, ◌⊎◌, ◌+◌, ◌≤◌, ℕ, zero, suc, Bool, true, false, List, Option, Some, None, length}
 use Rattle.coap_msg.specs.declared.types.Emission.{Emission}
 use Rattle.coap_msg.specs.declared.types.Endpoint.{Endpoint}
 use Rattle.fc_core.specs.declared.front.Delivered.{Delivered}
@@ -108,11 +108,18 @@ module _ {T : Type 0} (s : WorkerView T) where
     pub delivery : IsSomeDelivery now from bytes (handled result job reply)
     pub done : IsDone offload from (handled result job reply) (logged_at log before) after
 
-  -- the timer of a slot fired at this time, and its job is dispatched.
-  pub record IsTimerFired (offload : Offload) (slot now : ℕ) (before after : Dispatched T) : Type 0 where
+  -- the job went to the workers under this number, as the policy allows; or without a number, it was
+  -- run here.
+  abbrev pub IsDispatchedUnder : Offload → Job → Option ℕ → Dispatched T → Dispatched T → Type 0
+  IsDispatchedUnder offload job (Some number) before after = (number ≡ length before.sent.sent) × IsHandedOver offload job before after
+  IsDispatchedUnder offload job None before after = IsWorkedHere job before after
+
+  -- the timer of a slot fired at this time, and its job is dispatched: under this number, if it went
+  -- to the workers.
+  pub record IsTimerFired (offload : Offload) (slot now : ℕ) (number : Option ℕ) (before after : Dispatched T) : Type 0 where
     pub log : TrackedLog
     pub fires : s.logged (FiresTimer slot now) before.share.log log
-    pub done : IsDispatched offload (timer_job slot) (logged_at log before) after
+    pub done : IsDispatchedUnder offload (timer_job slot) number (logged_at log before) after
 
   -- the job of a lease is dispatched; if no lease was granted, no job is.
   abbrev pub IsTurnDone : Offload → Option Job → Bool → Dispatched T → Dispatched T → Type 0

@@ -160,14 +160,23 @@ impl<'a, B: Bench, G: Gate, W: Wire, M: TimeSource> Dispatcher<'a, B, G, W, M> {
     }
 
     /// Fires the timer of a slot at a time in milliseconds, and dispatches its job.
-    pub fn fire<R: Wait>(&mut self, rt: &R, slot: SlotNumber, now: u64)
+    ///
+    /// Returns the number of the job if it was sent to the workers. Returns `None` if the job has
+    /// ended here.
+    pub fn fire<R: Wait>(&mut self, rt: &R, slot: SlotNumber, now: u64) -> Option<u64>
         ensures fired { IsTimerFired (worker_view B.changes B.ended B.called B.logged M.is_time M.is_random G.passed W.called)
-            self.old.offload slot now self.old.done self.new.done }
+            self.old.offload slot now result self.old.done self.new.done }
         ensures offload { self.new.offload ≡ self.old.offload }
     {
+        let number = self.done.sent.count();
         let log = &mut self.done.share.log;
         self.context.bench.fire(rt, slot, now, &mut self.job, log);
         self.dispatch(rt);
+        if self.done.sent.count() > number {
+            Some(number)
+        } else {
+            None
+        }
     }
 
     /// Advances a shard, 0 to 7, to a time in milliseconds.

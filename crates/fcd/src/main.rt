@@ -110,7 +110,7 @@ fn serve_socket<R: Runtime + AllocGlobal + Threads + Wait + Net + RandomSource +
         Err(bad) => return tell_bad(err, bad),
     };
     let alloc = rt.alloc();
-    let timers = match timers_in(alloc, matches, options.policy.limits) {
+    let timers = match timers_in(alloc, matches) {
         Ok(timers) => timers,
         Err(bad) => return tell_bad_timer(err, &bad),
     };
@@ -208,7 +208,7 @@ fn tell_bad_timer<E: Write>(err: &mut E, bad: &BadTimer) -> anyhow::Result<Statu
     writeln!(err, "{bad}")?;
     Ok(match bad {
         BadTimer::Memory(_) => Status::Failed,
-        BadTimer::Form | BadTimer::TooMany(_) => Status::Bad,
+        BadTimer::Form => Status::Bad,
     })
 }
 

@@ -387,13 +387,7 @@ fn a_further_block_never_has_the_id_of_the_deregistration(rt: HostRuntime) -> Re
     assert!(rt; matches!(&completion, Completion::Whole(_, _)) && ids == 10);
     for (place, id) in [6, 9].iter().copied().enumerate() {
         let head = [0x42, 1, 0, id, 0, id];
-        check_sent(
-            &rt,
-            &server,
-            place,
-            &head,
-            b"\xb1\x72\x01\x31\xc1\x16",
-        );
+        check_sent(&rt, &server, place, &head, b"\xb1\x72\x01\x31\xc1\x16");
     }
     Ok(())
 }

@@ -1,66 +1,54 @@
-//! Timers: when they make requests, and where responses to timers go.
+//! Timers: when their programs run, how long a server waits for them, and their texts.
 ghost use Rattle.std.specs.Prelude.{◌≤◌, IfSome, length};
 
+use crate::failing_tests::{POST, PUT};
+use crate::socket_tests::{put_datagram, unrecorded};
+use crate::wait_tests::{PUT_EXPENSIVE, REGISTER};
 use coap_msg::{Emission, Endpoint};
-use fc_host::socket::{BUFFER, Buffer, Sink, Source};
+use fc_core::DEFAULT_POLICY;
+use fc_host::sensors::NoSensors;
+use fc_host::socket::{Buffer, Sink, Source};
 use fc_host::timer::{Period, Timer};
-use fc_host::timers::{PastTimers, TIMERS, Timed, Timers};
 use fc_registry::SlotNumber;
 use fc_service::command::command;
 use fc_service::every::{BadTimer, timers_in};
-use fc_service::options::serve_options;
-use fc_workers::{CallLog, TimeSource};
-use std::alloc::{AllocError, Global};
+use fc_service::serve::{Extent, serve_timed};
+use fc_workers::CallLog;
+use log::sink::Memory;
+use log::{LevelFilter, Logged};
+use std::alloc::Global;
+use std::process::Abort;
 use std::sync::Wait;
 use std::sync::atomic::{AtomicUsize, Ordering};
 use std::test::Fail;
+use std::thread;
+use std::thread::Threads;
+use std::time::{Clock, Duration, Instant};
 
-// The time in milliseconds that each reading of the clock returns.
-static READINGS: [u64; 9] = [0, 1000, 1000, 1100, 4200, 4200, 4201, 4202, 5000];
-
-// A source of the times in `READINGS`.
+// A source of a program for slot 1, a registration of its observer, and after a second a POST. It
+// sleeps for each other wait, and counts the waits that are longer than the timer's period.
 #[derive(Drop)]
-struct Readings {
-    count: AtomicUsize,
-}
-
-impl TimeSource for Readings {
-    fn now<R: Wait>(&self, rt: &R, log: &mut CallLog) -> u64 {
-        let _ = rt;
-        let _ = log;
-        let place = self.count.fetch_add(1, Ordering::SeqCst);
-        READINGS.get(place).copied().unwrap_or(u64::MAX)
-    }
-
-    fn random<R: Wait>(&self, rt: &R) -> u16 {
-        let _ = rt;
-        0
-    }
-}
-
-// The endpoint of a client.
-const PEER: Endpoint = Endpoint {
-    ip: [127, 0, 0, 1],
-    port: 40_000,
-};
-
-// For each receive of the source, the expected wait in milliseconds. Then the sender of the byte
-// that the source returns, or `None` if it returns no datagram.
-static WAITS: [(Option<u64>, Option<Endpoint>); 4] = [
-    (Some(1000), None),
-    (Some(100), None),
-    (Some(799), Some(TIMERS)),
-    (Some(100), Some(PEER)),
-];
-
-// A source that follows `WAITS`, and counts the receives whose wait was the expected one.
-#[derive(Drop)]
-struct Listed {
+struct Sleeping<'a, C: Clock> {
+    clock: &'a C,
+    start: Instant,
+    program: &'a [u8],
     calls: usize,
-    right: usize,
+    long: usize,
 }
 
-impl Source for Listed {
+impl<'a, C: Clock> Sleeping<'a, C> {
+    fn is_over(&self) -> bool {
+        match self.start.elapsed(self.clock) {
+            Ok(elapsed) => elapsed.as_millis() >= 1000,
+            Err(_) => true,
+        }
+    }
+}
+
+// The period of the timer, in milliseconds.
+const PERIOD: u64 = 50;
+
+impl<'a, C: Clock> Source for Sleeping<'a, C> {
     fn receive(
         &mut self,
         wait: Option<u64>,
@@ -68,63 +56,21 @@ impl Source for Listed {
         log: &mut CallLog,
     ) -> Option<(usize, Endpoint)> {
         let _ = log;
-        let (expected, from) = WAITS.get(self.calls)?;
         self.calls = self.calls.saturating_add(1);
-        if wait == *expected {
-            self.right = self.right.saturating_add(1);
+        let wait = wait.unwrap_or(u64::MAX);
+        if self.calls > 1 && wait > PERIOD {
+            self.long = self.long.saturating_add(1);
         }
-        buffer[0] = 0x40;
-        Some((1, (*from)?))
-    }
-}
-
-// For each receive of the server, the wait in milliseconds, and the expected result. One timer
-// requests a POST of /r/7 every 1,000 ms, and another one a POST of /r/63 every 2,500 ms. At 4,200
-// ms, three times of the first timer and one of the second have passed since 1,100 ms, and each
-// timer makes one request.
-static RECEIVES: [(Option<u64>, Option<(&[u8], Endpoint)>); 7] = [
-    (None, Some((b"\x50\x02\x00\x00\xb1r\x017", TIMERS))),
-    (Some(100), None),
-    (None, Some((b"\x50\x02\x00\x01\xb1r\x017", TIMERS))),
-    (None, Some((b"\x50\x02\x00\x02\xb1r\x0263", TIMERS))),
-    (None, None),
-    (Some(100), Some((b"\x40", PEER))),
-    (None, Some((b"\x50\x02\x00\x03\xb1r\x017", TIMERS))),
-];
-
-// Returns a timer of 1,000 ms for slot 7, and one of 2,500 ms for slot 63.
-fn two_timers(alloc: Global) -> Result<Timers, AllocError> {
-    let mut timers = Vec::new(alloc);
-    for (milliseconds, slot) in [(1000, 7), (2500, 63)] {
-        if let Some(every) = Period::new(milliseconds) {
-            timers.push(Timer::new(every, SlotNumber::new(slot)))?;
+        match self.calls {
+            1 => put_datagram(self.program, buffer),
+            2 => put_datagram(REGISTER, buffer),
+            _ if self.is_over() => put_datagram(POST, buffer),
+            _ => {
+                thread::sleep(self.clock, Duration::from_millis(wait.min(PERIOD)));
+                None
+            }
         }
     }
-    Ok(Timers::new(timers))
-}
-
-// A receive returns the request of a timer whose time has come. Other receives wait at most until
-// the next time of a timer.
-#[test]
-fn timers_ask_at_their_beats(rt: HostRuntime) -> Result<(), Fail> {
-    let readings = Readings {
-        count: AtomicUsize::new(0),
-    };
-    let mut timed = Timed {
-        source: Listed { calls: 0, right: 0 },
-        timers: two_timers(rt.alloc())?,
-        times: &readings,
-        rt: &rt,
-    };
-    let mut log = CallLog::new();
-    let mut buffer = [0; BUFFER];
-    for (wait, expected) in RECEIVES {
-        let given = timed.receive(wait, &mut buffer, &mut log);
-        let given = given.map(|(count, from)| (&buffer[..count], from));
-        assert!(rt; given == expected);
-    }
-    assert_eq!(rt; timed.source.right, WAITS.len());
-    Ok(())
 }
 
 // A sink that counts its datagrams, and fails to send each of them.
@@ -138,25 +84,81 @@ impl Sink for Counting {
         let _ = emission;
         let _ = log;
         self.sent.fetch_add(1, Ordering::SeqCst);
-        false
+        true
     }
 }
 
-// A response to a timer counts as sent, and isn't sent to any endpoint.
-#[test]
-fn responses_to_timers_stay_here(rt: HostRuntime) {
+// Serves that source with this many workers, and a timer of slot 1. Returns the number of datagrams
+// that were sent, and asserts that no wait was longer than the period.
+fn serve_beats<R: Abort + AllocGlobal + Threads + Wait + Clock + Sync>(
+    rt: &R,
+    workers: u8,
+    program: &[u8],
+) -> Result<usize, Fail> {
+    let alloc = rt.alloc();
+    let memory = Memory::new(alloc);
+    let log = Logged::new(rt, LevelFilter::Off, &memory);
+    let mut err = Vec::new(alloc);
+    let sleeping = Sleeping {
+        clock: rt,
+        start: Instant::now(rt)?,
+        program,
+        calls: 0,
+        long: 0,
+    };
     let counting = Counting {
         sent: AtomicUsize::new(0),
     };
-    let sink = PastTimers { sink: &counting };
-    let mut log = CallLog::new();
-    let mut emission = fc_core::front::blank_emission();
-    emission.to = TIMERS;
-    assert!(rt; sink.send(&emission, &mut log));
-    assert_eq!(rt; counting.sent.load(Ordering::SeqCst), 0);
-    emission.to = PEER;
-    assert!(rt; !sink.send(&emission, &mut log));
-    assert_eq!(rt; counting.sent.load(Ordering::SeqCst), 1);
+    let mut timers = Vec::new(alloc);
+    if let Some(every) = Period::new(PERIOD) {
+        timers.push(Timer::new(every, SlotNumber::new(1)))?;
+    }
+    let extent = Extent {
+        workers,
+        limit: 3,
+        started: 0,
+        first_id: 0,
+        policy: DEFAULT_POLICY,
+    };
+    let served = serve_timed(
+        rt,
+        alloc,
+        &unrecorded(&log),
+        &mut err,
+        &NoSensors,
+        sleeping,
+        &counting,
+        timers,
+        extent,
+    );
+    assert!(rt;
+        served.is_some_and(|sleeping| sleeping.long == 0),
+        "{workers}"
+    );
+    Ok(counting.sent.load(Ordering::SeqCst))
+}
+
+// A program that runs each 50 ms for a second notifies its observer of each run. The other three
+// datagrams are responses. Some beats may be skipped, since other programs run on the machine.
+#[test]
+fn a_timer_runs_its_program_at_its_beats(rt: HostRuntime) -> Result<(), Fail> {
+    for workers in 1..3 {
+        let sent = serve_beats(&rt, workers, PUT)?;
+        assert!(rt; sent >= 8, "{workers}: {sent}");
+        assert!(rt; sent <= 24, "{workers}: {sent}");
+    }
+    Ok(())
+}
+
+// The three datagrams that are sent are responses: those of an empty slot, and those of an expensive
+// program, which notifies nobody. The second request of an empty slot is a duplicate.
+#[test]
+fn a_timer_sends_nothing(rt: HostRuntime) -> Result<(), Fail> {
+    for workers in 1..3 {
+        assert_eq!(rt; serve_beats(&rt, workers, REGISTER)?, 3);
+        assert_eq!(rt; serve_beats(&rt, workers, PUT_EXPENSIVE)?, 3);
+    }
+    Ok(())
 }
 
 // Returns the timers of `fcd serve` with these further words, or why the timers are refused.
@@ -165,13 +167,9 @@ fn timers_of(alloc: Global, more: &[&str]) -> Result<Result<Vec<Timer>, BadTimer
     words.extend_from_slice(&["fcd", "serve", "--port", "5683"])?;
     words.extend_from_slice(more)?;
     let matches = command(alloc)?.try_get_matches_from(&words)?;
-    let Some(matches) = matches.subcommand_matches("serve") else {
-        return Ok(Err(BadTimer::Form));
-    };
-    let limits = serve_options(matches).map(|options| options.policy.limits);
-    match limits {
-        Ok(limits) => Ok(timers_in(alloc, matches, limits)),
-        Err(_) => Ok(Err(BadTimer::Form)),
+    match matches.subcommand_matches("serve") {
+        Some(matches) => Ok(timers_in(alloc, matches)),
+        None => Ok(Err(BadTimer::Form)),
     }
 }
 
@@ -204,23 +202,5 @@ fn every_takes_a_period_and_a_slot(rt: HostRuntime) -> Result<(), Fail> {
             "{text}"
         );
     }
-    Ok(())
-}
-
-// A request of a timer occupies an exchange for 247 s: a timer of 483 ms occupies 512. All timers
-// may occupy half of the exchanges, and not more than a share.
-#[test]
-fn timers_hold_half_of_the_exchanges(rt: HostRuntime) -> Result<(), Fail> {
-    let alloc = rt.alloc();
-    assert!(rt; timers_of(alloc, &["--every", "483:1"])?.is_ok());
-    let many = timers_of(alloc, &["--every", "482:1"])?;
-    assert!(rt; matches!(many, Err(BadTimer::TooMany(512))));
-    let both = timers_of(alloc, &["--every", "966:1", "--every", "966:2"])?;
-    assert!(rt; both.is_ok());
-    let share = timers_of(alloc, &["--share", "100", "--every", "2470:1"])?;
-    assert!(rt; matches!(share, Err(BadTimer::TooMany(100))));
-    assert!(rt; timers_of(alloc, &["--share", "100", "--every", "2495:1"])?.is_ok());
-    let fast = timers_of(alloc, &["--exchanges", "65536", "--every", "10:1"])?;
-    assert!(rt; fast.is_ok());
     Ok(())
 }

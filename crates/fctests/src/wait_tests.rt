@@ -22,7 +22,7 @@ use std::thread::Threads;
 use std::time::{Clock, Duration};
 
 // The registration of an observer of slot 1.
-const REGISTER: &[u8] = b"\x40\x01\x00\x03\x60\x51\x72\x01\x31";
+pub(crate) const REGISTER: &[u8] = b"\x40\x01\x00\x03\x60\x51\x72\x01\x31";
 
 // The deregistration of an observer of slot 1.
 const DEREGISTER: &[u8] = b"\x40\x01\x00\x04\x61\x01\x51\x72\x01\x31";
@@ -114,7 +114,7 @@ fn a_server_that_has_nothing_to_do_waits_without_end(rt: HostRuntime) {
 
 // A PUT to slot 1 of an image with a budget of 8,207 steps. The program has a loop of four
 // iterations, and in it one of 1,024 iterations of two steps.
-static PUT_EXPENSIVE: &[u8] =
+pub(crate) static PUT_EXPENSIVE: &[u8] =
     b"\x40\x03\x00\x01\xb1\x70\x01\x31\xff\x46\x43\x42\x32\x00\x00\x08\x00\x0f\x20\x00\x00\x00\x00\x00\x00\xb7\x06\x00\x00\x00\x00\x00\x00\xb7\x07\x00\x00\x00\x00\x00\x00\x07\x07\x00\x00\x01\x00\x00\x00\xa5\x07\xfe\xff\x00\x04\x00\x00\x07\x06\x00\x00\x01\x00\x00\x00\xa5\x06\xfb\xff\x04\x00\x00\x00\xb7\x00\x00\x00\x00\x00\x00\x00\x95\x00\x00\x00\x00\x00\x00\x00";
 
 // A source that returns a PUT of an expensive program after 500 ms, so that a worker can ask for a

@@ -15,7 +15,7 @@ run-requires c =
 
 pub returns-clause-works : goal.returns-clause-works
 returns-clause-works c = λ h rest v.
-    let out = emission_if c.run.result c.run.new.reply in
+    let out = emission_if c.run.result.is_sent c.run.new.reply in
     let w = c.run.ensures.works 0 _ rest (peeked_on rest v c.number-slot.result (c.peek.ensures (length rest))) in
     record {
       memory = w.memory;

@@ -20,7 +20,7 @@ returns-in-ToMatch-clause-works c = λ h rest v.
 
 pub returns-in-ToTake-clause-works : goal.returns-in-ToTake-clause-works
 returns-in-ToTake-clause-works c = λ h rest v.
-    let out = emission_if c.run.result c.run.new.reply in
+    let out = emission_if c.run.result.is_sent c.run.new.reply in
     let room = c.stage.inside in
     let stage_is : ToTake c.in-ToTake.field-0 ≡ c.args.task.now.stage =
     ap (λ (step : Step). stage_of step room.found room.seen room.answer) (sym c.in-ToTake.is) ∙ c.stage.view_is in

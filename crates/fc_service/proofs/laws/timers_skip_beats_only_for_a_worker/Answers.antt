@@ -1,0 +1,15 @@
+use Rattle.std.proofs.Common.{◌≡◌, ◌⊎◌, ℕ, ⊎_elim, subst}
+use Rattle.std.specs.Prelude.{MatchBool, nat_lt}
+use Rattle.fc_service.specs.Firing.{FiresOnce, SkipsBeat}
+use Rattle.fc_service.proofs.laws.timers_skip_beats_only_for_a_worker.Goals as goal
+
+pub returns-clause-free : goal.returns-clause-free
+returns-clause-free g c = λ t u before after due free fires.
+    ⊎_elim
+    (λ (w : FiresOnce g.N.Ingress.calls 5300 t u before after). (w.outcome, w.fires, w.next))
+    (λ (w : SkipsBeat g.N.Ingress.calls 5300 t u before after). absurd (cc (w.offloaded, free)))
+    (subst (λ (n : ℕ). MatchBool (nat_lt 5300 n) ((u ≡ t) × (after ≡ before)) (FiresOnce g.N.Ingress.calls 5300 t u before after ⊎ SkipsBeat g.N.Ingress.calls 5300 t u before after)) due fires)
+
+pub returns-clause-early : goal.returns-clause-early
+returns-clause-early g c = λ t u before after due fires.
+    subst (λ (n : ℕ). MatchBool (nat_lt 4999 n) ((u ≡ t) × (after ≡ before)) (FiresOnce g.N.Ingress.calls 4999 t u before after ⊎ SkipsBeat g.N.Ingress.calls 4999 t u before after)) due fires
