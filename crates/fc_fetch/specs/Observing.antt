@@ -60,9 +60,9 @@ abbrev pub IsState : NotificationClass → Type 0
 IsState (notice.State sequence) = Unit {0}
 IsState other = ⊥
 
--- the way in which the observation ends. Either as many lines were printed as are wanted, the last of
--- them for the latest state; or the time is over before that; or the latest has this code, it was
--- printed, and none follows it.
+-- the way in which the observation ends. Either as many lines were printed as are wanted, the last
+-- of them for the latest state; or the time is over before that; or the latest has this code, it
+-- was printed, and none follows it.
 abbrev pub IsEnd : ℕ → ObservationEnd → RenderedNote → List RenderedNote → Type 0
 IsEnd limit Counted latest older = (lines_in (latest ∷ older) ≡ limit) × (IsState (notice_of latest.note.message) × (has_line latest.rendering ≡ true))
 IsEnd limit Over latest older = (lines_in (latest ∷ older) < limit) × IsState (notice_of latest.note.message)
@@ -85,8 +85,8 @@ abbrev pub IsAwaitedIn : Bool → List PeerCall → Type 0
 IsAwaitedIn true calls = schedule calls ≡ []
 IsAwaitedIn false calls = All is_day (schedule calls)
 
--- the length of a wait that begins again at this time, in seconds: what is left of the seconds since
--- the start, rounded up. Times are in milliseconds.
+-- the length of a wait that begins again at this time, in seconds: what is left of the seconds
+-- since the start, rounded up. Times are in milliseconds.
 abbrev pub rest_wait : Option ℕ → ℕ → ℕ → ℕ
 rest_wait None start now = 86400
 rest_wait (Some seconds) start now = ((seconds * 1000 - (now - start)) + 999) / 1000
@@ -180,8 +180,8 @@ IsLeaving o other calls = IsDeregistration o calls
 abbrev pub ObservesToEnd : Observer → Option ℕ → ObservationEnd → List RenderedNote → List PeerCall → Type 0
 ObservesToEnd o seconds end rs calls = AreBehind (IsTimedObservation o seconds end rs) (IsLeaving o end) calls
 
--- the registration was sent, and these notes came, newest first. Each is newer than the one before it,
--- and is rendered once.
+-- the registration was sent, and these notes came, newest first. Each is newer than the one before
+-- it, and is rendered once.
 pub record HasRendered (went came : List ℕ → Type 0) (told : ℕ → Type 0) (o : Observer) (shown : Shown) (before after : Written) (rs : List RenderedNote) : Type 0 where
   pub asked : went (message_bytes (observe_request o.client_request.now Register o.token o.id))
   pub are : AreNotes went came told o.token o.id (notes_of rs)
@@ -357,8 +357,8 @@ IsStoppedWaiting went came told is_error Makes o SoFar (fault.Memory error) = Is
 IsStoppedWaiting went came told is_error Makes o SoFar (fault.Socket error) = is_error error
 IsStoppedWaiting went came told is_error Makes o SoFar other = ⊥
 
--- the requests for the further blocks of the latest note failed, or memory for its first block can't
--- be allocated. They were begun in some state of the peer, after the notes before.
+-- the requests for the further blocks of the latest note failed, or memory for its first block
+-- can't be allocated. They were begun in some state of the peer, after the notes before.
 pub record IsStoppedJoining {S : Type 0} (went came : List ℕ → Type 0) (told : ℕ → Type 0) (is_error : PeerError → Type 0) (called : S → List PeerCall → Type 0) (before : S) (o : Observer)
     (SoFar : List RenderedNote → List PeerCall → Type 0) (f : FetchFault) : Type 0 where
   pub at : S

@@ -24,13 +24,13 @@ use coap_block::laws::{
 
 /// Blocks are joined to a body (RFC 7959, section 2.5).
 ///
-/// A new request with a block is served exactly if the block is the last one and fits. Whether
-/// a block fits depends on the earlier blocks of its endpoint for its slot. Block 0 starts a new
+/// A new request with a block is served exactly if the block is the last one and fits. Whether a
+/// block fits depends on the earlier blocks of its endpoint for its slot. Block 0 starts a new
 /// body; each other block begins at the end of the earlier ones. The body consists of the payloads
-/// of the blocks since block number 0, joined, and of the request's own payload. The request is answered
-/// 2.31 (Continue) with its Block1 exactly if its block fits and more blocks follow. A body has at
-/// most 8,208 bytes, and at most 16 transfers are stored. The times of added payloads never
-/// decrease.
+/// of the blocks since block number 0, joined, and of the request's own payload. The request is
+/// answered 2.31 (Continue) with its Block1 exactly if its block fits and more blocks follow. A
+/// body has at most 8,208 bytes, and at most 16 transfers are stored. The times of added payloads
+/// never decrease.
 pub fn blocks_are_joined()
     ensures whole { (h : History) (now : ℕ) (to : Endpoint) (m : Message) (r : Asked) (b : Place)
         (body : List ℕ) → r.block1 ≡ Some b →

@@ -15,7 +15,7 @@ use std::fmt;
 /// Each count stops at 2^64 - 1. A report is written as a line of words.
 #[derive(Clone, Copy, Debug, PartialEq, Eq)]
 pub struct Report {
-    /// The datagrams received, the requests of timers included.
+    /// The datagrams received.
     pub received: u64,
     /// The immediate responses with 4.03 (Forbidden).
     pub forbidden: u64,

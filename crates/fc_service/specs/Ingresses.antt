@@ -21,8 +21,8 @@ pub record IsHandledBy {S : Type 0} (Handles : ℕ → Endpoint → Bor (List �
   pub handles : Handles now incoming.from borrow old new handled reply
   pub sent_is : sent ≡ emission_if (is_reply handled) reply
 
--- an ingress that waits for workers handled a datagram as the inner ingress did: with the same result
--- and the same written emission, unless the inner result was a job.
+-- an ingress that waits for workers handled a datagram as the inner ingress did: with the same
+-- result and the same written emission, unless the inner result was a job.
 abbrev pub IsWaitedFor : {S : Type 0} → (ℕ → Endpoint → Bor (List ℕ) → S → S → Handled → Emission → Type 0) → ℕ → Endpoint → Bor (List ℕ) → S → S → Handled → Emission → Type 0
 IsWaitedFor Handles now from bytes old new handled reply =
     (told : Handled) × (written : Emission) × Handles now from bytes old new told written × ((told ≡ Job) ⊎ ((handled ≡ told) × (reply ≡ written)))

@@ -75,8 +75,8 @@ abbrev pub EndsInTime : (ℕ → ℕ → Type 0) → ℕ → Bool → Option ℕ
 EndsInTime StaysIdle now false wait = wait ≡ Some 100
 EndsInTime StaysIdle now true wait = (time : ℕ) × AreIdleUntil StaysIdle time × (wait ≡ wait_until now time)
 
--- a wait that begins at a time, shortened to end when a timer is due, and to at least 1 ms. If there
--- is no timer, the wait isn't shortened.
+-- a wait that begins at a time, shortened to end when a timer is due, and to at least 1 ms. If
+-- there is no timer, the wait isn't shortened.
 abbrev pub at_most : ℕ → Option ℕ → Option ℕ
 at_most ms None = Some ms
 at_most ms (Some wait) = Some (min wait ms)
@@ -232,8 +232,8 @@ served_view sensors e Recorded begin = locked_view begin (AreReadAt e.time senso
 -- this number of datagrams was received, each in a round of one dispatcher, which began new. Runs
 -- of 6,000 instructions and more may be sent to the workers, or no job if no worker was started.
 -- The replies are those of the rounds, of the jobs of this number of workers, and of the
--- dispatcher's jobs. The calls that the workers and the dispatcher filed have one order. The front's,
--- and each shard's, led from the first one of the server to a closed server's.
+-- dispatcher's jobs. The calls that the workers and the dispatcher filed have one order. The
+-- front's, and each shard's, led from the first one of the server to a closed server's.
 pub record HasServedPooled (s : WorkerView Tallies) (timers : List Timer) (every : Option ℕ) (Reported : Report → CallLog → CallLog → Type 0) (e : RoundCalls) (workers limit : ℕ) (begin : Begin) (before after : Option (List Receive)) (replies : Replies) : Type 0 where
   pub channel : Channel
   pub first : PooledIngress Tallies

@@ -47,12 +47,12 @@
 //!   ms. It is unlimited if they returned none. Each wait but the first also ends when the server's
 //!   first timer is due, and then lasts at least 1 ms (`run_rounds`, by `WaitsAfter`). A test shows
 //!   that no job of a server with workers is running when the server calls the shards.
-//! - **Timers**: in each round the timers that are due fire first, in their order, and no other. Each
-//!   fires by one call of the server, for its own slot, at the round's time, and is next due at its
-//!   first beat after that. A timer skips a beat only if its last job was sent to a worker
-//!   (`serve_timed`, by `HasRunTimed`, whose calls are `fired_calls`). The contract doesn't say that
-//!   this job is running then, nor how such a run left the server. Tests show that the timer goes on
-//!   once its job has ended. Without timers the server is called directly.
+//! - **Timers**: in each round the timers that are due fire first, in their order, and no other.
+//!   Each fires by one call of the server, for its own slot, at the round's time, and is next due
+//!   at its first beat after that. A timer skips a beat only if its last job was sent to a worker
+//!   (`serve_timed`, by `HasRunTimed`, whose calls are `fired_calls`). The contract doesn't say
+//!   that this job is running then, nor how such a run left the server. Tests show that the timer
+//!   goes on once its job has ended. Without timers the server is called directly.
 //! - **The options of `fcd serve`** are the values that the command line gives (`serve_options`, by
 //!   `AreServeOptions`). Their defaults are tested.
 //! - **A server that returns its source has run that loop**, with one worker or more. A limit was
@@ -70,9 +70,9 @@
 //! - **One history**: all rounds of a server on one thread, or all lines that it plays, are one
 //!   history of events. Exactly the datagrams that came are delivered, in order. Exactly the
 //!   emissions of the history's events were passed to the sink, or are printed, in that order. Each
-//!   datagram is delivered at the time of its round or line. If none came, time passes at this time.
-//!   With timers, and without reports, the history also has exactly the events of the timers that
-//!   were due, before their round's datagram (`laws`).
+//!   datagram is delivered at the time of its round or line. If none came, time passes at this
+//!   time. With timers, and without reports, the history also has exactly the events of the timers
+//!   that were due, before their round's datagram (`laws`).
 //! - **With more workers** a dispatcher handles each datagram, in order, and each lease that some
 //!   shard gave. Nothing else in a round changes the dispatched jobs (`serve_at`, by
 //!   `HasServedPooled`; `run_pool` passes on its driver's effects, by `IsFedBeside`). The
@@ -84,15 +84,16 @@
 //!   a dispatcher over any backend, `fc_workers` shows that it calls its own backend. A worker's
 //!   emission is passed to the sink once, by the worker's own log (`Wire::called`). The contract
 //!   doesn't say in which order several threads pass theirs.
-//! - **One front**: the calls of the front that the workers and the dispatcher filed have one order,
-//!   with each thread's calls in its own order. They lead from the server's first front to its last
+//! - **One order**: the calls of the front and of the eight shards that the workers and the
+//!   dispatcher filed have one order, with each thread's calls in its own order. The front's lead
+//!   from the server's first front to its last, and each shard's from its first shard to its last
 //!   (`run_pool`, by `HaveOneOrder`). `serve_at` says so of its dispatcher and of *some* shares of
-//!   its workers, to *some* last front; with reports it says nothing of its dispatcher's calls.
-//!   `play_by_workers` doesn't name its dispatcher's calls.
+//!   its workers, to *some* closed server; with reports or timers it says nothing of its
+//!   dispatcher's calls. `play_by_workers` doesn't name its dispatcher's calls.
 //! - **A pool** returns at its end the front and eight shards. For each shard it also returns the
 //!   serial that its slots began with, and the number of their changes. The serials of each shard
-//!   have risen by exactly these numbers, which are reported up to 2^64 - 1. The contract doesn't
-//!   say that its workers used these shards. Its driver's dispatcher sends jobs by the pool's
+//!   have risen by exactly these numbers, which are reported up to 2^64 - 1. The filed
+//!   calls of its workers led to these shards. Its driver's dispatcher sends jobs by the pool's
 //!   dispatch policy. If the pool reports that no worker was started, the dispatcher sends no job
 //!   to a worker (`offload_where`). A test shows that it reports this only if no thread could be
 //!   created.
@@ -102,25 +103,24 @@
 //!   writes the record.
 //! - **The first serial** of a server rises with the time of its start: by 32 for each millisecond,
 //!   and by 2^24 for each second. So the numbers of Observe keep their order if a server is started
-//!   again (`serials::serial_of_start`, `laws`). Tests show that a server with workers begins at
-//!   this serial, and that the time is the system clock's.
+//!   again (`serials::serial_of_start`, `laws`). A test shows that the time is the system clock's.
 //! - **Reports**: with a period, a report is made at the first round at or after the report's due
 //!   time, before the round's datagram is handled. It is made once, of the counts up to then and
 //!   the gauges of the round's time, and the next is due one period later. The counts are those of
 //!   the calls' results, in both kinds of servers. On one thread the gauges are the server's. With
 //!   workers they are those of some state of its front and of each shard, and the number of jobs
-//!   that were sent is the dispatcher's. Each wait ends when a report is due, or up to 100 ms later (`serve_at`, by
-//!   `HasRunReported`, whose calls are `reported_calls`). The contract doesn't say how such a run
-//!   left the server, and no law says that its rounds are one history. Without a period, the server
-//!   is called directly, and nothing is counted.
+//!   that were sent is the dispatcher's. Each wait ends when a report is due, or up to 100 ms later
+//!   (`serve_at`, by `HasRunReported`, whose calls are `reported_calls`). The contract doesn't say
+//!   how such a run left the server, and no law says that its rounds are one history. Without a
+//!   period, the server is called directly, and nothing is counted.
 //! - **Replies** of a server on a socket are counted and added exactly, up to 2^64 - 1, and written
 //!   as `sent S failed F`. They are those of the rounds, of each worker's jobs and of the
 //!   dispatcher's own. A test shows that this is logged.
 //!
 //! By the contracts of `play::play`, `workers::play_by_workers`, `options::serve_options`,
 //! `lines::play_lines`, `rounds::run_rounds`, `serve::serve`, `serve::serve_at`,
-//! `serve::serve_timed`, `serve::serve_alone`, `serials::serial_of_start`, `pool::run_pool`, `reports::run_reported`,
-//! `Reporting`, `Firing`, `Replies`, `laws`.
+//! `serve::serve_timed`, `serve::serve_alone`, `serials::serial_of_start`, `pool::run_pool`,
+//! `reports::run_reported`, `Reporting`, `Firing`, `Replies`, `laws`.
 #![tactic(auto)]
 
 mod alone;

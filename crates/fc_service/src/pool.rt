@@ -276,7 +276,7 @@ pub fn run_pool<
     run_named::<Brand, R, W, M, D, C, E, X, F>(rt, alloc, err, pool, driver, blanks, book)
 }
 
-// Runs a pool, with ledgers of the names `B`, and `book` for its front's calls. The errors are
+// Runs a pool, with ledgers of the names `B`, and `book` for its calls. The errors are
 // those of `run_pool`.
 fn run_named<
     B: Books + Send + Sync,

@@ -51,7 +51,7 @@ pub trait Bench {
     /// The counts of one worker's changes, and of the jobs that it ended.
     type Tallies: Drop;
 
-    /// The name of the book in which the front's calls are filed.
+    /// The name of the book in which the calls of the front and of the shards are filed.
     type Book: ServerName;
 
     // The number of changes of a shard, by its index, from 0 to 7.

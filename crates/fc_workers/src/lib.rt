@@ -107,23 +107,23 @@
 //!   change of a slot is counted on the worker's tally. Once the server is closed, the serials of
 //!   each shard have risen by exactly what was counted.
 //! - Each call of the front, and each call that may change a shard, is filed in the server's book,
-//!   once, by its caller, with its arguments and its result. It is then the last entry on the tracks
-//!   of its part and of the caller. The part's entries lead from the server's first front, or first
-//!   shard of the index, to the one under the lock. No other call is filed. So two calls of a part
-//!   are of one part, the server's own, in one order.
+//!   once, by its caller, with its arguments and its result. It is then the last entry on the
+//!   tracks of its part and of the caller. The part's entries lead from the server's first front,
+//!   or first shard of the index, to the one under the lock. No other call is filed. So two calls
+//!   of a part are of one part, the server's own, in one order.
 //! - **One order**: at the end of a server there is one list of all filed calls. Each thread has
 //!   filed exactly the calls in the list with its key, in that order, and no call is of another
 //!   thread. The calls of the front lead from the server's first front to its last, and those of
 //!   each of the eight shards from the server's first shard to its last (`HaveOneOrder`). So two
 //!   threads that draw a message ID each draw two, and two that install a program each in one slot
 //!   get two serials (`laws`).
-//! - The gauges that a server returns are those of a front that began so, at the given time, and the
-//!   numbers of observers are those of a shard with the given index. Neither read changes anything
-//!   or is filed. A dispatcher returns how many jobs it sent.
+//! - The gauges that a server returns are those of a front that began so, at the given time, and
+//!   the numbers of observers are those of a shard with the given index. Neither read changes
+//!   anything or is filed. A dispatcher returns how many jobs it sent.
 //! - The readings that a server returns are those of some call of its device
 //!   (`Device::are_readings`).
-//! - A head word that a worker reads is no less than the worker has seen of that slot. After a raise
-//!   the worker has seen no less than the given word. Neither takes a lock.
+//! - A head word that a worker reads is no less than the worker has seen of that slot. After a
+//!   raise the worker has seen no less than the given word. Neither takes a lock.
 //! - Not claimed: that a call holds one lock; which readings a server returns; that the entries of
 //!   one job have a track of their own; that the reads and raises of head words are in the order;
 //!   and that a call returns.
@@ -145,8 +145,8 @@ pub mod device;
 pub mod dispatcher;
 pub mod laws;
 mod locked_shard;
+mod new_server;
 pub mod notify;
-mod opening;
 pub mod pool;
 pub mod scratch;
 pub mod server;

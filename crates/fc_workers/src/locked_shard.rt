@@ -13,7 +13,7 @@ ghost use Rattle.fc_workers.specs.Logs.{with_filed_if};
 
 use crate::books::{BookOf, Books, ServerOf};
 use crate::counted_shard::Counted;
-use crate::opening::Opening;
+use crate::new_server::NewServer;
 use crate::tally::Tally;
 use crate::track_log::TrackLog;
 use fc_calls::{Change, ShardCall};
@@ -45,24 +45,24 @@ impl<const INDEX: u8, B: Books> LockedShard<INDEX, B> {
     pub(crate) fn new(
         shard: Shard,
         blank: Blank,
-        opening: &mut Opening<B>,
+        new_server: &mut NewServer<B>,
     ) -> (LockedShard<INDEX, B>, Tally<BookOf<B, INDEX>>)
         requires index { (shard.index ≡ INDEX) × (INDEX < 8) }
         requires slots { HasEightSlots shard }
-        requires serials { serials shard ≡ 8 * opening.old.first_serial }
+        requires serials { serials shard ≡ 8 * new_server.old.first_serial }
         requires confirms { confirm_times shard ≡ replicate 8 B.first.confirm_after }
         requires first { shard ≡ shard_at (first_server B.begin).shards INDEX }
         requires ledger { (blank.name ≡ B.names INDEX) × (blank.parts ≡ B.parts) × (0 < blank.parts) }
-        requires may_begin { opening.old.first.may_begin ≡ true }
-        requires next { opening.old.first.next ≡ INDEX + 1 }
+        requires may_begin { new_server.old.first.may_begin ≡ true }
+        requires next { new_server.old.first.next ≡ INDEX + 1 }
         ensures tally { result.1 ≡ record { parts = blank.parts; changes = 0 } }
-        ensures begun { opening.new ≡ record opening.old { first = with_next opening.old.first } }
+        ensures begun { new_server.new ≡ record new_server.old { first = with_next new_server.old.first } }
     {
-        let track = opening.first.begin_part(&opening.book);
+        let track = new_server.first.begin_part(&new_server.book);
         let (counted, tally) = Counted::open(shard, track, blank);
         let state = ShardState {
             counted,
-            first_serial: opening.first_serial,
+            first_serial: new_server.first_serial,
         };
         let locked = LockedShard {
             state: Mutex::new(state),

@@ -46,7 +46,7 @@ use crate::books::{BookOf, Books, ServerOf};
 use crate::closed::ClosedServer;
 use crate::device::Device;
 use crate::locked_shard::LockedShard;
-use crate::opening::Opening;
+use crate::new_server::NewServer;
 use crate::share::Share;
 use crate::tallies::Tallies;
 use crate::tally::Tally;
@@ -127,7 +127,7 @@ fn begin_front<B: Books>(
     first_id: u16,
     policy: &Policy,
     book: NewServerBook,
-) -> Result<(BegunFront<B>, Opening<B>), AllocError>
+) -> Result<(BegunFront<B>, NewServer<B>), AllocError>
     requires table { book.table ≡ B.table }
     requires threads { book.first_job ≡ B.first_job }
     requires first { B.first ≡ beginning policy.now first_id }
@@ -138,12 +138,12 @@ fn begin_front<B: Books>(
     let (book, mut first) = book.with_name::<ServerOf<B>>();
     let front = Front::new(alloc, policy, first_id)?;
     let front = BegunFront::new(front, first.begin_part(&book));
-    let opening = Opening {
+    let new_server = NewServer {
         book,
         first,
         first_serial,
     };
-    Ok((front, opening))
+    Ok((front, new_server))
 }
 
 // Returns the index of the shard that owns a slot.
@@ -178,8 +178,8 @@ impl<'a, B: Books, D: Device> Locked<'a, B, D> {
     ///
     /// It has this policy, and draws `first_id` first. Its programs get the readings of `device`.
     /// It opens the ledgers, and the unassigned shares are all their parts. The calls of its front
-    /// and of its shards are filed in `book`. Returns the server, the unassigned shares, and a log for each thread of
-    /// the book, in which nothing is filed yet.
+    /// and of its shards are filed in `book`. Returns the server, the unassigned shares, and a log
+    /// for each thread of the book, in which nothing is filed yet.
     ///
     /// # Errors
     /// Returns `AllocError` if memory for the server can't be allocated.
@@ -205,7 +205,13 @@ impl<'a, B: Books, D: Device> Locked<'a, B, D> {
     {
         let (heads, _seat) = Heads::new(alloc)?;
         let threads = book.threads();
-        let (front, mut opening) = begin_front::<B>(alloc, first_serial, first_id, policy, book)?;
+        let (front, mut new_server) = begin_front::<B>(
+            alloc,
+            first_serial,
+            first_id,
+            policy,
+            book,
+        )?;
         let mut shards = make_shards(alloc, first_serial, policy.confirm_after)?;
         let shard7 = last_of(&mut shards);
         let shard6 = last_of(&mut shards);
@@ -215,19 +221,19 @@ impl<'a, B: Books, D: Device> Locked<'a, B, D> {
         let shard2 = last_of(&mut shards);
         let shard1 = last_of(&mut shards);
         let shard0 = last_of(&mut shards);
-        let (shard0, tally0) = LockedShard::new(shard0, blanks.blank0, &mut opening);
-        let (shard1, tally1) = LockedShard::new(shard1, blanks.blank1, &mut opening);
-        let (shard2, tally2) = LockedShard::new(shard2, blanks.blank2, &mut opening);
-        let (shard3, tally3) = LockedShard::new(shard3, blanks.blank3, &mut opening);
-        let (shard4, tally4) = LockedShard::new(shard4, blanks.blank4, &mut opening);
-        let (shard5, tally5) = LockedShard::new(shard5, blanks.blank5, &mut opening);
-        let (shard6, tally6) = LockedShard::new(shard6, blanks.blank6, &mut opening);
-        let (shard7, tally7) = LockedShard::new(shard7, blanks.blank7, &mut opening);
-        let Opening {
+        let (shard0, tally0) = LockedShard::new(shard0, blanks.blank0, &mut new_server);
+        let (shard1, tally1) = LockedShard::new(shard1, blanks.blank1, &mut new_server);
+        let (shard2, tally2) = LockedShard::new(shard2, blanks.blank2, &mut new_server);
+        let (shard3, tally3) = LockedShard::new(shard3, blanks.blank3, &mut new_server);
+        let (shard4, tally4) = LockedShard::new(shard4, blanks.blank4, &mut new_server);
+        let (shard5, tally5) = LockedShard::new(shard5, blanks.blank5, &mut new_server);
+        let (shard6, tally6) = LockedShard::new(shard6, blanks.blank6, &mut new_server);
+        let (shard7, tally7) = LockedShard::new(shard7, blanks.blank7, &mut new_server);
+        let NewServer {
             book,
             mut first,
             ..
-        } = opening;
+        } = new_server;
         let logs = begin_logs(alloc, &book, &mut first, threads)?;
         let server = Locked {
             device,

@@ -1,7 +1,7 @@
-//! Reports of a server's counts, and the options for reports.
+//! Reports of a server's counts: which numbers each has, and the options that ask for them.
 //!
-//! A script replaces the socket. With a period of 0, each round reports the counts before the
-//! round's datagram.
+//! A script stands for the socket. With a period of 0 each round makes a report, of the counts
+//! before the round's datagram.
 use crate::socket_tests::put_datagram;
 use coap_dedup::Limits;
 use coap_msg::{Emission, Endpoint};
@@ -25,7 +25,7 @@ use std::test::Fail;
 use std::thread::Threads;
 use std::time::Clock;
 
-// A policy with at most two exchanges, in which no client at 127.0.0.1 is a manager.
+// No client at 127.0.0.1 is a manager, and there are two exchanges.
 const POLICY: Policy = Policy {
     managers: [Network {
         ip: [192, 0, 2, 0],
@@ -38,28 +38,61 @@ const POLICY: Policy = Policy {
     confirm_after: CONFIRM_AFTER,
 };
 
-// A DELETE of /p/0, which is refused with 4.03.
+// DELETE /p/0, which is refused with 4.03; GET /r/0, which is empty; GET /r/1, for which there is
+// no exchange; and an empty confirmable message, which is rejected by a Reset.
 const DELETE_1: [u8; 8] = [0x40, 0x04, 0x00, 0x01, 0xb1, b'p', 0x01, b'0'];
 
-// A GET of /r/0, whose slot is empty.
 const GET_2: [u8; 8] = [0x40, 0x01, 0x00, 0x02, 0xb1, b'r', 0x01, b'0'];
 
-// A GET of /r/1, for which there is no room for an exchange.
 const GET_3: [u8; 8] = [0x40, 0x01, 0x00, 0x03, 0xb1, b'r', 0x01, b'1'];
 
-// An empty confirmable message, which is rejected by a Reset message.
 const EMPTY_4: [u8; 4] = [0x40, 0x00, 0x00, 0x04];
 
-// The bytes of the datagrams of each call of a source, from the second on. An empty one is none.
-type Datagrams = &'static [&'static [u8]];
+// PUT /p/7 of the program `mov64 r0, 69` and `exit`; GET /r/7 with Observe 0; and PUT /p/9 of a
+// first block of 16 bytes.
+const PUT_7: [u8; 41] = [
+    0x40, 0x03, 0x00, 0x01, 0xb1, b'p', 0x01, b'7', 0xff, b'F', b'C', b'B', b'1', 0, 0, 2, 0, 2, 0,
+    0, 0, 0, 0, 0, 0, 0xb7, 0, 0, 0, 69, 0, 0, 0, 0x95, 0, 0, 0, 0, 0, 0, 0,
+];
 
-const REFUSED: Datagrams = &[&DELETE_1, &GET_2, &GET_3, &EMPTY_4, &[], &EMPTY_4];
+const OBSERVE_7: [u8; 9] = [0x40, 0x01, 0x00, 0x02, 0x60, 0x51, b'r', 0x01, b'7'];
 
-// A source that returns no datagram at its first call, and none after its last datagram.
+const BLOCK_9: [u8; 28] = [
+    0x40, 0x03, 0x00, 0x03, 0xb1, b'p', 0x01, b'9', 0xd1, 0x03, 0x08, 0xff, b'F', b'C', b'B', b'1',
+    0, 0, 2, 0, 2, 0, 0, 0, 0, 0, 0, 0,
+];
+
+// The datagrams that a server receives.
+#[derive(Clone, Copy, PartialEq, Eq)]
+enum Played {
+    // A client that is no manager, with two exchanges.
+    Refused,
+    // A client with a program, an observer, and an upload in blocks.
+    Held,
+}
+
+impl Played {
+    fn policy(self) -> Policy {
+        match self {
+            Played::Refused => POLICY,
+            Played::Held => DEFAULT_POLICY,
+        }
+    }
+
+    // Returns the number of datagrams.
+    fn limit(self) -> u32 {
+        match self {
+            Played::Refused => 5,
+            Played::Held => 4,
+        }
+    }
+}
+
+// A source that returns no datagram at its first call, and for `Refused` none at its sixth call.
 #[derive(Drop)]
 struct Script {
     calls: usize,
-    datagrams: Datagrams,
+    played: Played,
 }
 
 impl Source for Script {
@@ -71,16 +104,22 @@ impl Source for Script {
     ) -> Option<(usize, Endpoint)> {
         let _ = log;
         let _ = wait;
-        let calls = self.calls;
-        self.calls = calls.saturating_add(1);
-        match self.datagrams.get(calls.checked_sub(1)?) {
-            Some(bytes) if !bytes.is_empty() => put_datagram(bytes, buffer),
+        self.calls = self.calls.saturating_add(1);
+        match (self.played, self.calls) {
+            (Played::Refused, 2) => put_datagram(&DELETE_1, buffer),
+            (Played::Refused, 3) => put_datagram(&GET_2, buffer),
+            (Played::Refused, 4) => put_datagram(&GET_3, buffer),
+            (Played::Refused, 5 | 7) => put_datagram(&EMPTY_4, buffer),
+            (Played::Held, 2) => put_datagram(&PUT_7, buffer),
+            (Played::Held, 3) => put_datagram(&OBSERVE_7, buffer),
+            (Played::Held, 4) => put_datagram(&BLOCK_9, buffer),
+            (Played::Held, 5) => put_datagram(&EMPTY_4, buffer),
             _ => None,
         }
     }
 }
 
-// A sink that fails to send every second datagram.
+// A sink that fails at every second datagram.
 #[derive(Drop)]
 struct Lossy {
     sends: AtomicUsize,
@@ -105,18 +144,6 @@ const EXPECTED: &str = "\
 [INFO  fcd] report received=4 forbidden=1 unavailable=1 notified=0 resent=0 removed=0 offloaded=0 exchanges=2/2 transfers=0/16 sent=2 failed=2
 ";
 
-// PUT /p/7 of the program `mov64 r0, 69` and `exit`; GET /r/7 with Observe 0; PUT /p/9 of a first
-// block of 16 bytes; and an empty confirmable message.
-const PUT_7: [u8; 41] =
-    *b"\x40\x03\x00\x01\xb1p\x017\xffFCB1\x00\x00\x02\x00\x02\x00\x00\x00\x00\x00\x00\x00\xb7\x00\x00\x00\x45\x00\x00\x00\x95\x00\x00\x00\x00\x00\x00\x00";
-
-const OBSERVE_7: [u8; 9] = *b"\x40\x01\x00\x02\x60\x51r\x017";
-
-const BLOCK_9: [u8; 28] =
-    *b"\x40\x03\x00\x03\xb1p\x019\xd1\x03\x08\xffFCB1\x00\x00\x02\x00\x02\x00\x00\x00\x00\x00\x00\x00";
-
-const HELD: Datagrams = &[&PUT_7, &OBSERVE_7, &BLOCK_9, &EMPTY_4];
-
 // The reports before each of the five rounds.
 const EXPECTED_HELD: &str = "\
 [INFO  fcd] report received=0 forbidden=0 unavailable=0 notified=0 resent=0 removed=0 offloaded=0 exchanges=0/1024 transfers=0/16 sent=0 failed=0
@@ -126,49 +153,35 @@ const EXPECTED_HELD: &str = "\
 [INFO  fcd] report received=3 forbidden=0 unavailable=0 notified=0 resent=0 removed=0 offloaded=0 exchanges=3/1024 transfers=1/16 observers/7=1 sent=2 failed=1
 ";
 
-// The datagrams of a server, its policy, and the number of datagrams after which it ends.
-#[derive(Clone, Copy)]
-struct Played {
-    datagrams: Datagrams,
-    policy: Policy,
-    limit: u32,
-}
-
-const PLAYED_REFUSED: Played = Played {
-    datagrams: REFUSED,
-    policy: POLICY,
-    limit: 5,
-};
-
-const PLAYED_HELD: Played = Played {
-    datagrams: HELD,
-    policy: DEFAULT_POLICY,
-    limit: 4,
-};
-
 // Serves the datagrams with this many workers and this period in milliseconds. Returns the lines of
 // the reports.
 fn reported_by<R: Abort + AllocGlobal + Threads + Wait + Clock + Sync>(
     rt: &R,
-    played: &Played,
+    played: Played,
     workers: u8,
     every: Option<u64>,
 ) -> Vec<u8> {
     let alloc = rt.alloc();
     let lines = Locked::new(rt, Vec::new(alloc));
     let logger = Logged::new(rt, LevelFilter::Info, &lines);
-    let reporter = LoggedReports::new(&logger);
-    let served = serve_by(rt, alloc, &reporter, played, workers, every);
+    let served = serve_by(
+        rt,
+        alloc,
+        &LoggedReports::new(&logger),
+        played,
+        workers,
+        every,
+    );
     assert!(rt; served);
     lines.into_inner()
 }
 
-// Serves the datagrams with this reporter. Returns whether serving succeeded.
+// Serves the datagrams with this reporter. Returns whether they were served.
 fn serve_by<R: Threads + Wait + Clock + Sync, Q: Reporter + Sync>(
     rt: &R,
     alloc: Global,
     reporter: &Q,
-    played: &Played,
+    played: Played,
     workers: u8,
     every: Option<u64>,
 ) -> bool {
@@ -176,15 +189,12 @@ fn serve_by<R: Threads + Wait + Clock + Sync, Q: Reporter + Sync>(
     let mut err = Vec::new(alloc);
     let extent = Extent {
         workers,
-        limit: played.limit,
+        limit: played.limit(),
         started: 0,
         first_id: 0,
-        policy: played.policy,
+        policy: played.policy(),
     };
-    let script = Script {
-        calls: 0,
-        datagrams: played.datagrams,
-    };
+    let script = Script { calls: 0, played };
     let lossy = Lossy {
         sends: AtomicUsize::new(0),
     };
@@ -201,7 +211,6 @@ fn serve_by<R: Threads + Wait + Clock + Sync, Q: Reporter + Sync>(
     served.is_some()
 }
 
-// Returns records with this logger for the end, these reports, and no changes.
 fn records_of<'a, L: Log, Q: Reporter>(
     end: &'a L,
     reports: Reports<'a, Q>,
@@ -213,11 +222,10 @@ fn records_of<'a, L: Log, Q: Reporter>(
     }
 }
 
-// With one worker and with two, each round reports the counts of all rounds before it.
 #[test]
 fn reports_have_the_counts_of_their_rounds(rt: HostRuntime) -> Result<(), Fail> {
     for workers in [1, 2] {
-        let lines = reported_by(&rt, &PLAYED_REFUSED, workers, Some(0));
+        let lines = reported_by(&rt, Played::Refused, workers, Some(0));
         assert!(rt; lines.as_slice() == EXPECTED.as_bytes(), "{workers}");
     }
     Ok(())
@@ -227,7 +235,7 @@ fn reports_have_the_counts_of_their_rounds(rt: HostRuntime) -> Result<(), Fail> 
 #[test]
 fn reports_have_the_gauges_of_their_rounds(rt: HostRuntime) -> Result<(), Fail> {
     for workers in [1, 2] {
-        let lines = reported_by(&rt, &PLAYED_HELD, workers, Some(0));
+        let lines = reported_by(&rt, Played::Held, workers, Some(0));
         assert!(rt; lines.as_slice() == EXPECTED_HELD.as_bytes(), "{workers}");
     }
     Ok(())
@@ -237,8 +245,8 @@ fn reports_have_the_gauges_of_their_rounds(rt: HostRuntime) -> Result<(), Fail> 
 #[test]
 fn nothing_is_reported_before_it_is_due(rt: HostRuntime) -> Result<(), Fail> {
     for every in [None, Some(86_400_000)] {
-        assert!(rt; reported_by(&rt, &PLAYED_REFUSED, 1, every).is_empty());
-        assert!(rt; reported_by(&rt, &PLAYED_REFUSED, 2, every).is_empty());
+        assert!(rt; reported_by(&rt, Played::Refused, 1, every).is_empty());
+        assert!(rt; reported_by(&rt, Played::Refused, 2, every).is_empty());
     }
     Ok(())
 }
@@ -266,7 +274,7 @@ const GAUGES: Gauges = Gauges {
     },
 };
 
-// Reports these counts after a datagram that couldn't be sent and two that were sent.
+// Reports these counts, after a datagram that couldn't be sent and two that were.
 fn report_after_a_failure<L: Log>(logger: &L, report: &Report) {
     let reporter = LoggedReports::new(logger);
     reporter.count_sending(false);
@@ -275,7 +283,6 @@ fn report_after_a_failure<L: Log>(logger: &L, report: &Report) {
     reporter.report(report, &mut CallLog::new());
 }
 
-// A report prints each of its numbers, and the numbers of sent and of failed datagrams.
 #[test]
 fn a_report_has_each_of_its_numbers(rt: HostRuntime) -> Result<(), Fail> {
     let lines = Locked::new(&rt, Vec::new(rt.alloc()));
@@ -296,8 +303,7 @@ fn a_report_has_each_of_its_numbers(rt: HostRuntime) -> Result<(), Fail> {
     Ok(())
 }
 
-// Returns the period of reports in milliseconds for `--log report:1` followed by `--log` with this
-// value, or the error if the value is refused.
+// Returns the period in milliseconds that `--log` with this value, after `report:1`, gives.
 fn period_of(alloc: Global, value: &str) -> Result<Result<Option<u64>, BadOption>, Fail> {
     let words = [
         "fcd", "serve", "--port", "5683", "--log", "report:1", "--log", value,
@@ -309,7 +315,6 @@ fn period_of(alloc: Global, value: &str) -> Result<Result<Option<u64>, BadOption
     Ok(serve_options(matches).map(|options| options.logs.report))
 }
 
-// The last period that `--log` gives is used, and values without a period don't change it.
 #[test]
 fn the_last_period_of_reports_counts(rt: HostRuntime) -> Result<(), Fail> {
     for (value, period) in [
@@ -328,7 +333,6 @@ fn the_last_period_of_reports_counts(rt: HostRuntime) -> Result<(), Fail> {
     Ok(())
 }
 
-// `--log` refuses periods other than 1 to 86,400 seconds, and unknown words.
 #[test]
 fn other_values_of_log_are_refused(rt: HostRuntime) -> Result<(), Fail> {
     for value in [

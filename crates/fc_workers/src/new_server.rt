@@ -1,10 +1,10 @@
-//! A server that is being made: its book, and the tracks that aren't begun yet.
+//! A new server before its shards are locked: its book, and the tracks that aren't begun yet.
 use crate::books::{Books, ServerOf};
 use fc_filed::{ServerBook, ServerTracks};
 
 /// The book of a new server, the owner of its further tracks, and the first serial of its slots.
 #[derive(Drop)]
-pub(crate) struct Opening<B: Books> {
+pub(crate) struct NewServer<B: Books> {
     pub(crate) book: ServerBook<ServerOf<B>>,
     pub(crate) first: ServerTracks<ServerOf<B>>,
     pub(crate) first_serial: u64,
