@@ -16,7 +16,7 @@ use Rattle.coap_client.specs.Notes.{IsAwaitedBy, IsHandledFrom, IsResponseWith}
 use Rattle.coap_client.specs.PeerCalls.{Adds, PeerCall, PeerError, Reads}
 use Rattle.coap_client.specs.Representations.{IsBlockAnswer, IsBlockRejection, IsBlockTransmission, IsFollowingFault, IsNoteFault, state_of}
 use Rattle.coap_client.specs.Requests.{block_token}
-use Rattle.coap_client.specs.Completions.{AreBlockRequests, AreOutcomes, BlockOutcome, HasOutcome, IsFollowing, IsLastRequest, IsUnfetchedBy, IsMissingBy, IsBlockOutcome, IsBlockOutstanding, IsSupersededBy, Missing, NamesBlock, OlderNotification, Response, StateEnd, Superseded, block_id, following_id, id_after, next_block_id, reads_in, state_from}
+use Rattle.coap_client.specs.Completions.{AreBlockRequests, AreOutcomes, BlockOutcome, HasOutcome, IsFollowing, IsLastRequest, IsUnfetchedBy, IsMissingBy, IsBlockOutcome, IsBlockOutstanding, IsSupersededBy, Missing, NamesBlock, OlderNotification, Response, StateEnd, Superseded, block_id, following_id, id_after, next_block_id, reads_in, requests_until, state_from}
 use Rattle.coap_client.specs.Transmissions.{AreBehind, MakesCalls}
 use Rattle.coap_client.proofs.Failing.{unfit_came}
 use Rattle.coap_client.proofs.Transmitting.{Calls, both, does, does_both, does_nothing, does_of}
@@ -170,11 +170,12 @@ no_more o first from xs end before after one ends =
 -- ---- the end of the state
 
 -- the requests so far end the state for this reason, and no request follows.
-pub record IsMissingFrom (went came : List ℕ → Type 0) (told : ℕ → Type 0) (Makes : (List PeerCall → Type 0) → Type 0) (o : Observer) (w : Observation) (first next : ℕ) (from : State)
+pub record IsMissingFrom (went came : List ℕ → Type 0) (told : ℕ → Type 0) (Makes : (List PeerCall → Type 0) → Type 0) (o : Observer) (w : Observation) (first next count : ℕ) (from : State)
     (cause : Unfetched) : Type 0 where
   pub outcomes : List BlockOutcome
   pub are : AreOutcomes went came told o w first from outcomes
   pub missing : IsUnfetchedBy (state_from from outcomes) (length outcomes) cause
+  pub requests_are : requests_until (Missing cause) (length outcomes) ≡ count
   pub next_is : next ≡ next_block_id o first outcomes
   pub called : Makes (AreBlockRequests o first from outcomes)
   pub ends : (calls : List PeerCall) → calls ≡ [] → IsLastRequest o (following_id o first outcomes) (state_from from outcomes) (Missing cause) calls
@@ -183,18 +184,19 @@ pub record IsMissingFrom (went came : List ℕ → Type 0) (told : ℕ → Type 
 -- the last response is the reason why the further blocks can't be fetched.
 pub missing : (went came : List ℕ → Type 0) (told : ℕ → Type 0) (Makes : (List PeerCall → Type 0) → Type 0) (o : Observer) (w : Observation) (first next count : ℕ) (from : State) (cause : Unfetched)
     (Leads : State → Type 0) → ((to : State) → Leads to → HasRequested went came told Makes o w first next count from to) → IsMissingBy cause Leads
-    → IsMissingFrom went came told Makes o w first next from cause
+    → IsMissingFrom went came told Makes o w first next count from cause
 missing went came told Makes o w first next count from unfetched.Silence Leads requests h = absurd h
 missing went came told Makes o w first next count from unfetched.Rejected Leads requests h = absurd h
 missing went came told Makes o w first next count from (unfetched.Refused code) Leads requests h =
     let r = requests (Ended code.byte h.1.0) h.1.1 in
-    record { outcomes = r.outcomes; are = r.are; next_is = r.next_is; called = r.called; missing = (h.0, (h.1.0, r.leads)); ends = λ calls none. none; next_same = refl }
+    record { outcomes = r.outcomes; are = r.are; next_is = r.next_is; called = r.called; missing = (h.0, (h.1.0, r.leads)); requests_are = r.count_is; ends = λ calls none. none; next_same = refl }
 missing went came told Makes o w first next count from unfetched.Changed Leads requests h =
     let r = requests Outdated h in
-    record { outcomes = r.outcomes; are = r.are; next_is = r.next_is; called = r.called; missing = r.leads; ends = λ calls none. none; next_same = refl }
+    record { outcomes = r.outcomes; are = r.are; next_is = r.next_is; called = r.called; missing = r.leads; requests_are = r.count_is; ends = λ calls none. none; next_same = refl }
 missing went came told Makes o w first next count from unfetched.Malformed Leads requests h =
     let r = requests Lost h in
-    record { outcomes = r.outcomes; are = r.are; next_is = r.next_is; called = r.called; missing = inl r.leads; ends = λ calls none. none; next_same = refl }
+    record { outcomes = r.outcomes; are = r.are; next_is = r.next_is; called = r.called; missing = r.leads; requests_are = r.count_is; ends = λ calls none. none; next_same = refl }
+missing went came told Makes o w first next count from unfetched.TooMany Leads requests h = absurd h
 
 -- the code of an end.
 pub code_of : (code same : ℕ) (body other : List ℕ) → Ended code body ≡ Ended same other → code ≡ same

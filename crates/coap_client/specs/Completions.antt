@@ -1,7 +1,7 @@
 -- The requests for the further blocks of an observed state, one after the other, and the end of the
 -- state: its blocks are whole, it is superseded, or they can't be fetched (RFC 7641, section 3.4;
 -- RFC 7959, sections 2.4, 2.6 and 3.4). In a list of calls or of outcomes, the newest is first.
-use Rattle.std.specs.Prelude.{◌≡◌, ℕ, ◌+◌, ◌%◌, ◌==◌, ◌||◌, ◌≤◌, ◌⊎◌, max, true, false, if◌then◌else◌, List, [], ◌∷◌, ◌++◌, length, take, Some, None, Ok}
+use Rattle.std.specs.Prelude.{◌≡◌, ℕ, ◌+◌, ◌%◌, ◌==◌, ◌||◌, ◌≤◌, max, true, false, if◌then◌else◌, List, [], ◌∷◌, ◌++◌, length, take, Some, None, Ok}
 use Rattle.coap_msg.specs.Reading.{reading_of}
 use Rattle.coap_msg.specs.Wire.{Message}
 use Rattle.coap_client.specs.declared.joining.BlockHandled.{BlockHandled}
@@ -43,7 +43,8 @@ abbrev pub state_from : State → List BlockOutcome → State
 state_from state xs = joined_from state (responses_in xs)
 
 -- the message ID of a request, if this is the next one. The IDs of the registration and of the
--- deregistration are skipped, since an ID isn't used again within 247 s (RFC 7252, section 4.4).
+-- deregistration are skipped, so that the server takes no deregistration for a duplicate of such a
+-- request (RFC 7252, section 4.5).
 abbrev pub block_id : Observer → ℕ → ℕ
 block_id o next = if (next == o.id) || (next == leaving_id o) then (o.id + 2) % 65536 else next
 
@@ -62,8 +63,8 @@ NamesBlock (Out (Answer n szx) body etag) P = P n szx
 NamesBlock state P = ⊥
 
 -- a notification arrived, and was acknowledged if it is confirmable. It isn't newer than the state
--- shown last, or is a duplicate of one that was shown (RFC 7641, section 3.4; RFC 7252, section
--- 4.5).
+-- accepted last, or is a duplicate of one that was accepted (RFC 7641, section 3.4; RFC 7252,
+-- section 4.5). A state that is superseded or can't be fetched was accepted too.
 pub record IsOlderArrival (went came : List ℕ → Type 0) (told : ℕ → Type 0) (token : List ℕ) (w : Observation) (m : Message) (time : ℕ) : Type 0 where
   pub bytes : List ℕ
   pub handled : IsHandledFrom went came bytes m
@@ -118,24 +119,38 @@ pub data StateEnd : Type 0 where
   Superseded : (bytes : List ℕ) (time : ℕ) → StateEnd
   Missing : (cause : Unfetched) → StateEnd
 
--- a request for a further block is outstanding, so the state isn't whole.
+-- a further block is outstanding, so the state isn't whole.
 abbrev pub IsBlockOutstanding : State → Type 0
 IsBlockOutstanding state = NamesBlock state (λ n szx. Unit {0})
 
 -- the reason why the further blocks can't be fetched, in this state and after this number of
--- requests. The outstanding request has no response or is rejected; or the last response is an
--- error, is of another version, or doesn't match; or the requests are too many.
+-- outcomes. The outstanding request has no response or is rejected; or the last response is an
+-- error, is of another version, or doesn't match; or a block is outstanding after 4,194,304
+-- outcomes.
 abbrev pub IsUnfetchedBy : State → ℕ → Unfetched → Type 0
 IsUnfetchedBy state count unfetched.Silence = IsBlockOutstanding state
 IsUnfetchedBy state count unfetched.Rejected = IsBlockOutstanding state
 IsUnfetchedBy state count (unfetched.Refused code) = (is_success code.byte ≡ false) × ((body : List ℕ) × (state ≡ Ended code.byte body))
 IsUnfetchedBy state count unfetched.Changed = state ≡ Outdated
-IsUnfetchedBy state count unfetched.Malformed = (state ≡ Lost) ⊎ (most_requests ≤ count)
+IsUnfetchedBy state count unfetched.Malformed = state ≡ Lost
+IsUnfetchedBy state count unfetched.TooMany = (count ≡ most_requests) × IsBlockOutstanding state
 
+abbrev pub IsEndedBy : State → ℕ → StateEnd → Type 0
+IsEndedBy state count (Joined code body) = (is_success code ≡ true) × (state ≡ Ended code body)
+IsEndedBy state count (Superseded bytes time) = IsBlockOutstanding state
+IsEndedBy state count (Missing cause) = IsUnfetchedBy state count cause
+
+-- the number of requests for further blocks: one for each outcome, and the last request, if it has
+-- no such outcome.
+abbrev pub requests_until : StateEnd → ℕ → ℕ
+requests_until (Superseded bytes time) count = count + 1
+requests_until (Missing unfetched.Silence) count = count + 1
+requests_until (Missing unfetched.Rejected) count = count + 1
+requests_until end count = count
+
+-- the end of the state after this number of outcomes: at most 4,194,304 requests were sent.
 abbrev pub IsStateEnd : State → ℕ → StateEnd → Type 0
-IsStateEnd state count (Joined code body) = (is_success code ≡ true) × (state ≡ Ended code body)
-IsStateEnd state count (Superseded bytes time) = IsBlockOutstanding state
-IsStateEnd state count (Missing cause) = IsUnfetchedBy state count cause
+IsStateEnd state count end = (requests_until end count ≤ most_requests) × IsEndedBy state count end
 
 -- a request whose wait ends by a newer notification; then the clock is read.
 pub record IsSupersededBy (o : Observer) (id : ℕ) (bytes : List ℕ) (time : ℕ) (calls : List PeerCall) (n szx : ℕ) : Type 0 where

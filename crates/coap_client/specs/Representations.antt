@@ -112,6 +112,7 @@ unfetched_text unfetched.Rejected = codes "a request for a further block was rej
 unfetched_text (unfetched.Refused code) = codes "a further block was refused by " ++ code_text code.byte
 unfetched_text unfetched.Changed = codes "it changed while its blocks were fetched"
 unfetched_text unfetched.Malformed = codes "a further block doesn't fit the request"
+unfetched_text unfetched.TooMany = codes "a block is missing after 4194304 requests"
 
 -- the errors: an error of the peer, a failed allocation of memory, or a notification that can't be
 -- shown.

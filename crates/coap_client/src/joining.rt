@@ -54,6 +54,8 @@ pub enum Unfetched {
     Changed,
     /// A response isn't the requested block, or has an unknown critical option.
     Malformed,
+    /// A block is missing after 4,194,304 requests, the maximum number.
+    TooMany,
 }
 
 /// The text of a reason, such as `a further block was refused by 4.04`.
@@ -70,6 +72,7 @@ impl fmt::Display for Unfetched {
             Unfetched::Refused(code) => write!(f, "a further block was refused by {code}"),
             Unfetched::Changed => write!(f, "it changed while its blocks were fetched"),
             Unfetched::Malformed => write!(f, "a further block doesn't fit the request"),
+            Unfetched::TooMany => write!(f, "a block is missing after 4194304 requests"),
         }
     }
 }
@@ -220,7 +223,7 @@ impl Observation {
                 BlockHandled::Unfetched(cause) => return Ok(Completion::Unfetched(cause)),
             }
         }
-        Ok(Completion::Unfetched(Unfetched::Malformed))
+        Ok(Completion::Unfetched(Unfetched::TooMany))
     }
 
     // Handles the message that ended the wait for a block: the block, or a notification. Returns

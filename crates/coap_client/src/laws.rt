@@ -1,5 +1,5 @@
 //! Laws about the definitions. Each law is the contract of an empty function.
-ghost use Rattle.std.specs.Prelude.{◌≡◌, ◌+◌, ◌*◌, ◌%◌, ◌<◌, ◌≤◌, ◌⊎◌, ◌++◌, ℕ, Bool, List, [], ◌∷◌, Option, Some, None, codes, drop, false, length, take, true};
+ghost use Rattle.std.specs.Prelude.{◌≡◌, ◌+◌, ◌*◌, ◌%◌, ◌<◌, ◌≤◌, ◌⊎◌, ◌++◌, ℕ, Bool, List, [], ◌∷◌, Option, Some, None, codes, drop, false, length, max, take, true};
 ghost use Rattle.coap_msg.specs.Wire.{Message, SpellsMessage, message_bytes};
 ghost use Rattle.coap_opts.specs.Values.{block_bytes};
 ghost use Rattle.coap_opts.specs.declared.request.Method.TheVariants.{Get, Post, Put};
@@ -15,15 +15,16 @@ ghost use Rattle.coap_client.specs.declared.notice.NotificationClass.TheVariants
 ghost use Rattle.coap_client.specs.declared.notice.ObserveOption.TheVariants.{Deregister, Register};
 ghost use Rattle.coap_client.specs.declared.observing.Observer.{Observer};
 ghost use Rattle.coap_client.specs.Handled.{Tells};
-ghost use Rattle.coap_client.specs.Notices.{can_be_shown, is_newer, is_unobserved, notice_of, observe_request};
+ghost use Rattle.coap_client.specs.Notices.{IsOwnResponse, can_be_shown, is_newer, is_shown_again, is_unobserved, notice_of, observe_request};
 ghost use Rattle.coap_client.specs.Parts.{first_part, format_option, format_options, part_options, part_payload, request_options};
 ghost use Rattle.coap_client.specs.PeerCalls.{PeerCall, Sends, Waits};
 ghost use Rattle.coap_client.specs.Faults.{IsRejectedLeaving, IsRejection, IsSilence, deregistration_of, leaving_id, registration_of};
-ghost use Rattle.coap_client.specs.Notes.{TellsObserver};
+ghost use Rattle.coap_client.specs.Notes.{IsHandledFrom, TellsObserver};
+ghost use Rattle.coap_client.specs.declared.watch.Observation.{Observation};
 ghost use Rattle.coap_client.specs.Schedules.{AwaitsResponse, BeginsSchedule, EndsByReset, full_schedule, schedule, seconds_in};
 ghost use Rattle.coap_client.specs.ObserverCalls.{IsDeregistration, IsPassedOverLeaving, IsRegistration};
 ghost use Rattle.coap_client.specs.Transmissions.{AreInVain, IsLastSending, IsTransmission};
-ghost use Rattle.coap_client.specs.Completions.{BlockOutcome, IsUnfetchedBy, IsStateEnd, OlderNotification, Response, Superseded, block_id, following_id, state_from};
+ghost use Rattle.coap_client.specs.Completions.{BlockOutcome, IsBlockOutcome, IsUnfetchedBy, IsStateEnd, Joined, Missing, OlderNotification, Response, StateEnd, Superseded, block_id, following_id, id_after, state_from};
 ghost use Rattle.coap_client.specs.Fetching.{Ended, Out, Outdated, after_reply, state_after};
 ghost use Rattle.coap_client.specs.Fetching as fetching;
 ghost use Rattle.coap_client.specs.Joined.{IsOneAnswer, SaysTaken};
@@ -39,7 +40,7 @@ ghost use Rattle.coap_msg.specs.Values.{values_in};
 ghost use Rattle.coap_client.specs.PathErrors.{IsPathFault};
 ghost use Rattle.coap_client.specs.declared.path.PathError.TheVariants.{Empty};
 
-use crate::peer::BUFFER;
+use crate::peer::{BUFFER, Peer};
 
 /// A block of the body is followed by another only if the server took it.
 ///
@@ -89,6 +90,8 @@ pub fn further_blocks_are_requested_without_observe()
 /// by a request for block 1, of that size. A success with block 1 (30), of the same ETag, is
 /// followed by a request for block 2. Without more (22) it ends the state. After a notification that
 /// isn't newer, the request is for the same block (RFC 7959, sections 2.2 and 2.4).
+///
+/// A success with block 1 of another ETag, 2 in place of 1, is of another version.
 pub fn each_further_block_follows_the_one_before()
     ensures first { (m : Message) → length m.payload ≡ 1024 → first_or_none (values_in 23 m.options) ≡ Some (14 ∷ [])
         → begun m ≡ Out (Answer 1 6) m.payload (etag_of m) }
@@ -96,6 +99,8 @@ pub fn each_further_block_follows_the_one_before()
         → first_or_none (values_in 23 r.options) ≡ Some (30 ∷ []) → state_from (Out (Answer 1 6) body etag) (Response r ∷ []) ≡ Out (Answer 2 6) (body ++ r.payload) (etag_of r) }
     ensures last { (r : Message) (body etag : List ℕ) → is_understood r ≡ true → r.code ≡ 69 → length r.payload ≡ 1024 → etag_of r ≡ etag
         → first_or_none (values_in 23 r.options) ≡ Some (22 ∷ []) → state_from (Out (Answer 1 6) body etag) (Response r ∷ []) ≡ Ended 69 (body ++ r.payload) }
+    ensures changed { (r : Message) (body : List ℕ) → is_understood r ≡ true → r.code ≡ 69 → length r.payload ≡ 1024 → etag_of r ≡ 2 ∷ []
+        → first_or_none (values_in 23 r.options) ≡ Some (30 ∷ []) → state_from (Out (Answer 1 6) body (1 ∷ [])) (Response r ∷ []) ≡ Outdated }
     ensures again { (state : fetching.State) (m : Message) (time : ℕ) (outcomes : List BlockOutcome)
         → state_from state (OlderNotification m time ∷ outcomes) ≡ state_from state outcomes }
 {}
@@ -112,20 +117,51 @@ pub fn further_blocks_have_ids_of_their_own()
     ensures around { (o : Observer) (x : BlockOutcome) → o.id ≡ 65535 → (following_id o 65534 [] ≡ 65534) × (following_id o 65534 (x ∷ []) ≡ 1) }
 {}
 
+/// Each request for a further block uses a message ID.
+///
+/// The registration has 7, and the request for a block has 9. Once its response makes the state
+/// whole, the next message ID is 10. If the request after it, with 10, has no response, is rejected,
+/// or is superseded by a newer notification, the next is 11.
+pub fn each_request_for_a_block_uses_an_id()
+    ensures joined { (o : Observer) (x : BlockOutcome) (code : ℕ) (body : List ℕ) → o.id ≡ 7 → id_after o 9 (x ∷ []) (Joined code body) ≡ 10 }
+    ensures silent { (o : Observer) (x : BlockOutcome) → o.id ≡ 7 → id_after o 9 (x ∷ []) (Missing unfetched.Silence) ≡ 11 }
+    ensures rejected { (o : Observer) (x : BlockOutcome) → o.id ≡ 7 → id_after o 9 (x ∷ []) (Missing unfetched.Rejected) ≡ 11 }
+    ensures superseded { (o : Observer) (x : BlockOutcome) (bytes : List ℕ) (time : ℕ) → o.id ≡ 7 → id_after o 9 (x ∷ []) (Superseded bytes time) ≡ 11 }
+    ensures changed { (o : Observer) (x : BlockOutcome) → o.id ≡ 7 → id_after o 9 (x ∷ []) (Missing unfetched.Changed) ≡ 10 }
+{}
+
+/// While a block is requested, only a notification that isn't newer is passed over.
+///
+/// The last accepted state has the sequence number 5 and the time 1,000 ms. A notification with 6
+/// that isn't a duplicate is never passed over. One with 4 is, if it arrives within 128 seconds (RFC
+/// 7641, section 3.4).
+pub fn only_older_notifications_are_passed_over<P: Peer>()
+    ensures newer { (o : Observer) (w : Observation) (id n szx time : ℕ) (m : Message) → w.sequence ≡ 5 → is_shown_again w.marks.items m.id (max w.at time) ≡ false → notice_of m ≡ State 6
+        → IsBlockOutcome P.went P.came P.is_time o w id (OlderNotification m time) n szx → ⊥ }
+    ensures older { (o : Observer) (w : Observation) (id n szx : ℕ) (m : Message) (bytes : List ℕ) → w.sequence ≡ 5 → w.at ≡ 1000 → notice_of m ≡ State 4
+        → IsHandledFrom P.went P.came bytes m → IsOwnResponse o.token m → P.is_time 129000
+        → IsBlockOutcome P.went P.came P.is_time o w id (OlderNotification m 129000) n szx }
+    ensures later { (o : Observer) (w : Observation) (id n szx : ℕ) (m : Message) → w.sequence ≡ 5 → w.at ≡ 1000 → is_shown_again w.marks.items m.id 129001 ≡ false → notice_of m ≡ State 4
+        → IsBlockOutcome P.went P.came P.is_time o w id (OlderNotification m 129001) n szx → ⊥ }
+{}
+
 /// The end of a state of several blocks follows from its last message.
 ///
-/// A newer notification supersedes only a state that isn't whole. After fewer than 4,194,304
-/// requests, an error 4.04 is the reason why the state can't be fetched, and so is a block of
-/// another version. A state whose last response is 2.05 has no such reason. While a request is
-/// outstanding, the reason is that it has no response or is rejected.
+/// A newer notification supersedes only a state that isn't whole. An error 4.04 is the reason why
+/// the state can't be fetched, and so is a block of another version. A state whose last response is
+/// 2.05 has no such reason. While a block is outstanding, the reason is that the request has no
+/// response or is rejected; or there were 4,194,304 requests. There are never more.
 pub fn states_end_by_their_last_message()
     ensures superseded { (code count time : ℕ) (body bytes : List ℕ) → IsStateEnd (Ended code body) count (Superseded bytes time) → ⊥ }
-    ensures refused { (count : ℕ) (body : List ℕ) (cause : Unfetched) → count < 4194304 → IsUnfetchedBy (Ended 132 body) count cause
+    ensures refused { (count : ℕ) (body : List ℕ) (cause : Unfetched) → IsUnfetchedBy (Ended 132 body) count cause
         → unfetched_text cause ≡ codes "a further block was refused by 4.04" }
-    ensures changed { (count : ℕ) (cause : Unfetched) → count < 4194304 → IsUnfetchedBy Outdated count cause → cause ≡ unfetched.Changed }
-    ensures whole { (count : ℕ) (body : List ℕ) (cause : Unfetched) → count < 4194304 → IsUnfetchedBy (Ended 69 body) count cause → ⊥ }
+    ensures changed { (count : ℕ) (cause : Unfetched) → IsUnfetchedBy Outdated count cause → cause ≡ unfetched.Changed }
+    ensures whole { (count : ℕ) (body : List ℕ) (cause : Unfetched) → IsUnfetchedBy (Ended 69 body) count cause → ⊥ }
     ensures outstanding { (n szx count : ℕ) (body etag : List ℕ) (cause : Unfetched) → count < 4194304 → IsUnfetchedBy (Out (Answer n szx) body etag) count cause
         → (cause ≡ unfetched.Silence) ⊎ (cause ≡ unfetched.Rejected) }
+    ensures last { (n szx : ℕ) (body etag : List ℕ) (cause : Unfetched) → IsStateEnd (Out (Answer n szx) body etag) 4194304 (Missing cause)
+        → unfetched_text cause ≡ codes "a block is missing after 4194304 requests" }
+    ensures requests { (state : fetching.State) (count : ℕ) (end : StateEnd) → IsStateEnd state count end → count ≤ 4194304 }
 {}
 
 /// After the greatest sequence number, 0 is newer.
@@ -202,6 +238,7 @@ pub fn unfetched_blocks_have_a_reason()
     ensures refused { (code : Code) → code.byte ≡ 132 → unfetched_text (unfetched.Refused code) ≡ codes "a further block was refused by 4.04" }
     ensures changed { unfetched_text unfetched.Changed ≡ codes "it changed while its blocks were fetched" }
     ensures malformed { unfetched_text unfetched.Malformed ≡ codes "a further block doesn't fit the request" }
+    ensures many { unfetched_text unfetched.TooMany ≡ codes "a block is missing after 4194304 requests" }
 {}
 
 /// A success that can be shown and has an Observe of three bytes is a state.

@@ -24,8 +24,8 @@ use Rattle.fc_fetch.specs.declared.observer.NotesError.{NotesError}
 use Rattle.fc_fetch.specs.declared.observer.NotesError.TheVariants as notes_error
 use Rattle.fc_fetch.specs.declared.observer.ObservationEnd.{ObservationEnd}
 use Rattle.fc_fetch.specs.declared.printer.Shown.{Shown}
-use Rattle.fc_fetch.specs.Observing.{AwaitsNote, AwaitsUntil, EndsStateBy, IsAwaitFault, IsBeforeNext, IsFirstFault, IsLaterFault, IsLeftInVain, IsMissingState, IsNoMemory, IsNotesFault, IsObservedSoFar, IsPending, IsRenderFault, IsState, IsStoppedByFirst, IsStoppedWaiting, IsStoppedWriting, IsTimedObservation, IsUnwritten, LeavesAtFault, ObservesNotes, may_notify, unfit_error}
-use Rattle.fc_fetch.specs.Rendering.{AreRendered, RenderedNote, Rendering, Whole, Written, has_further, has_line, notes_of}
+use Rattle.fc_fetch.specs.Observing.{AwaitsNote, AwaitsUntil, EndsStateBy, HasCalled, IsAwaitFault, IsBeforeNext, IsFirstFault, IsLaterFault, IsLeftInVain, IsMissingState, IsNoMemory, IsNotesFault, IsObservedSoFar, IsPending, IsRenderFault, IsState, IsStoppedByFirst, IsStoppedWaiting, IsStoppedWriting, IsTimedObservation, IsUnwritten, LeavesAtFault, ObservesNotes, may_notify, unfit_error}
+use Rattle.fc_fetch.specs.Rendering.{AreRendered, BeginsAt, RenderedNote, Rendering, Whole, Written, has_further, has_line, is_superseded, notes_of}
 use Rattle.fc_fetch.proofs.Lines.{is_rendering, last_is_whole, last_pending, lined_unsuperseded, missing_unsuperseded, state_of_pending}
 use Rattle.fc_fetch.proofs.Timing.{HasAwaited, HasBegun, HasCounted, line_unwritten, notes_awaiting, observed_so_far, observed_until, uncounted, whole_observed}
 
@@ -104,47 +104,47 @@ no_note came told is_error before between after o ends n w (fault.Memory error) 
 -- it fails while the next note is awaited
 module _ (went came : List ℕ → Type 0) (told : ℕ → Type 0) (is_error : PeerError → Type 0) (before between after : Calls) (o : Observer) (seconds : Option ℕ) (start n : ℕ) (ends : Bool)
     (w : Observation) (r : RenderedNote) (rs : List RenderedNote) where
-  until_notes : (P : NotificationClass → Type 0) → ends ≡ is_some seconds → MakesCalls before between (HasCounted o seconds start n (r ∷ rs))
+  until_notes : (P : NotificationClass → Type 0) → ends ≡ is_some seconds → is_superseded r.rendering ≡ false → MakesCalls before between (HasCounted o seconds start n (r ∷ rs))
       → MakesCalls between after (AwaitsUntil told o.token ends w P) → MakesCalls before after (AreBehind (ObservesNotes o seconds start (r ∷ rs)) (EndsOnNotification told o.token w P))
-  until_notes P is one other =
+  until_notes P is free one other =
       does_both before between after (HasCounted o seconds start n (r ∷ rs)) (AwaitsUntil told o.token ends w P)
       (AreBehind (ObservesNotes o seconds start (r ∷ rs)) (EndsOnNotification told o.token w P)) one other
       (λ older newer a b. record {
         older = b.older ++ older;
-        first = notes_awaiting o seconds start n ends false r rs b.older older is a b.first;
+        first = notes_awaiting o seconds start n ends false r rs b.older older is free a b.first;
         newer = b.newer;
         then = b.then;
         is = ap (λ (x : List PeerCall). x ++ older) b.is ∙ append_assoc b.newer b.older older;
       })
 
-  pub stopped_waiting : (f : FetchFault) → ends ≡ is_some seconds → AreRendered went came told o (r ∷ rs) → IsWatching went came told o.token o.id r.note (notes_of rs) w
+  pub stopped_waiting : (f : FetchFault) → ends ≡ is_some seconds → AreRendered went came told o (r ∷ rs) → is_superseded r.rendering ≡ false → IsWatching went came told o.token o.id r.note (notes_of rs) w
       → MakesCalls before between (HasCounted o seconds start n (r ∷ rs)) → IsAwaitFault came told is_error (MakesCalls between after) o ends w f
       → IsStoppedWaiting went came told is_error (MakesCalls before after) o (ObservesNotes o seconds start) f
-  stopped_waiting fault.Silence is are s one h = h
-  stopped_waiting fault.Rejected is are s one h = h
-  stopped_waiting fault.Malformed is are s one h = h
-  stopped_waiting fault.Changed is are s one h = h
-  stopped_waiting fault.Part is are s one h =
-      (h.0, record { latest = r; older = rs; rendered = are; w = w; watching = s; called = until_notes (λ x. x ≡ notice.Malformed) is one h.1 })
-  stopped_waiting (fault.Socket error) is are s one h = h
-  stopped_waiting (fault.Memory error) is are s one h = record { latest = r; older = rs; rendered = are; w = w; watching = s; called = until_notes IsNewState is one h }
+  stopped_waiting fault.Silence is are free s one h = h
+  stopped_waiting fault.Rejected is are free s one h = h
+  stopped_waiting fault.Malformed is are free s one h = h
+  stopped_waiting fault.Changed is are free s one h = h
+  stopped_waiting fault.Part is are free s one h =
+      (h.0, record { latest = r; older = rs; rendered = are; unsuperseded = free; w = w; watching = s; called = until_notes (λ x. x ≡ notice.Malformed) is free one h.1 })
+  stopped_waiting (fault.Socket error) is are free s one h = h
+  stopped_waiting (fault.Memory error) is are free s one h = record { latest = r; older = rs; rendered = are; unsuperseded = free; w = w; watching = s; called = until_notes IsNewState is free one h }
 
 -- a wait that hasn't begun doesn't fail
 pub no_wait_fails : (went came : List ℕ → Type 0) (told : ℕ → Type 0) (is_error : PeerError → Type 0) (before between after : Calls) (o : Observer) (shown : Shown) (first now : Written) (lines : ℕ)
-    (buffer : List ℕ) (next : Option NotedMessage) (seconds : Option ℕ) (start n : ℕ) (ends : Bool) (w : Observation) (f : FetchFault) → ends ≡ is_some seconds
-    → IsBeforeNext went came told (λ rs. MakesCalls before between (HasCounted o seconds start n rs)) o shown first now lines w buffer next
+    (buffer : List ℕ) (next : Option NotedMessage) (seconds : Option ℕ) (start n ids : ℕ) (ends : Bool) (w : Observation) (f : FetchFault) → ends ≡ is_some seconds
+    → IsBeforeNext went came told (HasCalled (MakesCalls before between) o ids (HasCounted o seconds start n)) o shown first now lines w buffer next
     → IsAwaitFault came told is_error (MakesCalls between after) o ends w f → next ≡ None → IsStoppedWaiting went came told is_error (MakesCalls before after) o (ObservesNotes o seconds start) f
-no_wait_fails went came told is_error before between after o shown first now lines buffer None seconds start n ends w f is b h none =
-    stopped_waiting went came told is_error before between after o seconds start n ends w b.0.latest b.0.older f is b.0.so_far.rendered b.0.watching b.0.called h
-no_wait_fails went came told is_error before between after o shown first now lines buffer (Some noted) seconds start n ends w f is b h none = absurd (cc none)
+no_wait_fails went came told is_error before between after o shown first now lines buffer None seconds start n ids ends w f is b h none =
+    stopped_waiting went came told is_error before between after o seconds start n ends w b.0.latest b.0.older f is b.0.so_far.rendered b.1 b.0.watching b.0.called.0 h
+no_wait_fails went came told is_error before between after o shown first now lines buffer (Some noted) seconds start n ids ends w f is b h none = absurd (cc none)
 
 -- its line can't be written
 unwritten : (went came : List ℕ → Type 0) (told : ℕ → Type 0) (before between after : Calls) (o : Observer) (shown : Shown) (first now : Written) (lines : ℕ) (buffer : List ℕ) (noted : NotedMessage)
-    (seconds : Option ℕ) (start n : ℕ) (w : Observation) (P : Rendering → Type 0) → noted.last ≡ false
-    → (p : IsPending went came told (λ rs. MakesCalls before between (HasCounted o seconds start n rs)) o shown first now lines w buffer noted)
-    → ((r : Rendering) (bytes : List ℕ) (time : ℕ) → P r → EndsStateBy (Superseded bytes time) r → ⊥) → IsUnwritten went came told (MakesCalls between after) o seconds start p.note.message w P
+    (seconds : Option ℕ) (start n ids : ℕ) (w : Observation) (P : Rendering → Type 0) → noted.last ≡ false
+    → (p : IsPending went came told (HasCalled (MakesCalls before between) o ids (HasCounted o seconds start n)) o shown first now lines w buffer noted)
+    → ((r : Rendering) (bytes : List ℕ) (time : ℕ) → P r → EndsStateBy (Superseded bytes time) r → ⊥) → IsUnwritten went came told (MakesCalls between after) o seconds start p.note.message w ids P
     → IsStoppedWriting went came told (MakesCalls before after) o (ObservesNotes o seconds start) P
-unwritten went came told before between after o shown first now lines buffer noted seconds start n w P state p other h =
+unwritten went came told before between after o shown first now lines buffer noted seconds start n ids w P state p other h =
     let watching = state_of_pending went came told o p.note (notes_of p.older) w noted.last state p.pending in
     let latest : RenderedNote = record { note = p.note; rendering = h.rendering } in
     record {
@@ -156,63 +156,64 @@ unwritten went came told before between after o shown first now lines buffer not
         (
           is_rendering went came told o shown first (λ rs. Unit {0}) (λ rs. Unit {0}) lines p.note (notes_of p.older) w h.rendering watching h.is
               (λ bytes time ends. absurd (other h.rendering bytes time h.line ends)),
-          p.succeeds,
+          (p.succeeds, subst (λ (x : ℕ). BeginsAt x h.rendering) (sym p.called.1) h.begins),
         ),
       );
       line = h.line;
-      called = line_unwritten o seconds start before n latest p.older between after p.called h.called;
+      called = line_unwritten o seconds start before n latest p.older between after p.begins p.called.0 h.called;
     }
 
 -- the last note can't be printed
 pub unprinted_last : (went came : List ℕ → Type 0) (told : ℕ → Type 0) (before after : Calls) (o : Observer) (shown : Shown) (first now : Written) (lines : ℕ) (buffer : List ℕ) (noted : NotedMessage)
-    (seconds : Option ℕ) (start n : ℕ) (w : Observation) → noted.last ≡ true
-    → IsPending went came told (λ rs. MakesCalls before after (HasCounted o seconds start n rs)) o shown first now lines w buffer noted
+    (seconds : Option ℕ) (start n ids : ℕ) (w : Observation) → noted.last ≡ true
+    → IsPending went came told (HasCalled (MakesCalls before after) o ids (HasCounted o seconds start n)) o shown first now lines w buffer noted
     → IsStoppedWriting went came told (MakesCalls before after) o (ObservesNotes o seconds start) (λ r. has_line r ≡ true)
-unprinted_last went came told before after o shown first now lines buffer noted seconds start n w last p = record {
+unprinted_last went came told before after o shown first now lines buffer noted seconds start n ids w last p = record {
   latest = record { note = p.note; rendering = Whole };
   older = p.older;
   are = p.are;
-  rendered = (p.so_far.rendered, (last_is_whole p.note.message (last_pending went came told o p.note (notes_of p.older) w noted.last last p.pending), p.succeeds));
+  rendered = (p.so_far.rendered, (last_is_whole p.note.message (last_pending went came told o p.note (notes_of p.older) w noted.last last p.pending), (p.succeeds, tt)));
   line = refl;
-  called = whole_observed o seconds start before n p.note p.older after p.called;
+  called = whole_observed o seconds start before n p.note p.older after p.begins p.called.0;
 }
 
 -- the rendering of a note fails
 pub unrendered : {S : Type 0} (went came : List ℕ → Type 0) (told : ℕ → Type 0) (is_error : PeerError → Type 0) (called : S → List PeerCall → Type 0) (before between after : S) (o : Observer)
-    (shown : Shown) (first now : Written) (lines : ℕ) (buffer : List ℕ) (noted : NotedMessage) (seconds : Option ℕ) (start n : ℕ) (w : Observation) (e : NotesError) → noted.last ≡ false
-    → (p : IsPending went came told (λ rs. MakesCalls (called before) (called between) (HasCounted o seconds start n rs)) o shown first now lines w buffer noted)
-    → IsRenderFault went came told is_error (MakesCalls (called between) (called after)) o seconds start p.note.message w e
+    (shown : Shown) (first now : Written) (lines : ℕ) (buffer : List ℕ) (noted : NotedMessage) (seconds : Option ℕ) (start n ids : ℕ) (w : Observation) (e : NotesError) → noted.last ≡ false
+    → (p : IsPending went came told (HasCalled (MakesCalls (called before) (called between)) o ids (HasCounted o seconds start n)) o shown first now lines w buffer noted)
+    → IsRenderFault went came told is_error (MakesCalls (called between) (called after)) o seconds start p.note.message w ids e
     → IsLaterFault went came told is_error called before after o (ObservesNotes o seconds start) e
-unrendered went came told is_error called before between after o shown first now lines buffer noted seconds start n w (notes_error.Fault f) state p h = inr (record {
+unrendered went came told is_error called before between after o shown first now lines buffer noted seconds start n ids w (notes_error.Fault f) state p h = inr (record {
   at = between;
   latest = p.note;
   older = p.older;
   rendered = p.so_far.rendered;
+  succeeds = p.succeeds;
   w = w;
   watching = state_of_pending went came told o p.note (notes_of p.older) w noted.last state p.pending;
   further = h.0;
-  called_is = uncounted o seconds start (called before) n p.older (called between) p.called;
+  called_is = uncounted o seconds start (called before) n p.older (called between) p.called.0;
   fails = h.1;
 })
-unrendered went came told is_error called before between after o shown first now lines buffer noted seconds start n w notes_error.Unobserved state p h = h
-unrendered went came told is_error called before between after o shown first now lines buffer noted seconds start n w (notes_error.Print error) state p h =
-    unwritten went came told (called before) (called between) (called after) o shown first now lines buffer noted seconds start n w (λ r. has_line r ≡ true) state p
+unrendered went came told is_error called before between after o shown first now lines buffer noted seconds start n ids w notes_error.Unobserved state p h = h
+unrendered went came told is_error called before between after o shown first now lines buffer noted seconds start n ids w (notes_error.Print error) state p h =
+    unwritten went came told (called before) (called between) (called after) o shown first now lines buffer noted seconds start n ids w (λ r. has_line r ≡ true) state p
     (λ r bytes time line ends. lined_unsuperseded r bytes time line ends) h
-unrendered went came told is_error called before between after o shown first now lines buffer noted seconds start n w (notes_error.Report error) state p h =
-    unwritten went came told (called before) (called between) (called after) o shown first now lines buffer noted seconds start n w IsMissingState state p
+unrendered went came told is_error called before between after o shown first now lines buffer noted seconds start n ids w (notes_error.Report error) state p h =
+    unwritten went came told (called before) (called between) (called after) o shown first now lines buffer noted seconds start n ids w IsMissingState state p
     (λ r bytes time line ends. missing_unsuperseded r bytes time line ends) h
-unrendered went came told is_error called before between after o shown first now lines buffer noted seconds start n w (notes_error.Memory error) state p h = h
+unrendered went came told is_error called before between after o shown first now lines buffer noted seconds start n ids w (notes_error.Memory error) state p h = h
 
 -- memory for the first block can't be allocated
 pub unjoined : (went came : List ℕ → Type 0) (told : ℕ → Type 0) (is_error : PeerError → Type 0) (Makes : (List PeerCall → Type 0) → Type 0) (o : Observer) (seconds : Option ℕ) (start : ℕ)
-    (m : Message) (w : Observation) (f : FetchFault) → has_further m ≡ true → IsNoMemory f → IsRenderFault went came told is_error Makes o seconds start m w (notes_error.Fault f)
-unjoined went came told is_error Makes o seconds start m w fault.Silence further h = absurd h
-unjoined went came told is_error Makes o seconds start m w fault.Rejected further h = absurd h
-unjoined went came told is_error Makes o seconds start m w fault.Malformed further h = absurd h
-unjoined went came told is_error Makes o seconds start m w fault.Changed further h = absurd h
-unjoined went came told is_error Makes o seconds start m w fault.Part further h = absurd h
-unjoined went came told is_error Makes o seconds start m w (fault.Socket error) further h = absurd h
-unjoined went came told is_error Makes o seconds start m w (fault.Memory error) further h = (further, tt)
+    (m : Message) (w : Observation) (ids : ℕ) (f : FetchFault) → has_further m ≡ true → IsNoMemory f → IsRenderFault went came told is_error Makes o seconds start m w ids (notes_error.Fault f)
+unjoined went came told is_error Makes o seconds start m w ids fault.Silence further h = absurd h
+unjoined went came told is_error Makes o seconds start m w ids fault.Rejected further h = absurd h
+unjoined went came told is_error Makes o seconds start m w ids fault.Malformed further h = absurd h
+unjoined went came told is_error Makes o seconds start m w ids fault.Changed further h = absurd h
+unjoined went came told is_error Makes o seconds start m w ids fault.Part further h = absurd h
+unjoined went came told is_error Makes o seconds start m w ids (fault.Socket error) further h = absurd h
+unjoined went came told is_error Makes o seconds start m w ids (fault.Memory error) further h = (further, tt)
 
 -- the same since the registration
 stopped_since : (went came : List ℕ → Type 0) (told : ℕ → Type 0) (is_error : PeerError → Type 0) (before between after : Calls) (o : Observer) (seconds : Option ℕ) (start : ℕ) (f : FetchFault)
@@ -228,6 +229,7 @@ stopped_since went came told is_error before between after o seconds start fault
     latest = h.1.latest;
     older = h.1.older;
     rendered = h.1.rendered;
+    unsuperseded = h.1.unsuperseded;
     w = h.1.w;
     watching = h.1.watching;
     called = observed_until told o seconds start (h.1.latest ∷ h.1.older) h.1.w (λ x. x ≡ notice.Malformed) before between after one h.1.called;
@@ -238,6 +240,7 @@ stopped_since went came told is_error before between after o seconds start (faul
   latest = h.latest;
   older = h.older;
   rendered = h.rendered;
+  unsuperseded = h.unsuperseded;
   w = h.w;
   watching = h.watching;
   called = observed_until told o seconds start (h.latest ∷ h.older) h.w IsNewState before between after one h.called;
@@ -265,6 +268,7 @@ failed_since went came told is_error called before between after o seconds start
   latest = h.latest;
   older = h.older;
   rendered = h.rendered;
+  succeeds = h.succeeds;
   w = h.w;
   watching = h.watching;
   further = h.further;

@@ -29,8 +29,8 @@ use Rattle.fc_fetch.specs.declared.observer.ObservationEnd.TheVariants.{Counted,
 use Rattle.fc_fetch.specs.declared.printer.Shown.{Shown}
 use Rattle.fc_fetch.specs.declared.rendering.Rendered.{Rendered}
 use Rattle.fc_fetch.specs.declared.rendering.Rendered.TheVariants as rendered
-use Rattle.fc_fetch.specs.Observing.{EndsStateBy, EndsInTime, HasMessage, HasRendered, HasShown, IsBeforeNext, IsFirstState, IsLastPrinted, IsMissingState, IsNextNoted, IsPending, IsPendingAs, IsRenderedAs, IsRenderingOf, IsShowing, IsState, lines_wanted}
-use Rattle.fc_fetch.specs.Rendering.{Blocks, IsNewerNote, IsRendering, IsSuccessor, RenderedNote, Rendering, SucceedsNotes, Whole, Written, has_further, has_line, errors_text, lines_in, note_text, notes_of, notes_text, rendered_error, rendered_text}
+use Rattle.fc_fetch.specs.Observing.{BeginsWithState, EndsStateBy, EndsInTime, HasMessage, HasRendered, HasShown, IsAtFirst, IsBeforeNext, IsFirstState, IsLastPrinted, IsMissingState, IsNextNoted, IsPending, IsPendingAs, IsRenderedAs, IsRenderingOf, IsShowing, IsState, lines_wanted}
+use Rattle.fc_fetch.specs.Rendering.{BeginsAt, Blocks, IsNewerNote, IsRendering, IsSuccessor, RenderedNote, Rendering, SucceedsNotes, Whole, Written, has_further, has_line, errors_text, ids_after, is_superseded, lines_in, note_text, notes_of, notes_text, rendered_error, rendered_text}
 
 -- ---- whole messages
 
@@ -104,6 +104,12 @@ pub arrived_message : (went came : List ℕ → Type 0) (told : ℕ → Type 0) 
 arrived_message went came told token buffer old new None w = tt
 arrived_message went came told token buffer old new (Some noted) w = (w.0, (w.1.message, w.1.handled.read_is))
 
+-- each note before a state is a state
+oldest_state : (went came : List ℕ → Type 0) (told : ℕ → Type 0) (token : List ℕ) (id : ℕ) (latest : Note) (older : List Note) → AreNotes went came told token id (latest ∷ older)
+    → IsState (notice_of latest.message) → BeginsWithState (latest ∷ older)
+oldest_state went came told token id latest [] are state = state
+oldest_state went came told token id latest (n ∷ ns) are state = oldest_state went came told token id n ns are.0 (subst IsState (sym are.2.after.state) tt)
+
 -- ---- the end of a state
 
 -- the datagram that superseded it
@@ -141,17 +147,23 @@ missing_unlined (Blocks first w outcomes (Superseded b t)) h = refl
 missing_unlined (Blocks first w outcomes (Missing cause)) h = refl
 
 -- any note may follow
-pub line_is_free : (r : Rendering) (n : Note) → has_line r ≡ true → IsSuccessor r n
-line_is_free Whole n line = tt
-line_is_free (Blocks first w outcomes (Joined code body)) n line = tt
-line_is_free (Blocks first w outcomes (Superseded b t)) n line = absurd (cc line)
-line_is_free (Blocks first w outcomes (Missing cause)) n line = tt
+unsuperseded_is_free : (r : Rendering) (n : Note) → is_superseded r ≡ false → IsSuccessor r n
+unsuperseded_is_free Whole n h = tt
+unsuperseded_is_free (Blocks first w outcomes (Joined code body)) n h = tt
+unsuperseded_is_free (Blocks first w outcomes (Superseded b t)) n h = absurd (cc h)
+unsuperseded_is_free (Blocks first w outcomes (Missing cause)) n h = tt
 
-missing_is_free : (r : Rendering) (n : Note) → IsMissingState r → IsSuccessor r n
-missing_is_free Whole n h = tt
-missing_is_free (Blocks first w outcomes (Joined code body)) n h = tt
-missing_is_free (Blocks first w outcomes (Superseded b t)) n h = absurd (cc h.1)
-missing_is_free (Blocks first w outcomes (Missing cause)) n h = tt
+pub line_is_free : (r : Rendering) → has_line r ≡ true → is_superseded r ≡ false
+line_is_free Whole line = refl
+line_is_free (Blocks first w outcomes (Joined code body)) line = refl
+line_is_free (Blocks first w outcomes (Superseded b t)) line = absurd (cc line)
+line_is_free (Blocks first w outcomes (Missing cause)) line = refl
+
+missing_is_free : (r : Rendering) → IsMissingState r → is_superseded r ≡ false
+missing_is_free Whole h = refl
+missing_is_free (Blocks first w outcomes (Joined code body)) h = refl
+missing_is_free (Blocks first w outcomes (Superseded b t)) h = absurd (cc h.1)
+missing_is_free (Blocks first w outcomes (Missing cause)) h = refl
 
 -- or only the one that superseded the state
 succeeds_newer : (r : Rendering) (bytes : List ℕ) (time : ℕ) (n : Note) → EndsStateBy (Superseded bytes time) r → reading_of bytes ≡ Ok n.message → IsSuccessor r n
@@ -169,12 +181,12 @@ module _ (went came : List ℕ → Type 0) (told : ℕ → Type 0) (o : Observer
 
   -- one more note is rendered
   one_rendered : (now after : Written) (rs : List RenderedNote) (n : Note) (r : Rendering) → HasRendered went came told o shown before now rs → AreNotes went came told o.token o.id (n ∷ notes_of rs)
-      → IsRendering went came told o n (notes_of rs) r → SucceedsNotes rs n → Appends now.out after.out (rendered_text shown n.message r) → Appends now.err after.err (rendered_error r)
+      → IsRendering went came told o n (notes_of rs) r → SucceedsNotes rs n → BeginsAt (ids_after o rs) r → Appends now.out after.out (rendered_text shown n.message r) → Appends now.err after.err (rendered_error r)
       → HasRendered went came told o shown before after (record { note = n; rendering = r } ∷ rs)
-  one_rendered now after rs n r h are is succeeds text error = record {
+  one_rendered now after rs n r h are is succeeds begins text error = record {
     asked = h.asked;
     are = are;
-    rendered = (h.rendered, (is, succeeds));
+    rendered = (h.rendered, (is, (succeeds, begins)));
     printed = Appends-trans before.out now.out after.out (notes_text shown rs) (rendered_text shown n.message r) h.printed text;
     reported = Appends-trans before.err now.err after.err (errors_text rs) (rendered_error r) h.reported error;
   }
@@ -204,6 +216,7 @@ module _ (went came : List ℕ → Type 0) (told : ℕ → Type 0) (o : Observer
           within = within;
           read_is = next.read;
           pending = subst (IsPendingAs went came told o next.note (notes_of (s.latest ∷ s.older)) new) (sym is) (next.none refl);
+          begins = oldest_state went came told o.token o.id s.latest.note (notes_of s.older) s.watching.are (subst IsState (sym s.watching.state) tt);
           succeeds = succeeds next.note next.read;
           called = called;
         }
@@ -218,6 +231,7 @@ module _ (went came : List ℕ → Type 0) (told : ℕ → Type 0) (o : Observer
           within = within;
           read_is = next.read;
           pending = subst (IsPendingAs went came told o next.note (notes_of (s.latest ∷ s.older)) new) (sym is) (next.goes_on refl);
+          begins = oldest_state went came told o.token o.id s.latest.note (notes_of s.older) s.watching.are (subst IsState (sym s.watching.state) tt);
           succeeds = succeeds next.note next.read;
           called = called;
         }
@@ -241,19 +255,20 @@ module _ (went came : List ℕ → Type 0) (told : ℕ → Type 0) (o : Observer
       within = subst (λ (x : List ℕ). noted.count ≤ length x) (sym is) p.within;
       read_is = ap (λ (x : List ℕ). reading_of (take noted.count x)) is ∙ p.read_is;
       pending = subst (λ w. IsPendingAs went came told o p.note (notes_of p.older) w noted.last) (sym same) p.pending;
+      begins = p.begins;
       succeeds = p.succeeds;
       called = called;
     }
 
     -- the note that is awaited, or the one that has arrived already
-    pub arrived : (now : Written) (old new : Observation) (buffer later : List ℕ) (next noted : Option NotedMessage) → (next ≡ None → (r : RenderedNote) (rs : List RenderedNote) → Called (r ∷ rs) → Later (r ∷ rs))
+    pub arrived : (now : Written) (old new : Observation) (buffer later : List ℕ) (next noted : Option NotedMessage) → (next ≡ None → (r : RenderedNote) (rs : List RenderedNote) → is_superseded r.rendering ≡ false → Called (r ∷ rs) → Later (r ∷ rs))
         → ((n : NotedMessage) → next ≡ Some n → (rs : List RenderedNote) → Called rs → Later rs) → IsBeforeNext went came told Called o shown before now lines old buffer next
         → IsNextNoted went came told o.token old new buffer later next noted → IsBeforeNext went came told Later o shown before now lines new later noted
     arrived now old new buffer later None None awaits same b w =
-        let t = showing_by now lines old new w b.0 (awaits refl b.0.latest b.0.older b.0.called) in
-        (t.0, λ n. subst (λ x. IsSuccessor x.rendering n) (sym t.1) (b.1 n))
+        let t = showing_by now lines old new w b.0 (awaits refl b.0.latest b.0.older b.1 b.0.called) in
+        (t.0, ap (λ x. is_superseded x.rendering) t.1 ∙ b.1)
     arrived now old new buffer later None (Some noted) awaits same b w =
-        next_ready now later noted old new noted.last refl b.0 (λ n read. b.1 n) (awaits refl b.0.latest b.0.older b.0.called) w.0 w.1
+        next_ready now later noted old new noted.last refl b.0 (λ n read. unsuperseded_is_free b.0.latest.rendering n b.1) (awaits refl b.0.latest b.0.older b.1 b.0.called) w.0 w.1
     arrived now old new buffer later (Some next) noted awaits same b w =
         subst (IsBeforeNext went came told Later o shown before now lines new later) (sym w.0) (pending_by now old new buffer later next w.1.0 w.1.1 b (same next refl b.older b.called))
 
@@ -261,7 +276,7 @@ module _ (went came : List ℕ → Type 0) (told : ℕ → Type 0) (o : Observer
         → IsBeforeNext went came told Called o shown before now lines w buffer next → IsBeforeNext went came told Later o shown before now lines w buffer next
     before_by now w buffer None turns b =
         let t = showing_by now lines w w refl b.0 (turns (b.0.latest ∷ b.0.older) b.0.called) in
-        (t.0, λ n. subst (λ x. IsSuccessor x.rendering n) (sym t.1) (b.1 n))
+        (t.0, ap (λ x. is_superseded x.rendering) t.1 ∙ b.1)
     before_by now w buffer (Some noted) turns b = pending_by now w w buffer buffer noted refl refl b (turns b.older b.called)
 
     -- ---- its rendering
@@ -288,16 +303,16 @@ module _ (went came : List ℕ → Type 0) (told : ℕ → Type 0) (o : Observer
 
     -- a state was rendered
     showing : (now after : Written) (more : ℕ) (b : Bool) (w : Observation) (buffer : List ℕ) (noted : NotedMessage) (r : Rendering) → noted.last ≡ false → (p : Pends now w buffer noted)
-        → IsRenderingOf went came told o w p.note.message r
+        → IsRenderingOf went came told o w p.note.message r → BeginsAt (ids_after o p.older) r
         → ((bytes : List ℕ) (time : ℕ) → EndsStateBy (Superseded bytes time) r → IsNewerNote went came told o p.note (notes_of p.older) (Superseded bytes time))
         → Appends now.out after.out (rendered_text shown p.note.message r) → Appends now.err after.err (rendered_error r) → has_line r ≡ b → more ≡ lines + (if b then 1 else 0)
         → Later (record { note = p.note; rendering = r } ∷ p.older) → (s : Shows after more w) × (s.latest.rendering ≡ r)
-    showing now after more b w buffer noted r state p is newer text error line count called =
+    showing now after more b w buffer noted r state p is begins newer text error line count called =
         let watching = state_of_pending went came told o p.note (notes_of p.older) w noted.last state p.pending in (
           record {
             latest = record { note = p.note; rendering = r };
             older = p.older;
-            so_far = one_rendered now after p.older p.note r p.so_far p.are (is_rendering p.note (notes_of p.older) w r watching is newer) p.succeeds text error;
+            so_far = one_rendered now after p.older p.note r p.so_far p.are (is_rendering p.note (notes_of p.older) w r watching is newer) p.succeeds begins text error;
             watching = watching;
             count = lined p.older p.note r b line ∙ (ap (λ (x : ℕ). x + (if b then 1 else 0)) p.count ∙ sym count);
             called = called;
@@ -314,34 +329,38 @@ module _ (went came : List ℕ → Type 0) (told : ℕ → Type 0) (o : Observer
         let next = next_note went came told o.token o.id p.note (notes_of p.older) bytes time old new last watching x in
         (next.note, ap reading_of (same_bytes r bytes other time later ends h) ∙ next.read, next.are)
 
-    module _ (Makes : (List PeerCall → Type 0) → Type 0) (seconds : Option ℕ) (start : ℕ) (now after : Written) (buffer later : List ℕ) (noted : NotedMessage) (old new : Observation) where
+    module _ (Makes : (List PeerCall → Type 0) → Type 0) (seconds : Option ℕ) (start : ℕ) (now after : Written) (buffer later : List ℕ) (noted : NotedMessage) (old new : Observation) (ids next : ℕ) where
+      -- it begins at the next message ID
+      begins_after : (rs : List RenderedNote) (r : Rendering) → ids_after o rs ≡ ids → BeginsAt ids r → BeginsAt (ids_after o rs) r
+      begins_after rs r same begins = subst (λ (x : ℕ). BeginsAt x r) (sym same) begins
+
       abbrev Renders : Message → Rendered → Type 0
-      Renders m effect = IsRenderedAs went came told Makes o shown seconds start m now after old new later effect
+      Renders m effect = IsRenderedAs went came told Makes o shown seconds start m now after old new ids next later effect
 
       -- it has a line
-      pub one_line : noted.last ≡ false → (p : Pends now old buffer noted) → (r : Renders p.note.message rendered.Line) → Later (record { note = p.note; rendering = r.rendering } ∷ p.older)
+      pub one_line : noted.last ≡ false → (p : Pends now old buffer noted) → ids_after o p.older ≡ ids → (r : Renders p.note.message rendered.Line) → Later (record { note = p.note; rendering = r.rendering } ∷ p.older)
           → (s : Shows after (lines + 1) new) × (has_line s.latest.rendering ≡ true)
-      one_line state p r called =
-          let s = showing now after (lines + 1) true old buffer noted r.rendering state p r.is (λ bytes time h. absurd (lined_unsuperseded r.rendering bytes time r.effect_is.0 h)) r.text r.error
+      one_line state p same r called =
+          let s = showing now after (lines + 1) true old buffer noted r.rendering state p r.is (begins_after p.older r.rendering same r.begins) (λ bytes time h. absurd (lined_unsuperseded r.rendering bytes time r.effect_is.0 h)) r.text r.error
           r.effect_is.0 refl called in
           subst (λ w. (t : Shows after (lines + 1) w) × (has_line t.latest.rendering ≡ true)) (sym r.effect_is.1) (s.0, ap has_line s.1 ∙ r.effect_is.0)
 
       -- or none
-      pub goes_on_missing : noted.last ≡ false → (p : Pends now old buffer noted) → (r : Renders p.note.message rendered.Missing) → Later (record { note = p.note; rendering = r.rendering } ∷ p.older)
+      pub goes_on_missing : noted.last ≡ false → (p : Pends now old buffer noted) → ids_after o p.older ≡ ids → (r : Renders p.note.message rendered.Missing) → Later (record { note = p.note; rendering = r.rendering } ∷ p.older)
           → IsBeforeNext went came told Later o shown before after lines new later None × Shows after lines new
-      goes_on_missing state p r called =
+      goes_on_missing state p same r called =
           let none = missing_unlined r.rendering r.effect_is.0 in
-          let s = showing now after lines false old buffer noted r.rendering state p r.is (λ bytes time h. absurd (missing_unsuperseded r.rendering bytes time r.effect_is.0 h)) r.text r.error none
+          let s = showing now after lines false old buffer noted r.rendering state p r.is (begins_after p.older r.rendering same r.begins) (λ bytes time h. absurd (missing_unsuperseded r.rendering bytes time r.effect_is.0 h)) r.text r.error none
           (omega arith) called in
           subst (λ w. IsBeforeNext went came told Later o shown before after lines w later None × Shows after lines w) (sym r.effect_is.1)
-          ((s.0, λ n. subst (λ x. IsSuccessor x n) (sym s.1) (missing_is_free r.rendering n r.effect_is.0)), s.0)
+          ((s.0, ap is_superseded s.1 ∙ missing_is_free r.rendering r.effect_is.0), s.0)
 
       -- a newer notification arrived
       pub superseded : (bytes : List ℕ) (time : ℕ) (last : Bool) → noted.last ≡ false → (p : Pends now old buffer noted) → (r : Rendering) → IsRenderingOf went came told o old p.note.message r
-          → EndsStateBy (Superseded bytes time) r → IsNextNote went came told o.token bytes time old new last → Appends now.out after.out (rendered_text shown p.note.message r)
+          → BeginsAt (ids_after o p.older) r → EndsStateBy (Superseded bytes time) r → IsNextNote went came told o.token bytes time old new last → Appends now.out after.out (rendered_text shown p.note.message r)
           → Appends now.err after.err (rendered_error r) → Later (record { note = p.note; rendering = r } ∷ p.older) → (s : Shows after lines old) × (s.latest.rendering ≡ r)
-      superseded bytes time last state p r is ends x text error called =
-          showing now after lines false old buffer noted r state p is (λ other t h. newer_note now old new buffer noted r bytes other time t last state p ends x h) text error
+      superseded bytes time last state p r is begins ends x text error called =
+          showing now after lines false old buffer noted r state p is begins (λ other t h. newer_note now old new buffer noted r bytes other time t last state p ends x h) text error
           (superseded_unlined r bytes time ends) (omega arith) called
 
 -- the response to the registration is next
@@ -357,20 +376,22 @@ first_ready went came told Called o shown now buffer count time w called f = rec
   within = f.within;
   read_is = f.read_is;
   pending = f.watching;
+  begins = subst IsState (sym f.watching.state) tt;
   succeeds = tt;
   called = called;
 }
 
 -- the newer notification is next
 pub goes_on_newer : (went came : List ℕ → Type 0) (told : ℕ → Type 0) (o : Observer) (shown : Shown) (before : Written) (Called Later : List RenderedNote → Type 0) (lines : ℕ)
-    (Makes : (List PeerCall → Type 0) → Type 0) (seconds : Option ℕ) (start : ℕ) (now after : Written) (buffer later : List ℕ) (noted newer : NotedMessage) (old new : Observation) → noted.last ≡ false
-    → (p : IsPending went came told Called o shown before now lines old buffer noted)
-    → (r : IsRenderedAs went came told Makes o shown seconds start p.note.message now after old new later (rendered.Newer newer)) → Later (record { note = p.note; rendering = r.rendering } ∷ p.older)
+    (Makes : (List PeerCall → Type 0) → Type 0) (seconds : Option ℕ) (start : ℕ) (now after : Written) (buffer later : List ℕ) (noted newer : NotedMessage) (old new : Observation) (ids next : ℕ) → noted.last ≡ false
+    → (p : IsPending went came told Called o shown before now lines old buffer noted) → ids_after o p.older ≡ ids
+    → (r : IsRenderedAs went came told Makes o shown seconds start p.note.message now after old new ids next later (rendered.Newer newer)) → Later (record { note = p.note; rendering = r.rendering } ∷ p.older)
     → IsBeforeNext went came told Later o shown before after lines new later (Some newer) × IsShowing went came told Later o shown before after lines old
-goes_on_newer went came told o shown before Called Later lines Makes seconds start now after buffer later noted newer old new state p r called =
+goes_on_newer went came told o shown before Called Later lines Makes seconds start now after buffer later noted newer old new ids next state p same r called =
     let e = r.effect_is in
     let bytes = take newer.count later in
-    let s = superseded went came told o shown before Called Later lines Makes seconds start now after buffer later noted old new bytes newer.time newer.last state p r.rendering r.is e.0 e.1.1 r.text r.error
+    let s = superseded went came told o shown before Called Later lines Makes seconds start now after buffer later noted old new ids next bytes newer.time newer.last state p r.rendering r.is
+    (subst (λ (x : ℕ). BeginsAt x r.rendering) (sym same) r.begins) e.0 e.1.1 r.text r.error
     called in (
       next_ready went came told o shown before Later Later lines after later newer old new newer.last refl s.0
           (λ n read. subst (λ x. IsSuccessor x n) (sym s.1) (succeeds_newer r.rendering bytes newer.time n e.0 read)) s.0.called e.1.0 e.1.1,
@@ -404,7 +425,7 @@ IsBetween went came told Called o shown before now lines w buffer (Some noted) =
 
 pub between_ready : (went came : List ℕ → Type 0) (told : ℕ → Type 0) (Called : List RenderedNote → Type 0) (o : Observer) (shown : Shown) (before now : Written) (lines : ℕ) (w : Observation)
     (buffer : List ℕ) (next : Option NotedMessage) → IsBetween went came told Called o shown before now lines w buffer next → IsBeforeNext went came told Called o shown before now lines w buffer next
-between_ready went came told Called o shown before now lines w buffer None b = (b.0, λ n. line_is_free b.0.latest.rendering n b.1)
+between_ready went came told Called o shown before now lines w buffer None b = (b.0, line_is_free b.0.latest.rendering b.1)
 between_ready went came told Called o shown before now lines w buffer (Some noted) b = b.1
 
 pub between_shown : (went came : List ℕ → Type 0) (told : ℕ → Type 0) (Called Later : List RenderedNote → Type 0) (o : Observer) (shown : Shown) (before now : Written) (lines limit : ℕ)
@@ -434,7 +455,7 @@ last_shown went came told Called Later o shown before now after lines w buffer n
     record {
       latest = record { note = p.note; rendering = Whole };
       older = p.older;
-      so_far = one_rendered went came told o shown before now after p.older p.note Whole p.so_far p.are (last_is_whole p.note.message is) p.succeeds printed.1
+      so_far = one_rendered went came told o shown before now after p.older p.note Whole p.so_far p.are (last_is_whole p.note.message is) p.succeeds tt printed.1
           (subst (λ e. Appends now.err e []) (sym same) (Appends-nil now.err));
       ends = (omega (arith, count, fewer), (printed.0, (is, refl)));
       called = called code;
@@ -458,17 +479,17 @@ first_shown went came told o buffer count m at w within registered read time sta
 pub only_shown : (went came : List ℕ → Type 0) (told : ℕ → Type 0) (o : Observer) (shown : Shown) (bytes : List ℕ) (before after : Option (List ℕ)) (m : Message) (at : ℕ) (code : Code)
     → IsRegistered went came o bytes → reading_of bytes ≡ Ok m → told at → notice_of m ≡ notice.Last → code.byte ≡ m.code → Appends before after (note_text shown m.code m.payload)
     → (limit : ℕ) (err : Option (List ℕ)) → 1 ≤ limit
-    → HasShown went came told (λ rs. Unit {0}) o shown limit (record { out = before; err = err }) (record { out = after; err = err }) (Last code)
+    → HasShown went came told (IsAtFirst (Last code)) o shown limit (record { out = before; err = err }) (record { out = after; err = err }) (Last code)
 only_shown went came told o shown bytes before after m at code registered read time last same appends limit err some =
     let n : Note = record { message = m; at = at } in
     record {
       latest = record { note = n; rendering = Whole };
       older = [];
       so_far = one_rendered went came told o shown (record { out = before; err = err }) (record { out = before; err = err }) (record { out = after; err = err }) [] n Whole
-          (nothing_rendered went came told o shown (record { out = before; err = err }) registered.asked) (only_note went came told o bytes m at registered read time last) (last_is_whole m last) tt
+          (nothing_rendered went came told o shown (record { out = before; err = err }) registered.asked) (only_note went came told o bytes m at registered read time last) (last_is_whole m last) tt tt
           appends (Appends-nil err);
       ends = (some, (sym same, (last, refl)));
-      called = tt;
+      called = last;
     }
 
 -- some line is wanted

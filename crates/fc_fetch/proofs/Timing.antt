@@ -6,7 +6,7 @@ use Rattle.coap_client.specs.Faults.{EndsOnNotification}
 use Rattle.coap_client.specs.Listening.{ArePassedOver, IsOver}
 use Rattle.coap_client.specs.ObserverCalls.{AwaitsNotification, Dated, IsDatedRegistration, IsObserving, IsRegistration, IsPassedOverWatching}
 use Rattle.coap_client.specs.PeerCalls.{Adds, PeerCall, Reads, Receives, Waits}
-use Rattle.coap_client.specs.Completions.{BlockOutcome, IsFollowing, StateEnd}
+use Rattle.coap_client.specs.Completions.{BlockOutcome, IsFollowing, Joined, Missing, StateEnd, Superseded}
 use Rattle.coap_client.specs.Fetching.{State}
 use Rattle.coap_client.specs.Notes.{Note}
 use Rattle.coap_client.specs.Schedules.{is_scheduled, schedule}
@@ -22,8 +22,8 @@ use Rattle.fc_fetch.specs.declared.observer.ObservationEnd.TheVariants.{Counted,
 use Rattle.coap_msg.specs.declared.code.Code.{Code}
 use Rattle.fc_fetch.specs.declared.rendering.Rendered.{Rendered}
 use Rattle.fc_fetch.specs.declared.rendering.Rendered.TheVariants as rendered
-use Rattle.fc_fetch.specs.Observing.{AwaitsNote, BeginsRest, EndsStateBy, EndsInTime, EndsNotes, IsAwaitedIn, IsAwaiting, IsObservedSoFar, IsOverAtLast, IsOverAtRest, IsOverBy, IsOverIn, IsRenderedBy, IsStateRequested, IsTimedObservation, IsTimeOver, IsWaitedFor, ObservesNotes, first_wait, is_day, rest_wait}
-use Rattle.fc_fetch.specs.Rendering.{AreWhole, Blocks, RenderedNote, Rendering, Whole}
+use Rattle.fc_fetch.specs.Observing.{AwaitsNote, BeginsRest, BeginsWithState, EndsStateBy, EndsInTime, EndsNotes, IsAtFirst, IsAwaitedIn, IsAwaiting, IsAwaitingAfter, IsObservedSoFar, IsOverAtLast, IsOverAtRest, IsOverBy, IsOverIn, IsRenderedBy, IsStateRequested, IsTimedObservation, IsTimeOver, IsWaitedFor, ObservesNotes, first_wait, is_day, rest_wait}
+use Rattle.fc_fetch.specs.Rendering.{AreWhole, Blocks, RenderedNote, Rendering, Whole, is_superseded, notes_of}
 
 schedule_of : (newer older : List PeerCall) → schedule (newer ++ older) ≡ schedule newer ++ schedule older
 schedule_of newer older = filter-append is_scheduled newer older
@@ -147,24 +147,39 @@ both_awaited token ends newer older a b =
 pub is_awaiting : (token : List ℕ) (ends none : Bool) (seconds : Option ℕ) (calls : List PeerCall) → ends ≡ is_some seconds → AwaitsNote token ends none calls → IsAwaiting token (is_some seconds) calls
 is_awaiting token ends none seconds calls is a = record { observing = a.observing; awaited = subst (λ x. IsAwaitedIn x calls) is a.awaited }
 
+-- nothing is called after any note, or some notifications are awaited
+nothing_after : (o : Observer) (seconds : Option ℕ) (r : Rendering) → IsAwaitingAfter o seconds r []
+nothing_after o seconds Whole = nothing_awaited o.token (is_some seconds)
+nothing_after o seconds (Blocks first w outcomes (Joined code body)) = nothing_awaited o.token (is_some seconds)
+nothing_after o seconds (Blocks first w outcomes (Superseded bytes time)) = refl
+nothing_after o seconds (Blocks first w outcomes (Missing cause)) = nothing_awaited o.token (is_some seconds)
+
+more_after : (o : Observer) (seconds : Option ℕ) (r : Rendering) (newer older : List PeerCall) → is_superseded r ≡ false → IsAwaiting o.token (is_some seconds) newer
+    → IsAwaitingAfter o seconds r older → IsAwaitingAfter o seconds r (newer ++ older)
+more_after o seconds Whole newer older free a b = both_awaited o.token (is_some seconds) newer older a b
+more_after o seconds (Blocks first w outcomes (Joined code body)) newer older free a b = both_awaited o.token (is_some seconds) newer older a b
+more_after o seconds (Blocks first w outcomes (Superseded bytes time)) newer older free a b = absurd (cc free)
+more_after o seconds (Blocks first w outcomes (Missing cause)) newer older free a b = both_awaited o.token (is_some seconds) newer older a b
+
 -- notifications are awaited after the latest note
-awaits_more : (o : Observer) (seconds : Option ℕ) (start : ℕ) (r : RenderedNote) (rs : List RenderedNote) (newer older : List PeerCall) → IsAwaiting o.token (is_some seconds) newer
+awaits_more : (o : Observer) (seconds : Option ℕ) (start : ℕ) (r : RenderedNote) (rs : List RenderedNote) (newer older : List PeerCall) → is_superseded r.rendering ≡ false → IsAwaiting o.token (is_some seconds) newer
     → ObservesNotes o seconds start (r ∷ rs) older → ObservesNotes o seconds start (r ∷ rs) (newer ++ older)
-awaits_more o seconds start r rs newer older a b = record {
+awaits_more o seconds start r rs newer older free a b = record {
+  begins = b.begins;
   older = b.older;
   before = b.before;
   own = b.own;
   rendered = b.rendered;
   handled = newer ++ b.handled;
-  awaited = both_awaited o.token (is_some seconds) newer b.handled a b.awaited;
+  awaited = more_after o seconds r.rendering newer b.handled free a b.awaited;
   is = ap (λ (x : List PeerCall). newer ++ x) b.is ∙ sym (append_assoc newer b.handled (b.own ++ b.older));
 }
 
 -- or one more note is rendered
 renders_more : (o : Observer) (seconds : Option ℕ) (start : ℕ) (r : RenderedNote) (rs : List RenderedNote) (newer older : List PeerCall)
-    → IsRenderedBy o seconds start r.note.message r.rendering newer → ObservesNotes o seconds start rs older → ObservesNotes o seconds start (r ∷ rs) (newer ++ older)
-renders_more o seconds start r rs newer older a b =
-    record { older = older; before = b; own = newer; rendered = a; handled = []; awaited = nothing_awaited o.token (is_some seconds); is = refl }
+    → BeginsWithState (r.note ∷ notes_of rs) → IsRenderedBy o seconds start r.note.message r.rendering newer → ObservesNotes o seconds start rs older → ObservesNotes o seconds start (r ∷ rs) (newer ++ older)
+renders_more o seconds start r rs newer older begins a b =
+    record { begins = begins; older = older; before = b; own = newer; rendered = a; handled = []; awaited = nothing_after o seconds r.rendering; is = refl }
 
 few_scheduled : (calls : List PeerCall) → length (schedule calls) ≤ length calls
 few_scheduled [] = omega arith
@@ -183,8 +198,8 @@ more_counted n newer older many = let all = ap length (schedule_of newer older) 
 
 -- the next note is awaited, after the notes so far
 pub notes_awaiting : (o : Observer) (seconds : Option ℕ) (start n : ℕ) (ends none : Bool) (r : RenderedNote) (rs : List RenderedNote) (newer older : List PeerCall) → ends ≡ is_some seconds
-    → HasCounted o seconds start n (r ∷ rs) older → AwaitsNote o.token ends none newer → ObservesNotes o seconds start (r ∷ rs) (newer ++ older)
-notes_awaiting o seconds start n ends none r rs newer older is a b = awaits_more o seconds start r rs newer older (is_awaiting o.token ends none seconds newer is b) a.observed
+    → is_superseded r.rendering ≡ false → HasCounted o seconds start n (r ∷ rs) older → AwaitsNote o.token ends none newer → ObservesNotes o seconds start (r ∷ rs) (newer ++ older)
+notes_awaiting o seconds start n ends none r rs newer older is free a b = awaits_more o seconds start r rs newer older free (is_awaiting o.token ends none seconds newer is b) a.observed
 
 module _ (o : Observer) (seconds : Option ℕ) (start : ℕ) (before : Calls) where
   pub counts_nothing : (rs : List RenderedNote) (after : Calls) → MakesCalls before after (ObservesNotes o seconds start rs) → MakesCalls before after (HasCounted o seconds start 0 rs)
@@ -203,29 +218,31 @@ module _ (o : Observer) (seconds : Option ℕ) (start : ℕ) (before : Calls) wh
 
   -- or it is awaited
   pub counts_awaiting : (n : ℕ) (ends none : Bool) (r : RenderedNote) (rs : List RenderedNote) (between after : Calls) → ends ≡ is_some seconds
-      → MakesCalls before between (HasCounted o seconds start n (r ∷ rs)) → MakesCalls between after (AwaitsNote o.token ends none)
+      → is_superseded r.rendering ≡ false → MakesCalls before between (HasCounted o seconds start n (r ∷ rs)) → MakesCalls between after (AwaitsNote o.token ends none)
       → MakesCalls before after (HasCounted o seconds start n (r ∷ rs))
-  counts_awaiting n ends none r rs between after is one other =
+  counts_awaiting n ends none r rs between after is free one other =
       does_both before between after (HasCounted o seconds start n (r ∷ rs)) (AwaitsNote o.token ends none) (HasCounted o seconds start n (r ∷ rs)) one other
       (λ older newer a b. record {
-        observed = awaits_more o seconds start r rs newer older (is_awaiting o.token ends none seconds newer is b) a.observed;
+        observed = awaits_more o seconds start r rs newer older free (is_awaiting o.token ends none seconds newer is b) a.observed;
         many = more_counted n newer older a.many;
       })
 
   -- it has a line
-  pub line_observed : (effect : Rendered) (n : ℕ) (r : RenderedNote) (rs : List RenderedNote) (between after : Calls) → MakesCalls before between (HasCounted o seconds start n rs)
+  pub line_observed : (effect : Rendered) (n : ℕ) (r : RenderedNote) (rs : List RenderedNote) (between after : Calls) → BeginsWithState (r.note ∷ notes_of rs)
+      → MakesCalls before between (HasCounted o seconds start n rs)
       → MakesCalls between after (λ calls. IsRenderedBy o seconds start r.note.message r.rendering calls × IsOverBy effect calls)
       → MakesCalls before after (ObservesNotes o seconds start (r ∷ rs))
-  line_observed effect n r rs between after one other =
+  line_observed effect n r rs between after begins one other =
       does_both before between after (HasCounted o seconds start n rs) (λ calls. IsRenderedBy o seconds start r.note.message r.rendering calls × IsOverBy effect calls)
-      (ObservesNotes o seconds start (r ∷ rs)) one other (λ older newer a b. renders_more o seconds start r rs newer older b.0 a.observed)
+      (ObservesNotes o seconds start (r ∷ rs)) one other (λ older newer a b. renders_more o seconds start r rs newer older begins b.0 a.observed)
 
   -- or its line can't be written
-  pub line_unwritten : (n : ℕ) (r : RenderedNote) (rs : List RenderedNote) (between after : Calls) → MakesCalls before between (HasCounted o seconds start n rs)
+  pub line_unwritten : (n : ℕ) (r : RenderedNote) (rs : List RenderedNote) (between after : Calls) → BeginsWithState (r.note ∷ notes_of rs)
+      → MakesCalls before between (HasCounted o seconds start n rs)
       → MakesCalls between after (IsRenderedBy o seconds start r.note.message r.rendering) → MakesCalls before after (ObservesNotes o seconds start (r ∷ rs))
-  line_unwritten n r rs between after one other =
+  line_unwritten n r rs between after begins one other =
       does_both before between after (HasCounted o seconds start n rs) (IsRenderedBy o seconds start r.note.message r.rendering) (ObservesNotes o seconds start (r ∷ rs)) one other
-      (λ older newer a b. renders_more o seconds start r rs newer older b a.observed)
+      (λ older newer a b. renders_more o seconds start r rs newer older begins b a.observed)
 
   -- a state of several blocks counts one wait
   one_wait : (n : ℕ) (end : StateEnd) (r : RenderedNote) (newer older : List PeerCall) → EndsStateBy end r.rendering → IsRenderedBy o seconds start r.note.message r.rendering newer
@@ -240,23 +257,25 @@ module _ (o : Observer) (seconds : Option ℕ) (start : ℕ) (before : Calls) wh
           omega (arith, many, own, all)
 
   pub counts_more : (effect : Rendered) (n : ℕ) (end : StateEnd) (r : RenderedNote) (rs : List RenderedNote) (between after : Calls) → EndsStateBy end r.rendering
+      → BeginsWithState (r.note ∷ notes_of rs)
       → MakesCalls before between (HasCounted o seconds start n rs)
       → MakesCalls between after (λ calls. IsRenderedBy o seconds start r.note.message r.rendering calls × IsOverBy effect calls)
       → MakesCalls before after (HasCounted o seconds start (n + 1) (r ∷ rs))
-  counts_more effect n end r rs between after ends one other =
+  counts_more effect n end r rs between after ends begins one other =
       does_both before between after (HasCounted o seconds start n rs) (λ calls. IsRenderedBy o seconds start r.note.message r.rendering calls × IsOverBy effect calls)
       (HasCounted o seconds start (n + 1) (r ∷ rs)) one other
-      (λ older newer a b. record { observed = renders_more o seconds start r rs newer older b.0 a.observed; many = one_wait n end r newer older ends b.0 a.many })
+      (λ older newer a b. record { observed = renders_more o seconds start r rs newer older begins b.0 a.observed; many = one_wait n end r newer older ends b.0 a.many })
 
   -- no time is left after it
   pub over_at_rest : (n : ℕ) (end : StateEnd) (r : RenderedNote) (rs : List RenderedNote) (between after : Calls) → EndsStateBy end r.rendering
+      → BeginsWithState (r.note ∷ notes_of rs)
       → MakesCalls before between (HasCounted o seconds start n rs)
       → MakesCalls between after (λ calls. IsRenderedBy o seconds start r.note.message r.rendering calls × IsOverBy rendered.Over calls)
       → MakesCalls before after (EndsNotes o seconds start Over (r ∷ rs))
-  over_at_rest n end r rs between after ends one other =
+  over_at_rest n end r rs between after ends begins one other =
       does_both before between after (HasCounted o seconds start n rs) (λ calls. IsRenderedBy o seconds start r.note.message r.rendering calls × IsOverBy rendered.Over calls)
       (EndsNotes o seconds start Over (r ∷ rs)) one other
-      (λ older newer a b. (renders_more o seconds start r rs newer older b.0 a.observed, rest_over r.rendering newer older ends b.0 b.1))
+      (λ older newer a b. (renders_more o seconds start r rs newer older begins b.0 a.observed, rest_over r.rendering newer older ends b.0 b.1))
     where
       waits_of : List PeerCall → ℕ
       waits_of (Waits seconds ∷ calls) = seconds
@@ -292,11 +311,11 @@ over_by_number None n calls full many = omega (arith, full, many)
 
 module _ (o : Observer) (seconds : Option ℕ) (start : ℕ) (before : Calls) where
   pub over_awaiting : (n : ℕ) (ends : Bool) (r : RenderedNote) (rs : List RenderedNote) (between after : Calls) → ends ≡ is_some seconds
-      → MakesCalls before between (HasCounted o seconds start n (r ∷ rs)) → MakesCalls between after (AwaitsNote o.token ends true)
+      → is_superseded r.rendering ≡ false → MakesCalls before between (HasCounted o seconds start n (r ∷ rs)) → MakesCalls between after (AwaitsNote o.token ends true)
       → MakesCalls before after (EndsNotes o seconds start Over (r ∷ rs))
-  over_awaiting n ends r rs between after is one other =
+  over_awaiting n ends r rs between after is free one other =
       does_both before between after (HasCounted o seconds start n (r ∷ rs)) (AwaitsNote o.token ends true) (EndsNotes o seconds start Over (r ∷ rs)) one other
-      (λ older newer a b. (awaits_more o seconds start r rs newer older (is_awaiting o.token ends true seconds newer is b) a.observed, time_over seconds ends newer older is (b.over refl)))
+      (λ older newer a b. (awaits_more o seconds start r rs newer older free (is_awaiting o.token ends true seconds newer is b) a.observed, time_over seconds ends newer older is (b.over refl)))
 
   pub over_counted : (n : ℕ) (rs : List RenderedNote) (after : Calls) → 2 ^ 64 ≤ n + 1 → MakesCalls before after (HasCounted o seconds start n rs)
       → MakesCalls before after (EndsNotes o seconds start Over rs)
@@ -304,18 +323,18 @@ module _ (o : Observer) (seconds : Option ℕ) (start : ℕ) (before : Calls) wh
       does_of before after (HasCounted o seconds start n rs) (EndsNotes o seconds start Over rs) one (λ calls h. (h.observed, over_by_number seconds n calls full h.many))
 
   -- the last note is whole
-  pub last_observed : (n : ℕ) (code : Code) (note : Note) (rs : List RenderedNote) (after : Calls) → MakesCalls before after (HasCounted o seconds start n rs)
+  pub last_observed : (n : ℕ) (code : Code) (note : Note) (rs : List RenderedNote) (after : Calls) → BeginsWithState (note ∷ notes_of rs) → MakesCalls before after (HasCounted o seconds start n rs)
       → MakesCalls before after (EndsNotes o seconds start (Last code) (record { note = note; rendering = Whole } ∷ rs))
-  last_observed n code note rs after one =
+  last_observed n code note rs after begins one =
       does_of before after (HasCounted o seconds start n rs) (EndsNotes o seconds start (Last code) (record { note = note; rendering = Whole } ∷ rs)) one
-      (λ calls h. (renders_more o seconds start (record { note = note; rendering = Whole }) rs [] calls refl h.observed, tt))
+      (λ calls h. (renders_more o seconds start (record { note = note; rendering = Whole }) rs [] calls begins refl h.observed, tt))
 
   -- a whole note that can't be printed
-  pub whole_observed : (n : ℕ) (note : Note) (rs : List RenderedNote) (after : Calls) → MakesCalls before after (HasCounted o seconds start n rs)
+  pub whole_observed : (n : ℕ) (note : Note) (rs : List RenderedNote) (after : Calls) → BeginsWithState (note ∷ notes_of rs) → MakesCalls before after (HasCounted o seconds start n rs)
       → MakesCalls before after (ObservesNotes o seconds start (record { note = note; rendering = Whole } ∷ rs))
-  whole_observed n note rs after one =
+  whole_observed n note rs after begins one =
       does_of before after (HasCounted o seconds start n rs) (ObservesNotes o seconds start (record { note = note; rendering = Whole } ∷ rs)) one
-      (λ calls h. renders_more o seconds start (record { note = note; rendering = Whole }) rs [] calls refl h.observed)
+      (λ calls h. renders_more o seconds start (record { note = note; rendering = Whole }) rs [] calls begins refl h.observed)
 
 -- ---- the calls for one state
 
@@ -425,11 +444,11 @@ observed_until told o seconds start rs w P before between after one other =
     })
 
 -- or the first response is the last
-pub ends_at_first : (o : Observer) (seconds : Option ℕ) (code : Code) (rs : List RenderedNote) (before after : Calls) → MakesCalls before after (IsDatedRegistration o)
+pub ends_at_first : (o : Observer) (seconds : Option ℕ) (code : Code) (rs : List RenderedNote) (before after : Calls) → IsAtFirst (Last code) rs → MakesCalls before after (IsDatedRegistration o)
     → MakesCalls before after (IsTimedObservation o seconds (Last code) rs)
-ends_at_first o seconds code rs before after one =
+ends_at_first o seconds code rs before after only one =
     does_of before after (IsDatedRegistration o) (IsTimedObservation o seconds (Last code) rs) one
-    (λ calls a. record { older = calls; registered = a; newer = []; waited = inl (tt, refl); ends = tt; is = refl })
+    (λ calls a. record { older = calls; registered = a; newer = []; waited = inl (only, refl); ends = tt; is = refl })
 
 -- ---- the waits in the schedule
 
@@ -439,7 +458,7 @@ whole_wait o seconds start [] calls whole h = subst (IsAwaitedIn (is_some second
 whole_wait o seconds start (r ∷ rs) calls whole h =
     let own : h.own ≡ [] = subst (λ x. IsRenderedBy o seconds start r.note.message x h.own) whole.1 h.rendered in
     let before = whole_wait o seconds start rs h.older whole.0 h.before in
-    subst (IsAwaitedIn (is_some seconds)) (sym (h.is ∙ ap (λ (x : List PeerCall). h.handled ++ (x ++ h.older)) own)) (awaited_on (is_some seconds) h.handled h.older h.awaited.awaited before)
+    subst (IsAwaitedIn (is_some seconds)) (sym (h.is ∙ ap (λ (x : List PeerCall). h.handled ++ (x ++ h.older)) own)) (awaited_on (is_some seconds) h.handled h.older (subst (λ x. IsAwaitingAfter o seconds x h.handled) whole.1 h.awaited).awaited before)
 
 pub lasts_seconds : (o : Observer) (seconds start : ℕ) (rs : List RenderedNote) (calls : List PeerCall) → AreWhole rs → IsWaitedFor o (Some seconds) start rs calls
     → schedule calls ≡ Waits seconds ∷ []

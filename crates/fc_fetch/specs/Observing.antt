@@ -49,7 +49,7 @@ use Rattle.fc_fetch.specs.declared.rendering.Rendered.{Rendered}
 use Rattle.fc_fetch.specs.declared.rendering.Rendered.TheVariants as rendered
 use Rattle.coap_client.specs.Replies.{is_success}
 use Rattle.fc_fetch.specs.Fetching.{HasResource, HasStopped, IsTargetStop, IsUnconnected, ended_line}
-use Rattle.fc_fetch.specs.Rendering.{AreRendered, Blocks, IsSuccessor, RenderedNote, Rendering, SucceedsNotes, Whole, Written, errors_text, has_further, has_line, lines_in, note_text, notes_of, notes_text, rendered_error, rendered_text}
+use Rattle.fc_fetch.specs.Rendering.{AreRendered, BeginsAt, Blocks, RenderedNote, Rendering, SucceedsNotes, Whole, Written, errors_text, has_further, has_line, id_after_note, ids_after, is_superseded, lines_in, note_text, notes_of, notes_text, rendered_error, rendered_text}
 
 -- the maximum number of lines: the number wanted, or one if that is 0; without a number, 2^64 - 1.
 abbrev pub lines_wanted : Option ℕ → ℕ
@@ -113,20 +113,34 @@ abbrev pub IsRenderedBy : Observer → Option ℕ → ℕ → Message → Render
 IsRenderedBy o seconds start m Whole calls = calls ≡ []
 IsRenderedBy o seconds start m (Blocks first w outcomes end) calls = IsStateRequested o seconds start first (begun m) outcomes end calls
 
--- after these calls one more note is rendered, and then notifications are awaited.
-pub record IsOneMoreNote (Before : List PeerCall → Type 0) (o : Observer) (seconds : Option ℕ) (start : ℕ) (r : RenderedNote) (calls : List PeerCall) : Type 0 where
+-- after a note has such a rendering, notifications are awaited. Nothing is called after a superseded
+-- state, since the next note has arrived already.
+abbrev pub IsAwaitingAfter : Observer → Option ℕ → Rendering → List PeerCall → Type 0
+IsAwaitingAfter o seconds (Blocks first w outcomes (Superseded bytes time)) calls = calls ≡ []
+IsAwaitingAfter o seconds other calls = IsAwaiting o.token (is_some seconds) calls
+
+-- the oldest of these notes, the response to the registration, is a state.
+abbrev pub BeginsWithState : List Note → Type 0
+BeginsWithState [] = Unit {0}
+BeginsWithState (n ∷ []) = IsState (notice_of n.message)
+BeginsWithState (n ∷ m ∷ older) = BeginsWithState (m ∷ older)
+
+-- after the calls for the earlier notes one more note is rendered, and then notifications are
+-- awaited.
+pub record IsOneMoreNote (Before : List PeerCall → Type 0) (earlier : List RenderedNote) (o : Observer) (seconds : Option ℕ) (start : ℕ) (r : RenderedNote) (calls : List PeerCall) : Type 0 where
+  pub begins : BeginsWithState (r.note ∷ notes_of earlier)
   pub older : List PeerCall
   pub before : Before older
   pub own : List PeerCall
   pub rendered : IsRenderedBy o seconds start r.note.message r.rendering own
   pub handled : List PeerCall
-  pub awaited : IsAwaiting o.token (is_some seconds) handled
+  pub awaited : IsAwaitingAfter o seconds r.rendering handled
   pub is : calls ≡ handled ++ (own ++ older)
 
 -- these notes are rendered, and after each of them notifications are awaited.
 abbrev pub ObservesNotes : Observer → Option ℕ → ℕ → List RenderedNote → List PeerCall → Type 0
 ObservesNotes o seconds start [] calls = calls ≡ []
-ObservesNotes o seconds start (r ∷ rs) calls = IsOneMoreNote (ObservesNotes o seconds start rs) o seconds start r calls
+ObservesNotes o seconds start (r ∷ rs) calls = IsOneMoreNote (ObservesNotes o seconds start rs) rs o seconds start r calls
 
 -- the first wait is begun, and then these notes are observed.
 pub record IsWaitedFor (o : Observer) (seconds : Option ℕ) (start : ℕ) (rs : List RenderedNote) (calls : List PeerCall) : Type 0 where
@@ -152,18 +166,18 @@ abbrev pub EndsInTime : Option ℕ → ObservationEnd → List PeerCall → Type
 EndsInTime seconds Over calls = IsTimeOver seconds calls
 EndsInTime seconds other calls = Unit {0}
 
--- the response to the registration is the last.
-abbrev pub IsAtFirst : ObservationEnd → Type 0
-IsAtFirst (Last code) = Unit {0}
-IsAtFirst other = ⊥
+-- the response to the registration is the last, and the only note.
+abbrev pub IsAtFirst : ObservationEnd → List RenderedNote → Type 0
+IsAtFirst (Last code) (r ∷ []) = notice_of r.note.message ≡ notice.Last
+IsAtFirst end rs = ⊥
 
--- the observer registers, and observes these notes for that time; nothing is called after a first
--- response that is the last.
+-- the observer registers. If the response is a state, it observes these notes for that time; nothing
+-- is called after a first response that is the last.
 pub record IsTimedObservation (o : Observer) (seconds : Option ℕ) (end : ObservationEnd) (rs : List RenderedNote) (calls : List PeerCall) : Type 0 where
   pub older : List PeerCall
   pub registered : IsDatedRegistration o older
   pub newer : List PeerCall
-  pub waited : (IsAtFirst end × (newer ≡ [])) ⊎ IsWaitedFor o seconds registered.time rs newer
+  pub waited : (IsAtFirst end rs × (newer ≡ [])) ⊎ IsWaitedFor o seconds registered.time rs newer
   pub ends : EndsInTime seconds end newer
   pub is : calls ≡ newer ++ older
 
@@ -311,12 +325,13 @@ IsAwaitFault came told is_error Makes o ends w (fault.Socket error) = is_error e
 IsAwaitFault came told is_error Makes o ends w other = ⊥
 
 -- the notes so far were rendered with such calls, and then a notification came last that has this
--- classification.
+-- classification. No other notification is left, since none superseded the latest state.
 pub record IsStoppedBy (went came : List ℕ → Type 0) (told : ℕ → Type 0) (Makes : (List PeerCall → Type 0) → Type 0) (o : Observer) (SoFar : List RenderedNote → List PeerCall → Type 0)
     (P : NotificationClass → Type 0) : Type 0 where
   pub latest : RenderedNote
   pub older : List RenderedNote
   pub rendered : AreRendered went came told o (latest ∷ older)
+  pub unsuperseded : is_superseded latest.rendering ≡ false
   pub w : Observation
   pub watching : IsWatching went came told o.token o.id latest.note (notes_of older) w
   pub called : Makes (AreBehind (SoFar (latest ∷ older)) (EndsOnNotification told o.token w P))
@@ -358,13 +373,15 @@ IsStoppedWaiting went came told is_error Makes o SoFar (fault.Socket error) = is
 IsStoppedWaiting went came told is_error Makes o SoFar other = ⊥
 
 -- the requests for the further blocks of the latest note failed, or memory for its first block
--- can't be allocated. They were begun in some state of the peer, after the notes before.
+-- can't be allocated. They were begun in some state of the peer, after the notes before. If the note
+-- before was superseded, the latest note is the one that superseded it.
 pub record IsStoppedJoining {S : Type 0} (went came : List ℕ → Type 0) (told : ℕ → Type 0) (is_error : PeerError → Type 0) (called : S → List PeerCall → Type 0) (before : S) (o : Observer)
     (SoFar : List RenderedNote → List PeerCall → Type 0) (f : FetchFault) : Type 0 where
   pub at : S
   pub latest : Note
   pub older : List RenderedNote
   pub rendered : AreRendered went came told o older
+  pub succeeds : SucceedsNotes older latest
   pub w : Observation
   pub watching : IsWatching went came told o.token o.id latest (notes_of older) w
   pub further : has_further latest.message ≡ true
@@ -482,6 +499,10 @@ IsObserveStop connected drawn went came tried told is_error called observing oth
 
 -- ---- steps
 
+-- such calls were made for these notes, and this is the next message ID for a further block.
+abbrev pub HasCalled : ((List PeerCall → Type 0) → Type 0) → Observer → ℕ → (List RenderedNote → List PeerCall → Type 0) → List RenderedNote → Type 0
+HasCalled Makes o next Calls rs = Makes (Calls rs) × (ids_after o rs ≡ next)
+
 -- the notes so far were rendered, with this number of lines, and the watch has them. The calls for
 -- them were made.
 pub record IsShowing (went came : List ℕ → Type 0) (told : ℕ → Type 0) (Called : List RenderedNote → Type 0) (o : Observer) (shown : Shown) (before now : Written) (lines : ℕ)
@@ -509,13 +530,14 @@ pub record IsPending (went came : List ℕ → Type 0) (told : ℕ → Type 0) (
   pub within : noted.count ≤ length buffer
   pub read_is : reading_of (take noted.count buffer) ≡ Ok note.message
   pub pending : IsPendingAs went came told o note (notes_of older) w noted.last
+  pub begins : BeginsWithState (note ∷ notes_of older)
   pub succeeds : SucceedsNotes older note
   pub called : Called older
 
 -- the next note has arrived; or it hasn't, and no newer notification superseded the latest state.
 abbrev pub IsBeforeNext : (List ℕ → Type 0) → (List ℕ → Type 0) → (ℕ → Type 0) → (List RenderedNote → Type 0) → Observer → Shown → Written → Written → ℕ → Observation → List ℕ → Option NotedMessage → Type 0
 IsBeforeNext went came told Called o shown before now lines w buffer None =
-    (s : IsShowing went came told Called o shown before now lines w) × ((n : Note) → IsSuccessor s.latest.rendering n)
+    (s : IsShowing went came told Called o shown before now lines w) × (is_superseded s.latest.rendering ≡ false)
 IsBeforeNext went came told Called o shown before now lines w buffer (Some noted) = IsPending went came told Called o shown before now lines w buffer noted
 
 -- the next note: the one that has arrived already, or else the one that is awaited.
@@ -559,11 +581,14 @@ abbrev pub IsOverBy : Rendered → List PeerCall → Type 0
 IsOverBy rendered.Over calls = IsOverAtRest calls
 IsOverBy other calls = Unit {0}
 
--- a message was rendered, with this effect and such calls.
+-- a message was rendered, with this effect and such calls. The next message ID for a further block
+-- was `ids`, and is `next`.
 pub record IsRenderedAs (went came : List ℕ → Type 0) (told : ℕ → Type 0) (Makes : (List PeerCall → Type 0) → Type 0) (o : Observer) (shown : Shown) (seconds : Option ℕ) (start : ℕ)
-    (m : Message) (before after : Written) (old new : Observation) (buffer : List ℕ) (effect : Rendered) : Type 0 where
+    (m : Message) (before after : Written) (old new : Observation) (ids next : ℕ) (buffer : List ℕ) (effect : Rendered) : Type 0 where
   pub rendering : Rendering
   pub is : IsRenderingOf went came told o old m rendering
+  pub begins : BeginsAt ids rendering
+  pub next_is : next ≡ id_after_note o ids rendering
   pub text : Appends before.out after.out (rendered_text shown m rendering)
   pub error : Appends before.err after.err (rendered_error rendering)
   pub effect_is : IsEffect went came told o.token old new buffer rendering effect
@@ -571,9 +596,10 @@ pub record IsRenderedAs (went came : List ℕ → Type 0) (told : ℕ → Type 0
 
 -- a message can't be written by such a rendering, after such calls.
 pub record IsUnwritten (went came : List ℕ → Type 0) (told : ℕ → Type 0) (Makes : (List PeerCall → Type 0) → Type 0) (o : Observer) (seconds : Option ℕ) (start : ℕ) (m : Message)
-    (old : Observation) (P : Rendering → Type 0) : Type 0 where
+    (old : Observation) (ids : ℕ) (P : Rendering → Type 0) : Type 0 where
   pub rendering : Rendering
   pub is : IsRenderingOf went came told o old m rendering
+  pub begins : BeginsAt ids rendering
   pub line : P rendering
   pub called : Makes (IsRenderedBy o seconds start m rendering)
 
@@ -583,12 +609,12 @@ IsNoMemory (fault.Memory error) = Unit {0}
 IsNoMemory other = ⊥
 
 -- the errors of that.
-abbrev pub IsRenderFault : (List ℕ → Type 0) → (List ℕ → Type 0) → (ℕ → Type 0) → (PeerError → Type 0) → ((List PeerCall → Type 0) → Type 0) → Observer → Option ℕ → ℕ → Message → Observation → NotesError → Type 0
-IsRenderFault went came told is_error Makes o seconds start m old (notes_error.Fault f) = (has_further m ≡ true) × IsFollowingFault came is_error o.token f
-IsRenderFault went came told is_error Makes o seconds start m old notes_error.Unobserved = ⊥
-IsRenderFault went came told is_error Makes o seconds start m old (notes_error.Print error) = IsUnwritten went came told Makes o seconds start m old (λ r. has_line r ≡ true)
-IsRenderFault went came told is_error Makes o seconds start m old (notes_error.Report error) = IsUnwritten went came told Makes o seconds start m old IsMissingState
-IsRenderFault went came told is_error Makes o seconds start m old (notes_error.Memory error) = ⊥
+abbrev pub IsRenderFault : (List ℕ → Type 0) → (List ℕ → Type 0) → (ℕ → Type 0) → (PeerError → Type 0) → ((List PeerCall → Type 0) → Type 0) → Observer → Option ℕ → ℕ → Message → Observation → ℕ → NotesError → Type 0
+IsRenderFault went came told is_error Makes o seconds start m old ids (notes_error.Fault f) = (has_further m ≡ true) × IsFollowingFault came is_error o.token f
+IsRenderFault went came told is_error Makes o seconds start m old ids notes_error.Unobserved = ⊥
+IsRenderFault went came told is_error Makes o seconds start m old ids (notes_error.Print error) = IsUnwritten went came told Makes o seconds start m old ids (λ r. has_line r ≡ true)
+IsRenderFault went came told is_error Makes o seconds start m old ids (notes_error.Report error) = IsUnwritten went came told Makes o seconds start m old ids IsMissingState
+IsRenderFault went came told is_error Makes o seconds start m old ids (notes_error.Memory error) = ⊥
 
 -- the last note was printed.
 abbrev pub IsLastPrinted : Shown → Message → Option (List ℕ) → Option (List ℕ) → ObservationEnd → Type 0
@@ -599,11 +625,12 @@ IsLastPrinted shown m before after other = ⊥
 abbrev pub EndsNotes : Observer → Option ℕ → ℕ → ObservationEnd → List RenderedNote → List PeerCall → Type 0
 EndsNotes o seconds start end rs calls = ObservesNotes o seconds start rs calls × EndsInTime seconds end calls
 
--- one more line was printed; or the observation ended.
-abbrev pub IsLineOrEnd : (List ℕ → Type 0) → (List ℕ → Type 0) → (ℕ → Type 0) → ((List PeerCall → Type 0) → Type 0) → Observer → Shown → Option ℕ → ℕ → Written → Written → ℕ → Observation → Option ObservationEnd → Type 0
-IsLineOrEnd went came told Makes o shown seconds start before now lines w None =
-    (s : IsShowing went came told (λ rs. Makes (ObservesNotes o seconds start rs)) o shown before now (lines + 1) w) × (has_line s.latest.rendering ≡ true)
-IsLineOrEnd went came told Makes o shown seconds start before now lines w (Some end) =
+-- one more line was printed, and this is the next message ID for a further block; or the observation
+-- ended.
+abbrev pub IsLineOrEnd : (List ℕ → Type 0) → (List ℕ → Type 0) → (ℕ → Type 0) → ((List PeerCall → Type 0) → Type 0) → Observer → Shown → Option ℕ → ℕ → Written → Written → ℕ → Observation → ℕ → Option ObservationEnd → Type 0
+IsLineOrEnd went came told Makes o shown seconds start before now lines w next None =
+    (s : IsShowing went came told (HasCalled Makes o next (ObservesNotes o seconds start)) o shown before now (lines + 1) w) × (has_line s.latest.rendering ≡ true)
+IsLineOrEnd went came told Makes o shown seconds start before now lines w next (Some end) =
     (limit : ℕ) → lines < limit → HasShown went came told (λ rs. Makes (EndsNotes o seconds start end rs)) o shown limit before now end
 
 -- the response to the registration is a state, and is at the start of the buffer.
@@ -619,7 +646,7 @@ abbrev pub IsFirstShown : (List ℕ → Type 0) → (List ℕ → Type 0) → (�
 IsFirstShown went came told o shown before after buffer (first.State w count) = IsFirstState went came told o buffer count w × (after ≡ before)
 IsFirstShown went came told o shown before after buffer (first.Only code) =
     (limit : ℕ) (err : Option (List ℕ)) → 1 ≤ limit
-    → HasShown went came told (λ rs. Unit {0}) o shown limit (record { out = before; err = err }) (record { out = after; err = err }) (Last code)
+    → HasShown went came told (IsAtFirst (Last code)) o shown limit (record { out = before; err = err }) (record { out = after; err = err }) (Last code)
 
 -- the calls for it: the watch has the time that the clock returned.
 abbrev pub IsFirstBy : Observer → First → List PeerCall → Type 0

@@ -1,6 +1,6 @@
 -- The rendering of an observer's notes: a line of output, a line on standard error, or none.
-use Rattle.std.specs.Prelude.{◌≡◌, ℕ, ◌+◌, ◌++◌, map, Bool, true, false, List, [], ◌∷◌, length, Ok, Option, codes, if◌then◌else◌}
-use Rattle.coap_client.specs.Completions.{AreOutcomes, BlockOutcome, IsStateEnd, Joined, Missing, StateEnd, Superseded, state_from}
+use Rattle.std.specs.Prelude.{◌≡◌, ℕ, ◌+◌, ◌%◌, ◌++◌, map, Bool, true, false, List, [], ◌∷◌, length, Ok, Option, codes, if◌then◌else◌}
+use Rattle.coap_client.specs.Completions.{AreOutcomes, BlockOutcome, IsStateEnd, Joined, Missing, StateEnd, Superseded, id_after, state_from}
 use Rattle.coap_client.specs.Notes.{AreNotes, IsWatching, Note}
 use Rattle.coap_client.specs.Notices.{is_first_part}
 use Rattle.coap_client.specs.Parts.{largest_szx}
@@ -89,14 +89,37 @@ abbrev pub IsSuccessor : Rendering → Note → Type 0
 IsSuccessor (Blocks first w outcomes (Superseded bytes time)) n = reading_of bytes ≡ Ok n.message
 IsSuccessor other n = Unit {0}
 
+abbrev pub is_superseded : Rendering → Bool
+is_superseded (Blocks first w outcomes (Superseded bytes time)) = true
+is_superseded other = false
+
 abbrev pub SucceedsNotes : List RenderedNote → Note → Type 0
 SucceedsNotes [] n = Unit {0}
 SucceedsNotes (r ∷ rs) n = IsSuccessor r.rendering n
 
+-- the requests for the further blocks have message IDs from this one on.
+abbrev pub BeginsAt : ℕ → Rendering → Type 0
+BeginsAt next Whole = Unit {0}
+BeginsAt next (Blocks first w outcomes end) = first ≡ next
+
+-- the next message ID for a further block after a note, if it was this one before the note.
+abbrev pub id_after_note : Observer → ℕ → Rendering → ℕ
+id_after_note o next Whole = next
+id_after_note o next (Blocks first w outcomes end) = id_after o first outcomes end
+
+-- the next message ID for a further block after these notes. The first is the second after that of
+-- the registration. Each state continues from the state before it, so that an ID is used again only
+-- after all the others (RFC 7252, section 4.4).
+abbrev pub ids_after : Observer → List RenderedNote → ℕ
+ids_after o [] = (o.id + 2) % 65536
+ids_after o (r ∷ rs) = id_after_note o (ids_after o rs) r.rendering
+
+-- the oldest note is rendered first, and each continues from the notes before it.
 abbrev pub AreRendered : (List ℕ → Type 0) → (List ℕ → Type 0) → (ℕ → Type 0) → Observer → List RenderedNote → Type 0
 AreRendered went came told o [] = Unit {0}
 AreRendered went came told o (r ∷ rs) =
-    AreRendered went came told o rs × (IsRendering went came told o r.note (notes_of rs) r.rendering × SucceedsNotes rs r.note)
+    AreRendered went came told o rs
+    × (IsRendering went came told o r.note (notes_of rs) r.rendering × (SucceedsNotes rs r.note × BeginsAt (ids_after o rs) r.rendering))
 
 -- all of them are whole messages.
 abbrev pub AreWhole : List RenderedNote → Type 0

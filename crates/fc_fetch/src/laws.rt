@@ -16,11 +16,14 @@ ghost use Rattle.fc_fetch.specs.declared.address.AddressError.TheVariants.{NoMem
 ghost use Rattle.fc_fetch.specs.Operations.{IsFormatNamed, IsOperationError, body_at};
 ghost use Rattle.fc_fetch.specs.declared.operation.OperationError.TheVariants.{Missing};
 ghost use Rattle.fc_fetch.specs.declared.operation.BodySource.TheVariants as source;
-ghost use Rattle.coap_client.specs.Completions.{BlockOutcome, IsFollowing, Joined, Missing, StateEnd, Superseded, state_from};
+ghost use Rattle.coap_client.specs.Completions.{BlockOutcome, IsFollowing, Joined, Missing, StateEnd, Superseded, following_id, state_from};
 ghost use Rattle.coap_client.specs.Fetching.{Ended};
+ghost use Rattle.coap_client.specs.Notices.{notice_of};
 ghost use Rattle.coap_client.specs.PeerCalls.{PeerCall, Reads, Waits};
+ghost use Rattle.coap_client.specs.declared.notice.NotificationClass.TheVariants as notice;
 ghost use Rattle.coap_client.specs.Representations.{begun};
 ghost use Rattle.coap_client.specs.Schedules.{schedule};
+ghost use Rattle.coap_client.specs.declared.fetcher.FetchFault.{FetchFault};
 ghost use Rattle.coap_client.specs.declared.observing.Observer.{Observer};
 ghost use Rattle.coap_client.specs.Notes.{IsAfter, Note};
 ghost use Rattle.coap_client.specs.declared.watch.Observation.{Observation};
@@ -29,8 +32,8 @@ ghost use Rattle.coap_msg.specs.Wire.{Message};
 ghost use Rattle.coap_msg.specs.declared.code.Code.{Code};
 ghost use Rattle.fc_cli.specs.declared.status.Status.TheVariants.{Done, Refused};
 ghost use Rattle.fc_fetch.specs.Fetching.{ending_of};
-ghost use Rattle.fc_fetch.specs.Observing.{IsAtFirst, IsEnd, IsRenderedBy, IsTimedObservation, IsWaitedFor, lines_wanted, rest_wait};
-ghost use Rattle.fc_fetch.specs.Rendering.{AreRendered, AreWhole, Blocks, IsRendering, RenderedNote, Rendering, Whole, errors_text, has_line, lines_in, missing_text, notes_text, rendered_error};
+ghost use Rattle.fc_fetch.specs.Observing.{IsEnd, IsRenderedBy, IsStoppedBy, IsStoppedJoining, IsTimedObservation, IsWaitedFor, ObservesNotes, lines_wanted, rest_wait};
+ghost use Rattle.fc_fetch.specs.Rendering.{AreRendered, AreWhole, Blocks, IsRendering, RenderedNote, Rendering, Whole, errors_text, has_line, ids_after, lines_in, missing_text, notes_text, rendered_error};
 ghost use Rattle.fc_fetch.specs.declared.printer.Shown.TheVariants.{Text};
 ghost use Rattle.coap_client.specs.declared.joining.Unfetched.{Unfetched};
 ghost use Rattle.coap_client.specs.declared.joining.Unfetched.TheVariants.{Changed};
@@ -68,7 +71,8 @@ pub fn a_path_has_a_port_and_a_uri_has_none()
 /// during that wait, if each note is whole. After the requests for the further blocks of a state,
 /// the rest begins again, once: 3 seconds after 2,200 ms, and none after 5,001 ms. Without it, each
 /// wait is of 86,400 seconds, and the time is over only after 2^64 - 1 waits. Nothing is called if
-/// the first response is the last.
+/// the only note is the last one: a response without a sequence number, or an error. The wait begins
+/// if the only note is a state, or if there are several notes.
 pub fn an_observation_lasts_so_many_seconds()
     ensures seconds { (o : Observer) (start : ℕ) (rs : List RenderedNote) (calls : List PeerCall) → AreWhole rs → IsWaitedFor o (Some 5) start rs calls
         → schedule calls ≡ Waits 5 ∷ [] }
@@ -79,8 +83,12 @@ pub fn an_observation_lasts_so_many_seconds()
         → (r : IsRenderedBy o (Some 5) 1000 m (Blocks first w outcomes end) calls) → r.now ≡ 3200
         → (calls ≡ Waits 3 ∷ Reads 3200 ∷ r.following) × IsFollowing o first (begun m) outcomes end r.following }
     ensures rest { (rest_wait (Some 5) 1000 3200 ≡ 3) × ((rest_wait (Some 5) 1000 6001 ≡ 0) × (rest_wait None 1000 3200 ≡ 86400)) }
-    ensures last { (o : Observer) (end : ObservationEnd) (rs : List RenderedNote) (calls : List PeerCall) (t : IsTimedObservation o (Some 5) end rs calls)
-        → (IsAtFirst end × (t.newer ≡ [])) ⊎ IsWaitedFor o (Some 5) t.registered.time rs t.newer }
+    ensures last { (o : Observer) (end : ObservationEnd) (r : RenderedNote) (calls : List PeerCall) (t : IsTimedObservation o (Some 5) end (r ∷ []) calls)
+        → notice_of r.note.message ≡ notice.Last → t.newer ≡ [] }
+    ensures state { (o : Observer) (end : ObservationEnd) (r : RenderedNote) (calls : List PeerCall) (t : IsTimedObservation o (Some 5) end (r ∷ []) calls)
+        → notice_of r.note.message ≡ notice.State 7 → IsWaitedFor o (Some 5) t.registered.time (r ∷ []) t.newer }
+    ensures later { (o : Observer) (end : ObservationEnd) (r n : RenderedNote) (rs : List RenderedNote) (calls : List PeerCall) (t : IsTimedObservation o (Some 5) end (r ∷ n ∷ rs) calls)
+        → IsWaitedFor o (Some 5) t.registered.time (r ∷ n ∷ rs) t.newer }
     ensures over { (o : Observer) (rs : List RenderedNote) (calls : List PeerCall) (t : IsTimedObservation o None Over rs calls) → 2 ^ 64 ≤ length (schedule t.newer) + 1 }
 {}
 
@@ -104,6 +112,38 @@ pub fn each_large_state_ends_in_one_way<P: Peer>()
         (w : Observation) (outcomes : List BlockOutcome) (bytes : List ℕ)
         → AreRendered P.went P.came P.is_time o (record { note = next; rendering = rendering } ∷ record { note = n; rendering = Blocks first w outcomes (Superseded bytes time) } ∷ rs)
         → reading_of bytes ≡ Ok next.message }
+{}
+
+/// A notification that supersedes a state isn't dropped.
+///
+/// After the requests for the blocks of that state, no notification is awaited: the one that
+/// superseded it is the next note. So no later notification stops the observer in its place. If the
+/// requests for the blocks of a note fail, that note superseded the state before it, if any did.
+pub fn each_superseding_notification_is_handled<P: Peer>()
+    ensures calls { (o : Observer) (seconds : Option ℕ) (start first time : ℕ) (n : Note) (rs : List RenderedNote) (w : Observation) (outcomes : List BlockOutcome) (bytes : List ℕ) (calls : List PeerCall)
+        → (m : ObservesNotes o seconds start (record { note = n; rendering = Blocks first w outcomes (Superseded bytes time) } ∷ rs) calls) → calls ≡ m.own ++ m.older }
+    ensures waiting { (o : Observer) (first time : ℕ) (w : Observation) (outcomes : List BlockOutcome) (bytes : List ℕ)
+        → (s : IsStoppedBy P.went P.came P.is_time (λ Calls. Unit {0}) o (λ rs calls. Unit {0}) (λ class. Unit {0}))
+        → s.latest.rendering ≡ Blocks first w outcomes (Superseded bytes time) → ⊥ }
+    ensures joining { (o : Observer) (before : P) (first time : ℕ) (n : Note) (rs : List RenderedNote) (w : Observation) (outcomes : List BlockOutcome) (bytes : List ℕ) (fault : FetchFault)
+        → (s : IsStoppedJoining P.went P.came P.is_time P.is_error P.called before o (λ rs calls. Unit {0}) fault)
+        → s.older ≡ record { note = n; rendering = Blocks first w outcomes (Superseded bytes time) } ∷ rs → reading_of bytes ≡ Ok s.latest.message }
+{}
+
+/// The message IDs of the requests for further blocks continue from state to state.
+///
+/// The registration has 7 and the deregistration 8. Of two states of two blocks each, the request
+/// of the first has 9, and that of the second 10. A whole message in between changes nothing (RFC
+/// 7252, section 4.4).
+pub fn further_blocks_continue_their_ids<P: Peer>()
+    ensures first { (o : Observer) (n : Note) (first code : ℕ) (w : Observation) (x : BlockOutcome) (body : List ℕ) → o.id ≡ 7
+        → AreRendered P.went P.came P.is_time o (record { note = n; rendering = Blocks first w (x ∷ []) (Joined code body) } ∷ [])
+        → following_id o first [] ≡ 9 }
+    ensures second { (o : Observer) (n next : Note) (first second code later : ℕ) (w v : Observation) (x y : BlockOutcome) (body other : List ℕ) → o.id ≡ 7
+        → AreRendered P.went P.came P.is_time o (record { note = next; rendering = Blocks second v (y ∷ []) (Joined later other) }
+        ∷ record { note = n; rendering = Blocks first w (x ∷ []) (Joined code body) } ∷ [])
+        → following_id o second [] ≡ 10 }
+    ensures whole { (o : Observer) (n : Note) (rs : List RenderedNote) → ids_after o (record { note = n; rendering = Whole } ∷ rs) ≡ ids_after o rs }
 {}
 
 /// The number of lines that an observation prints.

@@ -114,7 +114,8 @@ impl From<AllocError> for NotesError {
 /// Observes a resource and prints one line for each state.
 ///
 /// It registers, prints the response, then prints each notification that is newer than the one
-/// printed before it, and deregisters.
+/// accepted before it, and deregisters. A state that is superseded or can't be fetched is accepted
+/// too.
 ///
 /// Returns:
 ///

@@ -8,7 +8,7 @@ ghost use Rattle.coap_client.specs.Requests.{IsBlock};
 ghost use Rattle.coap_client.specs.Transmissions.{MakesCalls};
 ghost use Rattle.coap_msg.specs.Reading.{reading_of};
 ghost use Rattle.coap_msg.specs.Wire.{Message as Read};
-ghost use Rattle.fc_fetch.specs.Observing.{AwaitsNext, HasMessage, HasNewer, IsAwaitFault, IsBeforeNext, IsLastPrinted, IsLaterFault, IsLineOrEnd, IsNextNoted, IsNoMemory, IsRenderedAs, IsRenderFault, ObservesNotes};
+ghost use Rattle.fc_fetch.specs.Observing.{AwaitsNext, HasCalled, HasMessage, HasNewer, IsAwaitFault, IsBeforeNext, IsLastPrinted, IsLaterFault, IsLineOrEnd, IsNextNoted, IsNoMemory, IsRenderedAs, IsRenderFault, ObservesNotes};
 ghost use Rattle.fc_fetch.specs.Rendering.{Written, has_further, missing_text, note_text};
 
 use crate::observer::{NotesError, ObservationEnd};
@@ -37,7 +37,7 @@ pub(crate) enum Rendered {
 }
 
 // Renders notes until one has a line, and returns `None`; or returns how the observation ends. The
-// first note is `next`, if there is one.
+// first note is `next`, if there is one. `ids` is the next message ID for a further block.
 pub(crate) fn print_line<P: Peer, W: Write, E: Write>(
     alloc: Global,
     peer: &mut P,
@@ -53,12 +53,12 @@ pub(crate) fn print_line<P: Peer, W: Write, E: Write>(
 ) -> Result<Option<ObservationEnd>, NotesError>
     requires { IfSome next (HasMessage buffer.old) }
     ensures line { IfOk result (λ end. (begun : P) (before : Written) (lines : ℕ) →
-        IsBeforeNext P.went P.came P.is_time (λ rs. MakesCalls (P.called begun) (P.called peer.old) (ObservesNotes observer.now limit.seconds limit.start rs))
+        IsBeforeNext P.went P.came P.is_time (HasCalled (MakesCalls (P.called begun) (P.called peer.old)) observer.now ids.old (ObservesNotes observer.now limit.seconds limit.start))
         observer.now shown before (record { out = W.contents out.old; err = E.contents err.old }) lines watch.old buffer.old next →
         IsLineOrEnd P.went P.came P.is_time (MakesCalls (P.called begun) (P.called peer.new)) observer.now shown limit.seconds limit.start
-        before (record { out = W.contents out.new; err = E.contents err.new }) lines watch.new end) }
+        before (record { out = W.contents out.new; err = E.contents err.new }) lines watch.new ids.new end) }
     ensures fault { IfErr result (λ error. (begun : P) (before : Written) (lines : ℕ) →
-        IsBeforeNext P.went P.came P.is_time (λ rs. MakesCalls (P.called begun) (P.called peer.old) (ObservesNotes observer.now limit.seconds limit.start rs))
+        IsBeforeNext P.went P.came P.is_time (HasCalled (MakesCalls (P.called begun) (P.called peer.old)) observer.now ids.old (ObservesNotes observer.now limit.seconds limit.start))
         observer.now shown before (record { out = W.contents out.old; err = E.contents err.old }) lines watch.old buffer.old next →
         IsLaterFault P.went P.came P.is_time P.is_error P.called begun peer.new observer.now (ObservesNotes observer.now limit.seconds limit.start) error) }
 {
@@ -142,9 +142,9 @@ fn render<P: Peer, W: Write, E: Write>(
     ensures rendered { IfOk result (λ rendered. (m : Read) → reading_of (take noted.count buffer.old) ≡ Ok m →
         IsRenderedAs P.went P.came P.is_time (MakesCalls (P.called peer.old) (P.called peer.new)) observer.now shown limit.seconds limit.start m
         (record { out = W.contents out.old; err = E.contents err.old }) (record { out = W.contents out.new; err = E.contents err.new })
-        watch.old watch.new buffer.new rendered) }
+        watch.old watch.new ids.old ids.new buffer.new rendered) }
     ensures fault { IfErr result (λ error. (m : Read) → reading_of (take noted.count buffer.old) ≡ Ok m →
-        IsRenderFault P.went P.came P.is_time P.is_error (MakesCalls (P.called peer.old) (P.called peer.new)) observer.now limit.seconds limit.start m watch.old error) }
+        IsRenderFault P.went P.came P.is_time P.is_error (MakesCalls (P.called peer.old) (P.called peer.new)) observer.now limit.seconds limit.start m watch.old ids.old error) }
 {
     let Ok(message) = read(&buffer[..noted.count]) else {
         unreachable!();
@@ -191,9 +191,9 @@ fn render_blocks<P: Peer, W: Write, E: Write>(
     ensures rendered { IfOk result (λ rendered. (m : Read) → begun m ≡ state_of joining → has_further m ≡ true →
         IsRenderedAs P.went P.came P.is_time (MakesCalls (P.called peer.old) (P.called peer.new)) observer.now shown limit.seconds limit.start m
         (record { out = W.contents out.old; err = E.contents err.old }) (record { out = W.contents out.new; err = E.contents err.new })
-        watch.old watch.new buffer.new rendered) }
+        watch.old watch.new ids.old ids.new buffer.new rendered) }
     ensures fault { IfErr result (λ error. (m : Read) → begun m ≡ state_of joining → has_further m ≡ true →
-        IsRenderFault P.went P.came P.is_time P.is_error (MakesCalls (P.called peer.old) (P.called peer.new)) observer.now limit.seconds limit.start m watch.old error) }
+        IsRenderFault P.went P.came P.is_time P.is_error (MakesCalls (P.called peer.old) (P.called peer.new)) observer.now limit.seconds limit.start m watch.old ids.old error) }
 {
     let completion = watch.complete(alloc, peer, observer, joining, ids, buffer)?;
     let rest = begin_rest(peer, limit)?;

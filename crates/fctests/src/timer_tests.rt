@@ -73,7 +73,7 @@ impl<'a, C: Clock> Source for Sleeping<'a, C> {
     }
 }
 
-// A sink that counts its datagrams, and fails to send each of them.
+// A sink that counts its datagrams, none of which fails.
 #[derive(Drop)]
 struct Counting {
     sent: AtomicUsize,

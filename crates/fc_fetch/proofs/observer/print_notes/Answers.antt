@@ -1,8 +1,8 @@
-use Rattle.std.proofs.Common.{◌≡◌, ◌<◌, ℕ, [], false, inr, refl, subst, sym, Option, List, arith}
+use Rattle.std.proofs.Common.{◌≡◌, ◌<◌, ◌+◌, ◌%◌, ℕ, [], false, inr, refl, subst, sym, Option, List, arith}
 use Rattle.coap_client.proofs.Failing.{raised}
 use Rattle.coap_client.proofs.Transmitting.{does_nothing}
 use Rattle.coap_client.specs.Transmissions.{MakesCalls}
-use Rattle.fc_fetch.specs.Observing.{EndsNotes, IsFirstBy, IsFirstShown, IsLineOrEnd, IsNotesFault, IsPending, IsTimedObservation, ObservesNotes, lines_wanted}
+use Rattle.fc_fetch.specs.Observing.{EndsNotes, HasCalled, IsAtFirst, IsFirstBy, IsFirstShown, IsLineOrEnd, IsNotesFault, IsPending, IsTimedObservation, ObservesNotes, lines_wanted}
 use Rattle.fc_fetch.specs.Rendering.{Written}
 use Rattle.fc_fetch.specs.declared.observer.ObservationEnd.TheVariants.{Counted, Last}
 use Rattle.fc_fetch.proofs.Failures.{failed_since}
@@ -22,10 +22,10 @@ returns-in-Only-clause-shown g c =
     let seconds = c.args.extent.seconds in
     let before = g.P.Peer.called c.args.peer.now in
     let after = g.P.Peer.called c.print_first.new.peer in
-    shown_by went came told (λ rs. Unit {0}) (λ rs. MakesCalls before after (IsTimedObservation o seconds (Last c.in-Only.code) rs)) o c.args.shown (lines_wanted c.args.extent.count)
+    shown_by went came told (IsAtFirst (Last c.in-Only.code)) (λ rs. MakesCalls before after (IsTimedObservation o seconds (Last c.in-Only.code) rs)) o c.args.shown (lines_wanted c.args.extent.count)
     (record { out = g.W.Write.contents c.args.out.now; err = g.E.Write.contents c.args.err.now }) (record { out = g.W.Write.contents c.print_first.new.out; err = g.E.Write.contents c.args.err.now })
     (Last c.in-Only.code)
-    (λ rs u. ends_at_first o seconds c.in-Only.code rs before after (subst (λ x. MakesCalls before after (IsFirstBy o x)) c.in-Only.is c.in_ok-watch.ensures.called))
+    (λ rs only. ends_at_first o seconds c.in-Only.code rs before after only (subst (λ x. MakesCalls before after (IsFirstBy o x)) c.in-Only.is c.in_ok-watch.ensures.called))
     (subst (IsFirstShown went came told o c.args.shown (g.W.Write.contents c.args.out.now) (g.W.Write.contents c.print_first.new.out) c.print_first.new.buffer) c.in-Only.is c.in_ok-watch.ensures.shown
     (lines_wanted c.args.extent.count) (g.E.Write.contents c.args.err.now) (some_line c.args.extent.count))
 
@@ -53,10 +53,10 @@ loop-init g c =
           refl,
           subst
               (λ (out : Option (List ℕ)).
-              IsPending went came told (λ rs. MakesCalls begun begun (ObservesNotes o seconds watch.at rs)) o c.args.shown first (record { out = out; err = g.E.Write.contents c.args.err.now }) 0 watch
+              IsPending went came told (HasCalled (MakesCalls begun begun) o ((o.id + 2) % 65536) (ObservesNotes o seconds watch.at)) o c.args.shown first (record { out = out; err = g.E.Write.contents c.args.err.now }) 0 watch
               c.print_first.new.buffer (record { count = c.in-State.count; time = watch.at; last = false })) (sym f.1)
-              (first_ready went came told (λ rs. MakesCalls begun begun (ObservesNotes o seconds watch.at rs)) o c.args.shown first c.print_first.new.buffer c.in-State.count watch.at watch
-              (does_nothing begun (ObservesNotes o seconds watch.at []) refl) f.0),
+              (first_ready went came told (HasCalled (MakesCalls begun begun) o ((o.id + 2) % 65536) (ObservesNotes o seconds watch.at)) o c.args.shown first c.print_first.new.buffer c.in-State.count watch.at watch
+              (does_nothing begun (ObservesNotes o seconds watch.at []) refl, refl) f.0),
         );
       },
     )
@@ -75,7 +75,7 @@ returns-in_err-ended-clause-fault g c =
     let before = g.P.Peer.called c.args.peer.now in
     let base = g.P.Peer.called since.at in
     let between = g.P.Peer.called c.loop.peer in
-    let ready = between_ready went came told (λ rs. MakesCalls base between (ObservesNotes o seconds start rs)) o c.args.shown first now c.loop.counter c.loop.watch c.loop.buffer c.loop.next since.since in
+    let ready = between_ready went came told (HasCalled (MakesCalls base between) o c.loop.ids (ObservesNotes o seconds start)) o c.args.shown first now c.loop.counter c.loop.watch c.loop.buffer c.loop.next since.since in
     raised c.from_residual-in_err-ended.result c.in_err-ended.field-0.0
     (IsNotesFault went came told g.P.Peer.is_error g.P.Peer.called c.args.peer.now c.print_line.new.peer o seconds) c.from_residual-in_err-ended.ensures.1
     (inr (failed_since went came told g.P.Peer.is_error g.P.Peer.called c.args.peer.now since.at c.print_line.new.peer o seconds start c.in_err-ended.field-0.0 since.begun
@@ -95,12 +95,12 @@ returns-in-Some-clause-shown g c =
     let before = g.P.Peer.called c.args.peer.now in
     let base = g.P.Peer.called since.at in
     let between = g.P.Peer.called c.loop.peer in
-    let ready = between_ready went came told (λ rs. MakesCalls base between (ObservesNotes o seconds start rs)) o c.args.shown first now c.loop.counter c.loop.watch c.loop.buffer c.loop.next since.since in
+    let ready = between_ready went came told (HasCalled (MakesCalls base between) o c.loop.ids (ObservesNotes o seconds start)) o c.args.shown first now c.loop.counter c.loop.watch c.loop.buffer c.loop.next since.since in
     let after = g.P.Peer.called c.print_line.new.peer in
     let state : Written = record { out = g.W.Write.contents c.print_line.new.out; err = g.E.Write.contents c.print_line.new.err } in
     shown_by went came told (λ rs. MakesCalls base after (EndsNotes o seconds start c.in-Some.end rs)) (λ rs. MakesCalls before after (IsTimedObservation o seconds c.in-Some.end rs)) o c.args.shown
     (lines_wanted c.args.extent.count) first state c.in-Some.end (λ rs one. observed_to_end o seconds start c.in-Some.end rs before base after since.begun one)
-    (subst (IsLineOrEnd went came told (MakesCalls base after) o c.args.shown seconds start first state c.loop.counter c.print_line.new.watch) c.in-Some.is
+    (subst (IsLineOrEnd went came told (MakesCalls base after) o c.args.shown seconds start first state c.loop.counter c.print_line.new.watch c.print_line.new.ids) c.in-Some.is
     (c.in_ok-ended.ensures.line since.at first c.loop.counter ready) (lines_wanted c.args.extent.count)
     (below c.loop.counter c.lines_wanted-end.result (lines_wanted c.args.extent.count) c.loop-test.true c.lines_wanted-end.ensures.wanted))
 
@@ -118,7 +118,7 @@ loop-preserved g c =
     let before = g.P.Peer.called c.args.peer.now in
     let base = g.P.Peer.called since.at in
     let between = g.P.Peer.called c.loop.peer in
-    let ready = between_ready went came told (λ rs. MakesCalls base between (ObservesNotes o seconds start rs)) o c.args.shown first now c.loop.counter c.loop.watch c.loop.buffer c.loop.next since.since in
+    let ready = between_ready went came told (HasCalled (MakesCalls base between) o c.loop.ids (ObservesNotes o seconds start)) o c.args.shown first now c.loop.counter c.loop.watch c.loop.buffer c.loop.next since.since in
     let after = g.P.Peer.called c.print_line.new.peer in
     let state : Written = record { out = g.W.Write.contents c.print_line.new.out; err = g.E.Write.contents c.print_line.new.err } in (
       tt,
@@ -126,7 +126,7 @@ loop-preserved g c =
         at = since.at;
         begun = since.begun;
         since =
-            subst (IsLineOrEnd went came told (MakesCalls base after) o c.args.shown seconds start first state c.loop.counter c.print_line.new.watch) c.in-None.is
+            subst (IsLineOrEnd went came told (MakesCalls base after) o c.args.shown seconds start first state c.loop.counter c.print_line.new.watch c.print_line.new.ids) c.in-None.is
             (c.in_ok-ended.ensures.line since.at first c.loop.counter ready);
       },
     )
@@ -149,6 +149,6 @@ returns-clause-shown g c =
     let end = c.loop-test.false in
     let auto = c.loop.auto.counter-end in
     let wanted = c.lines_wanted-end.ensures.wanted in
-    between_shown went came told (λ rs. MakesCalls base between (ObservesNotes o seconds start rs)) (λ rs. MakesCalls before between (IsTimedObservation o seconds Counted rs)) o c.args.shown first now
-    c.loop.counter (lines_wanted c.args.extent.count) c.loop.watch c.loop.buffer c.loop.next (λ rs one. observed_so_far o seconds start rs before base between since.begun one) since.since
+    between_shown went came told (HasCalled (MakesCalls base between) o c.loop.ids (ObservesNotes o seconds start)) (λ rs. MakesCalls before between (IsTimedObservation o seconds Counted rs)) o c.args.shown first now
+    c.loop.counter (lines_wanted c.args.extent.count) c.loop.watch c.loop.buffer c.loop.next (λ rs one. observed_so_far o seconds start rs before base between since.begun one.0) since.since
     (omega (arith, end, auto, wanted)) (some_line c.args.extent.count)

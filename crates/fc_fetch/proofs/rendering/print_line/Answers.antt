@@ -1,7 +1,7 @@
 use Rattle.std.proofs.Common.{◌≡◌, ◌+◌, ◌⊎◌, ℕ, inl, inr, ◌∷◌, IfSome, refl, subst, sym, arith}
 use Rattle.coap_client.proofs.Failing.{raised}
 use Rattle.coap_client.specs.Transmissions.{MakesCalls}
-use Rattle.fc_fetch.specs.Observing.{EndsNotes, HasMessage, HasNewer, HasShown, IsBeforeNext, IsLaterFault, IsRenderedAs, ObservesNotes}
+use Rattle.fc_fetch.specs.Observing.{EndsNotes, HasCalled, HasMessage, HasNewer, HasShown, IsBeforeNext, IsLaterFault, IsRenderedAs, ObservesNotes}
 use Rattle.fc_fetch.specs.Rendering.{Written}
 use Rattle.fc_fetch.specs.declared.observer.NotesError.TheVariants as notes_error
 use Rattle.fc_fetch.specs.declared.observer.ObservationEnd.TheVariants.{Over}
@@ -16,7 +16,7 @@ pub loop-init : goal.loop-init
 loop-init g c = (
   c.requires,
   λ begun before lines ready. (
-    begin_counting g.P.Peer.went g.P.Peer.came g.P.Peer.is_time c.args.observer.now c.args.shown before lines c.args.limit.seconds c.args.limit.start (g.P.Peer.called begun)
+    begin_counting g.P.Peer.went g.P.Peer.came g.P.Peer.is_time c.args.observer.now c.args.shown before lines c.args.limit.seconds c.args.limit.start (g.P.Peer.called begun) c.args.ids.now
         (g.P.Peer.called c.args.peer.now) (record { out = g.W.Write.contents c.args.out.now; err = g.E.Write.contents c.args.err.now }) c.args.watch.now c.args.buffer.now c.args.next ready,
     inl refl,
   ),
@@ -31,19 +31,19 @@ returns-in_err-noted-clause-fault g c =
     let now : Written = record { out = g.W.Write.contents c.loop.out; err = g.E.Write.contents c.loop.err } in
     raised c.from_residual.result (notes_error.Fault c.in_err-noted.field-0.0)
     (λ error. (begun : _) (before : Written) (lines : ℕ)
-    → IsBeforeNext g.P.Peer.went g.P.Peer.came g.P.Peer.is_time (λ rs. MakesCalls (g.P.Peer.called begun) (g.P.Peer.called c.args.peer.now) (ObservesNotes o seconds start rs)) o c.args.shown before first
+    → IsBeforeNext g.P.Peer.went g.P.Peer.came g.P.Peer.is_time (HasCalled (MakesCalls (g.P.Peer.called begun) (g.P.Peer.called c.args.peer.now)) o c.args.ids.now (ObservesNotes o seconds start)) o c.args.shown before first
     lines c.args.watch.now c.args.buffer.now c.args.next
     → IsLaterFault g.P.Peer.went g.P.Peer.came g.P.Peer.is_time g.P.Peer.is_error g.P.Peer.called begun c.next_note.new.peer o (ObservesNotes o seconds start) error)
     c.from_residual.ensures.1
     (λ begun before lines ready.
     inl (no_wait_fails g.P.Peer.went g.P.Peer.came g.P.Peer.is_time g.P.Peer.is_error (g.P.Peer.called begun) (g.P.Peer.called c.loop.peer) (g.P.Peer.called c.next_note.new.peer) o c.args.shown
-    before now lines c.loop.buffer c.loop.next seconds start c.loop.counter c.is_some-ends.result c.loop.watch c.in_err-noted.field-0.0 c.is_some-ends.ensures
+    before now lines c.loop.buffer c.loop.next seconds start c.loop.counter c.loop.ids c.is_some-ends.result c.loop.watch c.in_err-noted.field-0.0 c.is_some-ends.ensures
     (c.loop.invariant.1 begun before lines ready).0 c.in_err-noted.ensures.fault c.in_err-noted.ensures.awaited))
 
 pub returns-in_default-clause-line : goal.returns-in_default-clause-line
 returns-in_default-clause-line g c = λ begun before lines ready limit fewer.
     let o = c.args.observer.now in
-    none_arrived g.P.Peer.went g.P.Peer.came g.P.Peer.is_time o c.args.shown before lines c.args.limit.seconds c.args.limit.start (g.P.Peer.called begun) c.loop.counter c.is_some-ends.result
+    none_arrived g.P.Peer.went g.P.Peer.came g.P.Peer.is_time o c.args.shown before lines c.args.limit.seconds c.args.limit.start (g.P.Peer.called begun) c.loop.counter c.loop.ids c.is_some-ends.result
     (g.P.Peer.called c.loop.peer) (g.P.Peer.called c.next_note.new.peer) (record { out = g.W.Write.contents c.loop.out; err = g.E.Write.contents c.loop.err }) c.loop.watch c.next_note.new.watch c.loop.buffer
     c.next_note.new.buffer c.loop.next c.in_ok-noted.field-0 c.is_some-ends.ensures c.in_default.is (c.loop.invariant.1 begun before lines ready).0 c.in_ok-noted.ensures.noted c.in_ok-noted.ensures.called
     limit fewer
@@ -66,13 +66,13 @@ returns-in_err-print_last-clause-fault g c =
     let old = c.next_note.new.watch in
     raised c.from_residual-in_err-print_last.result (notes_error.Print c.in_err-print_last.field-0.0)
     (λ error. (begun : _) (before : Written) (lines : ℕ)
-    → IsBeforeNext went came told (λ rs. MakesCalls (g.P.Peer.called begun) (g.P.Peer.called c.args.peer.now) (ObservesNotes o seconds start rs)) o shown before first lines c.args.watch.now c.args.buffer.now
+    → IsBeforeNext went came told (HasCalled (MakesCalls (g.P.Peer.called begun) (g.P.Peer.called c.args.peer.now)) o c.args.ids.now (ObservesNotes o seconds start)) o shown before first lines c.args.watch.now c.args.buffer.now
     c.args.next
     → IsLaterFault went came told g.P.Peer.is_error g.P.Peer.called begun c.next_note.new.peer o (ObservesNotes o seconds start) error)
     c.from_residual-in_err-print_last.ensures.1
     (λ begun before lines ready.
-    unprinted_last went came told (g.P.Peer.called begun) awaited o shown before now lines c.next_note.new.buffer c.in-Some.noted seconds start n old c.if-noted.true (subst (IsBeforeNext went came told (Counted went came told o shown before lines seconds start (g.P.Peer.called begun) n awaited) o shown before now lines old c.next_note.new.buffer) c.in-Some.is
-    (next_arrived went came told o shown before lines seconds start (g.P.Peer.called begun) n ends between awaited now c.loop.watch old c.loop.buffer c.next_note.new.buffer c.loop.next c.in_ok-noted.field-0 c.is_some-ends.ensures (c.loop.invariant.1 begun before lines ready).0 c.in_ok-noted.ensures.noted c.in_ok-noted.ensures.called)))
+    unprinted_last went came told (g.P.Peer.called begun) awaited o shown before now lines c.next_note.new.buffer c.in-Some.noted seconds start n c.loop.ids old c.if-noted.true (subst (IsBeforeNext went came told (Counted went came told o shown before lines seconds start (g.P.Peer.called begun) n c.loop.ids awaited) o shown before now lines old c.next_note.new.buffer) c.in-Some.is
+    (next_arrived went came told o shown before lines seconds start (g.P.Peer.called begun) n c.loop.ids ends between awaited now c.loop.watch old c.loop.buffer c.next_note.new.buffer c.loop.next c.in_ok-noted.field-0 c.is_some-ends.ensures (c.loop.invariant.1 begun before lines ready).0 c.in_ok-noted.ensures.noted c.in_ok-noted.ensures.called)))
 
 pub returns-then-noted-clause-line : goal.returns-then-noted-clause-line
 returns-then-noted-clause-line g c =
@@ -91,12 +91,12 @@ returns-then-noted-clause-line g c =
     let awaited = g.P.Peer.called c.next_note.new.peer in
     let old = c.next_note.new.watch in
     λ begun before lines ready limit fewer.
-    let p = subst (IsBeforeNext went came told (Counted went came told o shown before lines seconds start (g.P.Peer.called begun) n awaited) o shown before now lines old c.next_note.new.buffer) c.in-Some.is
-    (next_arrived went came told o shown before lines seconds start (g.P.Peer.called begun) n ends between awaited now c.loop.watch old c.loop.buffer c.next_note.new.buffer c.loop.next c.in_ok-noted.field-0 c.is_some-ends.ensures (c.loop.invariant.1 begun before lines ready).0 c.in_ok-noted.ensures.noted c.in_ok-noted.ensures.called) in
+    let p = subst (IsBeforeNext went came told (Counted went came told o shown before lines seconds start (g.P.Peer.called begun) n c.loop.ids awaited) o shown before now lines old c.next_note.new.buffer) c.in-Some.is
+    (next_arrived went came told o shown before lines seconds start (g.P.Peer.called begun) n c.loop.ids ends between awaited now c.loop.watch old c.loop.buffer c.next_note.new.buffer c.loop.next c.in_ok-noted.field-0 c.is_some-ends.ensures (c.loop.invariant.1 begun before lines ready).0 c.in_ok-noted.ensures.noted c.in_ok-noted.ensures.called) in
     let base = g.P.Peer.called begun in
-    last_shown went came told (Counted went came told o shown before lines seconds start base n awaited) (λ end rs. MakesCalls base awaited (EndsNotes o seconds start end rs)) o shown before now
+    last_shown went came told (Counted went came told o shown before lines seconds start base n c.loop.ids awaited) (λ end rs. MakesCalls base awaited (EndsNotes o seconds start end rs)) o shown before now
     (record { out = g.W.Write.contents c.print_last.new.out; err = g.E.Write.contents c.loop.err }) lines old c.next_note.new.buffer c.in-Some.noted c.in_ok-print_last.field-0 c.if-noted.true p
-    (λ code. last_observed o seconds start base n code p.note p.older awaited p.called) refl (c.in_ok-print_last.ensures p.note.message p.read_is) limit fewer
+    (λ code. last_observed o seconds start base n code p.note p.older awaited p.begins p.called.0) refl (c.in_ok-print_last.ensures p.note.message p.read_is) limit fewer
 
 pub returns-in_err-render-clause-fault : goal.returns-in_err-render-clause-fault
 returns-in_err-render-clause-fault g c =
@@ -116,14 +116,14 @@ returns-in_err-render-clause-fault g c =
     let old = c.next_note.new.watch in
     raised c.from_residual-in_err-render.result c.in_err-render.field-0.0
     (λ error. (begun : _) (before : Written) (lines : ℕ)
-    → IsBeforeNext went came told (λ rs. MakesCalls (g.P.Peer.called begun) (g.P.Peer.called c.args.peer.now) (ObservesNotes o seconds start rs)) o shown before first lines c.args.watch.now c.args.buffer.now
+    → IsBeforeNext went came told (HasCalled (MakesCalls (g.P.Peer.called begun) (g.P.Peer.called c.args.peer.now)) o c.args.ids.now (ObservesNotes o seconds start)) o shown before first lines c.args.watch.now c.args.buffer.now
     c.args.next
     → IsLaterFault went came told g.P.Peer.is_error g.P.Peer.called begun c.render.new.peer o (ObservesNotes o seconds start) error)
     c.from_residual-in_err-render.ensures.1
     (λ begun before lines ready.
-    let p = subst (IsBeforeNext went came told (Counted went came told o shown before lines seconds start (g.P.Peer.called begun) n awaited) o shown before now lines old c.next_note.new.buffer) c.in-Some.is
-    (next_arrived went came told o shown before lines seconds start (g.P.Peer.called begun) n ends between awaited now c.loop.watch old c.loop.buffer c.next_note.new.buffer c.loop.next c.in_ok-noted.field-0 c.is_some-ends.ensures (c.loop.invariant.1 begun before lines ready).0 c.in_ok-noted.ensures.noted c.in_ok-noted.ensures.called) in
-    unrendered went came told g.P.Peer.is_error g.P.Peer.called begun c.next_note.new.peer c.render.new.peer o shown before now lines c.next_note.new.buffer c.in-Some.noted seconds start n old
+    let p = subst (IsBeforeNext went came told (Counted went came told o shown before lines seconds start (g.P.Peer.called begun) n c.loop.ids awaited) o shown before now lines old c.next_note.new.buffer) c.in-Some.is
+    (next_arrived went came told o shown before lines seconds start (g.P.Peer.called begun) n c.loop.ids ends between awaited now c.loop.watch old c.loop.buffer c.next_note.new.buffer c.loop.next c.in_ok-noted.field-0 c.is_some-ends.ensures (c.loop.invariant.1 begun before lines ready).0 c.in_ok-noted.ensures.noted c.in_ok-noted.ensures.called) in
+    unrendered went came told g.P.Peer.is_error g.P.Peer.called begun c.next_note.new.peer c.render.new.peer o shown before now lines c.next_note.new.buffer c.in-Some.noted seconds start n c.loop.ids old
     c.in_err-render.field-0.0 c.if-noted.false p (c.in_err-render.ensures.fault p.note.message p.read_is))
 
 pub returns-in-Line-clause-line : goal.returns-in-Line-clause-line
@@ -145,10 +145,10 @@ returns-in-Line-clause-line g c =
     let after = g.P.Peer.called c.render.new.peer in
     let state : Written = record { out = g.W.Write.contents c.render.new.out; err = g.E.Write.contents c.render.new.err } in
     λ begun before lines ready.
-    let p = subst (IsBeforeNext went came told (Counted went came told o shown before lines seconds start (g.P.Peer.called begun) n awaited) o shown before now lines old c.next_note.new.buffer) c.in-Some.is
-    (next_arrived went came told o shown before lines seconds start (g.P.Peer.called begun) n ends between awaited now c.loop.watch old c.loop.buffer c.next_note.new.buffer c.loop.next c.in_ok-noted.field-0 c.is_some-ends.ensures (c.loop.invariant.1 begun before lines ready).0 c.in_ok-noted.ensures.noted c.in_ok-noted.ensures.called) in
-    line_rendered went came told o shown before lines seconds start (g.P.Peer.called begun) n awaited after now state c.next_note.new.buffer c.render.new.buffer c.in-Some.noted old c.render.new.watch c.if-noted.false p
-    (subst (IsRenderedAs went came told (MakesCalls awaited after) o shown seconds start p.note.message now state old c.render.new.watch c.render.new.buffer) c.in-Line.is (c.in_ok-render.ensures.rendered p.note.message p.read_is))
+    let p = subst (IsBeforeNext went came told (Counted went came told o shown before lines seconds start (g.P.Peer.called begun) n c.loop.ids awaited) o shown before now lines old c.next_note.new.buffer) c.in-Some.is
+    (next_arrived went came told o shown before lines seconds start (g.P.Peer.called begun) n c.loop.ids ends between awaited now c.loop.watch old c.loop.buffer c.next_note.new.buffer c.loop.next c.in_ok-noted.field-0 c.is_some-ends.ensures (c.loop.invariant.1 begun before lines ready).0 c.in_ok-noted.ensures.noted c.in_ok-noted.ensures.called) in
+    line_rendered went came told o shown before lines seconds start (g.P.Peer.called begun) n c.loop.ids c.render.new.ids awaited after now state c.next_note.new.buffer c.render.new.buffer c.in-Some.noted old c.render.new.watch c.if-noted.false p
+    (subst (IsRenderedAs went came told (MakesCalls awaited after) o shown seconds start p.note.message now state old c.render.new.watch c.loop.ids c.render.new.ids c.render.new.buffer) c.in-Line.is (c.in_ok-render.ensures.rendered p.note.message p.read_is))
 
 pub returns-in-Over-clause-line : goal.returns-in-Over-clause-line
 returns-in-Over-clause-line g c =
@@ -169,10 +169,10 @@ returns-in-Over-clause-line g c =
     let after = g.P.Peer.called c.render.new.peer in
     let state : Written = record { out = g.W.Write.contents c.render.new.out; err = g.E.Write.contents c.render.new.err } in
     λ begun before lines ready limit fewer.
-    let p = subst (IsBeforeNext went came told (Counted went came told o shown before lines seconds start (g.P.Peer.called begun) n awaited) o shown before now lines old c.next_note.new.buffer) c.in-Some.is
-    (next_arrived went came told o shown before lines seconds start (g.P.Peer.called begun) n ends between awaited now c.loop.watch old c.loop.buffer c.next_note.new.buffer c.loop.next c.in_ok-noted.field-0 c.is_some-ends.ensures (c.loop.invariant.1 begun before lines ready).0 c.in_ok-noted.ensures.noted c.in_ok-noted.ensures.called) in
-    over_rendered went came told o shown before lines seconds start (g.P.Peer.called begun) n awaited after now state c.next_note.new.buffer c.render.new.buffer c.in-Some.noted old c.render.new.watch c.if-noted.false p
-    (subst (IsRenderedAs went came told (MakesCalls awaited after) o shown seconds start p.note.message now state old c.render.new.watch c.render.new.buffer) c.in-Over.is (c.in_ok-render.ensures.rendered p.note.message p.read_is))
+    let p = subst (IsBeforeNext went came told (Counted went came told o shown before lines seconds start (g.P.Peer.called begun) n c.loop.ids awaited) o shown before now lines old c.next_note.new.buffer) c.in-Some.is
+    (next_arrived went came told o shown before lines seconds start (g.P.Peer.called begun) n c.loop.ids ends between awaited now c.loop.watch old c.loop.buffer c.next_note.new.buffer c.loop.next c.in_ok-noted.field-0 c.is_some-ends.ensures (c.loop.invariant.1 begun before lines ready).0 c.in_ok-noted.ensures.noted c.in_ok-noted.ensures.called) in
+    over_rendered went came told o shown before lines seconds start (g.P.Peer.called begun) n c.loop.ids c.render.new.ids awaited after now state c.next_note.new.buffer c.render.new.buffer c.in-Some.noted old c.render.new.watch c.if-noted.false p
+    (subst (IsRenderedAs went came told (MakesCalls awaited after) o shown seconds start p.note.message now state old c.render.new.watch c.loop.ids c.render.new.ids c.render.new.buffer) c.in-Over.is (c.in_ok-render.ensures.rendered p.note.message p.read_is))
     limit fewer
 
 pub returns-clause-line : goal.returns-clause-line
@@ -188,8 +188,8 @@ returns-clause-line g c = λ begun before lines ready limit fewer.
     elim (c.loop.invariant.1 begun before lines ready).1 as (λ _. HasShown g.P.Peer.went g.P.Peer.came g.P.Peer.is_time (λ rs. MakesCalls base after (EndsNotes o seconds start Over rs)) o c.args.shown limit before now Over) [
       | inl none ↦ absurd (omega (arith, none, end))
       | inr goes ↦
-          over_shown g.P.Peer.went g.P.Peer.came g.P.Peer.is_time (Counted g.P.Peer.went g.P.Peer.came g.P.Peer.is_time o c.args.shown before lines seconds start base n after) (λ rs. MakesCalls base after (EndsNotes o seconds start Over rs)) o c.args.shown before now
-          lines goes.was goes.some (over_counted o seconds start base n (goes.some.latest ∷ goes.some.older) after (omega (arith, end)) goes.some.called) limit fewer
+          over_shown g.P.Peer.went g.P.Peer.came g.P.Peer.is_time (Counted g.P.Peer.went g.P.Peer.came g.P.Peer.is_time o c.args.shown before lines seconds start base n c.loop.ids after) (λ rs. MakesCalls base after (EndsNotes o seconds start Over rs)) o c.args.shown before now
+          lines goes.was goes.some (over_counted o seconds start base n (goes.some.latest ∷ goes.some.older) after (omega (arith, end)) goes.some.called.0) limit fewer
     ]
 
 pub loop-preserved : goal.loop-preserved
@@ -215,32 +215,32 @@ loop-preserved g c =
           subst
           (λ next. IfSome next (HasMessage c.render.new.buffer)
           × ((begun : _) (before : Written) (lines : ℕ)
-          → IsBeforeNext went came told (λ rs. MakesCalls (g.P.Peer.called begun) (g.P.Peer.called c.args.peer.now) (ObservesNotes o seconds start rs)) o shown before first lines c.args.watch.now
+          → IsBeforeNext went came told (HasCalled (MakesCalls (g.P.Peer.called begun) (g.P.Peer.called c.args.peer.now)) o c.args.ids.now (ObservesNotes o seconds start)) o shown before first lines c.args.watch.now
           c.args.buffer.now c.args.next
-          → IsBeforeNext went came told (λ rs. MakesCalls (g.P.Peer.called begun) after (HasCounted o seconds start (n + 1) rs)) o shown before state lines c.render.new.watch c.render.new.buffer next
-          × ((n + 1 ≡ 0) ⊎ GoesOn went came told (λ rs. MakesCalls (g.P.Peer.called begun) after (HasCounted o seconds start (n + 1) rs)) o shown before state lines))) (sym w.next-is) (
+          → IsBeforeNext went came told (HasCalled (MakesCalls (g.P.Peer.called begun) after) o c.render.new.ids (HasCounted o seconds start (n + 1))) o shown before state lines c.render.new.watch c.render.new.buffer next
+          × ((n + 1 ≡ 0) ⊎ GoesOn went came told (HasCalled (MakesCalls (g.P.Peer.called begun) after) o c.render.new.ids (HasCounted o seconds start (n + 1))) o shown before state lines))) (sym w.next-is) (
             tt,
             λ begun before lines ready.
-                let p = subst (IsBeforeNext went came told (Counted went came told o shown before lines seconds start (g.P.Peer.called begun) n awaited) o shown before now lines old c.next_note.new.buffer) c.in-Some.is
-                (next_arrived went came told o shown before lines seconds start (g.P.Peer.called begun) n ends between awaited now c.loop.watch old c.loop.buffer c.next_note.new.buffer c.loop.next c.in_ok-noted.field-0 c.is_some-ends.ensures (c.loop.invariant.1 begun before lines ready).0 c.in_ok-noted.ensures.noted c.in_ok-noted.ensures.called) in
-                let goes = missing_rendered went came told o shown before lines seconds start (g.P.Peer.called begun) n awaited after now state c.next_note.new.buffer c.render.new.buffer c.in-Some.noted old c.render.new.watch c.if-noted.false p
-                (subst (IsRenderedAs went came told (MakesCalls awaited after) o shown seconds start p.note.message now state old c.render.new.watch c.render.new.buffer) w.in-Missing.is (c.in_ok-render.ensures.rendered p.note.message p.read_is)) in
+                let p = subst (IsBeforeNext went came told (Counted went came told o shown before lines seconds start (g.P.Peer.called begun) n c.loop.ids awaited) o shown before now lines old c.next_note.new.buffer) c.in-Some.is
+                (next_arrived went came told o shown before lines seconds start (g.P.Peer.called begun) n c.loop.ids ends between awaited now c.loop.watch old c.loop.buffer c.next_note.new.buffer c.loop.next c.in_ok-noted.field-0 c.is_some-ends.ensures (c.loop.invariant.1 begun before lines ready).0 c.in_ok-noted.ensures.noted c.in_ok-noted.ensures.called) in
+                let goes = missing_rendered went came told o shown before lines seconds start (g.P.Peer.called begun) n c.loop.ids c.render.new.ids awaited after now state c.next_note.new.buffer c.render.new.buffer c.in-Some.noted old c.render.new.watch c.if-noted.false p
+                (subst (IsRenderedAs went came told (MakesCalls awaited after) o shown seconds start p.note.message now state old c.render.new.watch c.loop.ids c.render.new.ids c.render.new.buffer) w.in-Missing.is (c.in_ok-render.ensures.rendered p.note.message p.read_is)) in
                 (goes.0, inr goes.1),
           )
       | in-Newer w ↦
           subst
           (λ next. IfSome next (HasMessage c.render.new.buffer)
           × ((begun : _) (before : Written) (lines : ℕ)
-          → IsBeforeNext went came told (λ rs. MakesCalls (g.P.Peer.called begun) (g.P.Peer.called c.args.peer.now) (ObservesNotes o seconds start rs)) o shown before first lines c.args.watch.now
+          → IsBeforeNext went came told (HasCalled (MakesCalls (g.P.Peer.called begun) (g.P.Peer.called c.args.peer.now)) o c.args.ids.now (ObservesNotes o seconds start)) o shown before first lines c.args.watch.now
           c.args.buffer.now c.args.next
-          → IsBeforeNext went came told (λ rs. MakesCalls (g.P.Peer.called begun) after (HasCounted o seconds start (n + 1) rs)) o shown before state lines c.render.new.watch c.render.new.buffer next
-          × ((n + 1 ≡ 0) ⊎ GoesOn went came told (λ rs. MakesCalls (g.P.Peer.called begun) after (HasCounted o seconds start (n + 1) rs)) o shown before state lines))) (sym w.next-is) (
+          → IsBeforeNext went came told (HasCalled (MakesCalls (g.P.Peer.called begun) after) o c.render.new.ids (HasCounted o seconds start (n + 1))) o shown before state lines c.render.new.watch c.render.new.buffer next
+          × ((n + 1 ≡ 0) ⊎ GoesOn went came told (HasCalled (MakesCalls (g.P.Peer.called begun) after) o c.render.new.ids (HasCounted o seconds start (n + 1))) o shown before state lines))) (sym w.next-is) (
             subst (HasNewer c.render.new.buffer) w.in-Newer.is c.in_ok-render.ensures.message,
             λ begun before lines ready.
-                let p = subst (IsBeforeNext went came told (Counted went came told o shown before lines seconds start (g.P.Peer.called begun) n awaited) o shown before now lines old c.next_note.new.buffer) c.in-Some.is
-                (next_arrived went came told o shown before lines seconds start (g.P.Peer.called begun) n ends between awaited now c.loop.watch old c.loop.buffer c.next_note.new.buffer c.loop.next c.in_ok-noted.field-0 c.is_some-ends.ensures (c.loop.invariant.1 begun before lines ready).0 c.in_ok-noted.ensures.noted c.in_ok-noted.ensures.called) in
-                let goes = newer_rendered went came told o shown before lines seconds start (g.P.Peer.called begun) n awaited after now state c.next_note.new.buffer c.render.new.buffer c.in-Some.noted old c.render.new.watch c.if-noted.false p w.in-Newer.newer
-                (subst (IsRenderedAs went came told (MakesCalls awaited after) o shown seconds start p.note.message now state old c.render.new.watch c.render.new.buffer) w.in-Newer.is (c.in_ok-render.ensures.rendered p.note.message p.read_is)) in
+                let p = subst (IsBeforeNext went came told (Counted went came told o shown before lines seconds start (g.P.Peer.called begun) n c.loop.ids awaited) o shown before now lines old c.next_note.new.buffer) c.in-Some.is
+                (next_arrived went came told o shown before lines seconds start (g.P.Peer.called begun) n c.loop.ids ends between awaited now c.loop.watch old c.loop.buffer c.next_note.new.buffer c.loop.next c.in_ok-noted.field-0 c.is_some-ends.ensures (c.loop.invariant.1 begun before lines ready).0 c.in_ok-noted.ensures.noted c.in_ok-noted.ensures.called) in
+                let goes = newer_rendered went came told o shown before lines seconds start (g.P.Peer.called begun) n c.loop.ids c.render.new.ids awaited after now state c.next_note.new.buffer c.render.new.buffer c.in-Some.noted old c.render.new.watch c.if-noted.false p w.in-Newer.newer
+                (subst (IsRenderedAs went came told (MakesCalls awaited after) o shown seconds start p.note.message now state old c.render.new.watch c.loop.ids c.render.new.ids c.render.new.buffer) w.in-Newer.is (c.in_ok-render.ensures.rendered p.note.message p.read_is)) in
                 (goes.0, inr goes.1),
           )
     ]

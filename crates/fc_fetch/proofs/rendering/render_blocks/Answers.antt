@@ -34,11 +34,12 @@ returns-in_err-write_note-in-Whole-clause-fault g c =
     let after = g.P.Peer.called c.begin_rest.new.peer in
     let completed = subst (IsCompletion went came told (MakesCalls before between) o first next from old new buffer) c.in-Whole.is c.in_ok-completion.ensures.completed in
     raised c.from_residual-in_err-write_note-in-Whole.result (notes_error.Print c.in_err-write_note-in-Whole.field-0.0)
-    (λ error. (m : Message) → begun m ≡ from → has_further m ≡ true → IsRenderFault went came told g.P.Peer.is_error (MakesCalls before after) o seconds start m old error)
+    (λ error. (m : Message) → begun m ≡ from → has_further m ≡ true → IsRenderFault went came told g.P.Peer.is_error (MakesCalls before after) o seconds start m old first error)
     c.from_residual-in_err-write_note-in-Whole.ensures.1
     (λ m begins further. record {
       rendering = Blocks first old completed.outcomes (Joined c.in-Whole.code.byte c.in-Whole.body.items);
       is = rendering_of went came told o seconds start first next rest from m old new buffer (completion.Whole c.in-Whole.code c.in-Whole.body) before between after completed begins further;
+      begins = refl;
       line = refl;
       called = unwritten_calls went came told o seconds start first next rest from m old new buffer (completion.Whole c.in-Whole.code c.in-Whole.body) before between after completed begins c.in_ok-rest.ensures.called;
     })
@@ -65,6 +66,7 @@ returns-in-Err-clause-fault g c = λ m begins further.
     record {
       rendering = Blocks first old completed.outcomes (Missing c.in-Unfetched.cause);
       is = rendering_of went came told o seconds start first next rest from m old new buffer (completion.Unfetched c.in-Unfetched.cause) before between after completed begins further;
+      begins = refl;
       line = (c.in-Unfetched.cause, refl);
       called = unwritten_calls went came told o seconds start first next rest from m old new buffer (completion.Unfetched c.in-Unfetched.cause) before between after completed begins c.in_ok-rest.ensures.called;
     }
@@ -91,6 +93,8 @@ returns-in_ok-write_note-in-Whole-clause-rendered g c = λ m begins further.
     record {
       rendering = Blocks first old completed.outcomes (Joined c.in-Whole.code.byte c.in-Whole.body.items);
       is = rendering_of went came told o seconds start first next rest from m old new buffer (completion.Whole c.in-Whole.code c.in-Whole.body) before between after completed begins further;
+      begins = refl;
+      next_is = completed.next_is;
       text = subst (λ (bytes : List ℕ). Appends (g.W.Write.contents c.args.out.now) (g.W.Write.contents c.write_note.new.out) (note_text c.args.shown c.in-Whole.code.byte bytes)) c.deref.ensures.value
           c.in_ok-write_note-in-Whole.ensures;
       error = Appends-nil (g.E.Write.contents c.args.err.now);
@@ -120,6 +124,8 @@ returns-in-Newer-clause-rendered g c = λ m begins further.
     record {
       rendering = Blocks first old completed.outcomes (Superseded (take c.in-Newer.field-0.count buffer) c.in-Newer.field-0.time);
       is = rendering_of went came told o seconds start first next rest from m old new buffer (completion.Newer c.in-Newer.field-0) before between after completed begins further;
+      begins = refl;
+      next_is = completed.next_is;
       text = Appends-nil (g.W.Write.contents c.args.out.now);
       error = Appends-nil (g.E.Write.contents c.args.err.now);
       effect_is = (take c.in-Newer.field-0.count buffer, c.in-Newer.field-0.time, c.in-Newer.field-0.last, refl, completed.watch.1);
@@ -148,6 +154,8 @@ returns-in-Newer-2-clause-rendered g c = λ m begins further.
     record {
       rendering = Blocks first old completed.outcomes (Superseded (take c.in-Newer-2.noted.count buffer) c.in-Newer-2.noted.time);
       is = rendering_of went came told o seconds start first next rest from m old new buffer (completion.Newer c.in-Newer-2.noted) before between after completed begins further;
+      begins = refl;
+      next_is = completed.next_is;
       text = Appends-nil (g.W.Write.contents c.args.out.now);
       error = Appends-nil (g.E.Write.contents c.args.err.now);
       effect_is = (refl, completed.watch);
@@ -176,6 +184,8 @@ returns-in_default-clause-rendered g c = λ m begins further.
     record {
       rendering = Blocks first old completed.outcomes (Missing c.in-Unfetched.cause);
       is = rendering_of went came told o seconds start first next rest from m old new buffer (completion.Unfetched c.in-Unfetched.cause) before between after completed begins further;
+      begins = refl;
+      next_is = completed.next_is;
       text = Appends-nil (g.W.Write.contents c.args.out.now);
       error = c.in_default.ensures;
       effect_is = ((c.in-Unfetched.cause, refl), completed.watch);

@@ -1,7 +1,7 @@
-use Rattle.std.proofs.Common.{◌≤◌, ◌+◌, ◌%◌, ℕ, List, length, take, inr, refl, sym, ap, subst, ◌∙◌, arith}
+use Rattle.std.proofs.Common.{◌≡◌, ◌<◌, ◌≤◌, ◌+◌, ◌%◌, ℕ, List, length, take, refl, sym, ap, subst, ◌∙◌, arith}
 use Rattle.coap_client.specs.declared.joining.BlockHandled.TheVariants as handled
 use Rattle.coap_client.specs.declared.joining.Unfetched.TheVariants as unfetched
-use Rattle.coap_client.specs.Completions.{HasOutcome, IsBlockHandled, IsFollowing, Joined, Missing, Superseded, block_id}
+use Rattle.coap_client.specs.Completions.{HasOutcome, IsBlockHandled, IsFollowing, Joined, Missing, Superseded, block_id, requests_until}
 use Rattle.coap_client.specs.Fetching.{Ended}
 use Rattle.coap_client.specs.Notes.{IsNextNote}
 use Rattle.coap_client.specs.PeerCalls.{received_bytes}
@@ -10,6 +10,14 @@ use Rattle.coap_client.specs.Transmissions.{MakesCalls}
 use Rattle.coap_client.proofs.Joinings.{missing, no_more, one_outcome, outstanding, overtaken, rejected, requests_nothing, silent}
 use Rattle.coap_client.proofs.Transmitting.{some_of}
 use Rattle.coap_client.proofs.watch.Observation.complete.Goals as goal
+
+-- one more request is sent
+few : (count requested : ℕ) → requested < 4194304 → count ≡ requested → count + 1 ≤ 4194304
+few count requested less is = omega (arith, less, is)
+
+-- it has an outcome
+few_answered : (count requested : ℕ) → requested < 4194304 → count ≡ requested + 1 → count ≤ 4194304
+few_answered count requested less is = omega (arith, less, is)
 
 pub loop-requested-init : goal.loop-requested-init
 loop-requested-init g c = (
@@ -65,7 +73,7 @@ returns-in-Ok-None-clause-completed g c =
     record {
       outcomes = h.outcomes;
       are = h.are;
-      ends = outstanding went came told o w first c.loop-requested.ids c.loop-requested.requested id from old before between h;
+      ends = (few (length h.outcomes) c.loop-requested.requested c.loop-requested-test.true h.count_is, outstanding went came told o w first c.loop-requested.ids c.loop-requested.requested id from old before between h);
       called = silent went came told o w first c.loop-requested.ids c.loop-requested.requested id from old before between asked h c.block_id-id.ensures
           (subst (λ r. MakesCalls between asked (IsBlockTransmission o old.number old.szx id (received_bytes c.ask_block.new.buffer r))) c.in-Ok-None.field-0-is c.in-Ok-None.ensures.called);
       watch = now.1.0;
@@ -91,7 +99,7 @@ returns-in-Err-Rejected-clause-completed g c =
     record {
       outcomes = h.outcomes;
       are = h.are;
-      ends = outstanding went came told o w first c.loop-requested.ids c.loop-requested.requested id from old before between h;
+      ends = (few (length h.outcomes) c.loop-requested.requested c.loop-requested-test.true h.count_is, outstanding went came told o w first c.loop-requested.ids c.loop-requested.requested id from old before between h);
       called =
           rejected went came told o w first c.loop-requested.ids c.loop-requested.requested id from old before between asked h c.block_id-id.ensures
           (subst (IsBlockFault g.P.Peer.is_error (MakesCalls between asked) o old.number old.szx id) c.in-Err-Rejected.field-0-is c.in-Err-Rejected.ensures.fault);
@@ -125,7 +133,7 @@ returns-in-Ended-clause-completed g c =
     record {
       outcomes = h.outcomes;
       are = h.are;
-      ends = (so.1.0, h.leads);
+      ends = (few_answered (length h.outcomes) c.loop-requested.requested c.loop-requested-test.true h.count_is, (so.1.0, h.leads));
       called = no_more o first from h.outcomes (Joined c.in-Ended.code.byte c.handle_block.new.joining.body.items) before after h.called (λ calls none. none);
       watch = so.0;
       next_is = h.next_is;
@@ -159,7 +167,7 @@ returns-in-Newer-clause-completed g c =
     record {
       outcomes = h.outcomes;
       are = h.are;
-      ends = outstanding went came told o w first c.loop-requested.ids c.loop-requested.requested id from old before between h;
+      ends = (few (length h.outcomes) c.loop-requested.requested c.loop-requested-test.true h.count_is, outstanding went came told o w first c.loop-requested.ids c.loop-requested.requested id from old before between h);
       called =
           subst (λ (x : List ℕ). MakesCalls before after (IsFollowing o first from h.outcomes (Superseded x noted.time))) (sym own)
           (overtaken went came told o w first c.loop-requested.ids c.loop-requested.requested id from old before between asked after bytes noted.time h c.block_id-id.ensures
@@ -201,7 +209,7 @@ returns-in-Unfetched-clause-completed g c =
     record {
       outcomes = m.outcomes;
       are = m.are;
-      ends = m.missing;
+      ends = (few_answered (requests_until (Missing c.in-Unfetched.cause) (length m.outcomes)) c.loop-requested.requested c.loop-requested-test.true m.requests_are, m.missing);
       called = no_more o first from m.outcomes (Missing c.in-Unfetched.cause) before after m.called m.ends;
       watch = so.0;
       next_is = m.next_is ∙ m.next_same;
@@ -211,13 +219,22 @@ pub returns-clause-completed : goal.returns-clause-completed
 returns-clause-completed g c =
     let h = c.loop-requested.invariant.1.1 in
     let end = c.loop-requested-test.false in
+    let most = c.loop-requested.auto.requested-end in
     let count = h.count_is in
+    let all : length h.outcomes ≡ 4194304 = omega (arith, end, most, count) in
     record {
       outcomes = h.outcomes;
       are = h.are;
-      ends = inr (omega (arith, end, count));
+      ends = (
+        omega (arith, all),
+        (
+          all,
+          outstanding g.P.Peer.went g.P.Peer.came g.P.Peer.is_time c.args.observer.now c.args.self.now c.args.ids.now c.loop-requested.ids c.loop-requested.requested 0 (state_of c.args.joining)
+              c.loop-requested.joining (g.P.Peer.called c.args.peer.now) (g.P.Peer.called c.loop-requested.peer) h,
+        ),
+      );
       called =
-          no_more c.args.observer.now c.args.ids.now (state_of c.args.joining) h.outcomes (Missing unfetched.Malformed) (g.P.Peer.called c.args.peer.now) (g.P.Peer.called c.loop-requested.peer) h.called
+          no_more c.args.observer.now c.args.ids.now (state_of c.args.joining) h.outcomes (Missing unfetched.TooMany) (g.P.Peer.called c.args.peer.now) (g.P.Peer.called c.loop-requested.peer) h.called
           (λ calls none. none);
       watch = c.loop-requested.invariant.1.0;
       next_is = h.next_is;
