@@ -1,17 +1,19 @@
 #!/usr/bin/env python3
 """Tries the timers of `fcd serve --every`: their beats, their observers, late ones, expensive ones,
-and an idle server's wakes.
+skipped ones, and an idle server's wakes.
 
 Run it at the top of the repository, after `rt run` in crates/fcd and crates/fcreq, which builds the
 programs:
 
     python3 tests/timers/try.py [WORD..] [--seconds SECONDS]
 
-The tries are `mistakes`, `beats`, `late`, `many`, `expensive` and `idle`; the named ones are made, or
-all. `many` has ten timers of 100 ms, each with an observer, and a client with four requests a second,
-with one worker and with two, for 60 s unless `--seconds` says otherwise. Each wrong row is printed
-with its result, and then the status is 1."""
+The tries are `mistakes`, `beats`, `late`, `many`, `expensive`, `skipped` and `idle`; the named ones are
+made, or all. `many` has ten timers of 100 ms, each with an observer, and a client with four requests
+a second, with one worker and with two, for 60 s unless `--seconds` says otherwise. Each wrong row is
+printed with its result, and then the status is 1."""
 import argparse
+import ctypes
+import os
 import select
 import signal
 import socket
@@ -224,15 +226,47 @@ def expensive(_seconds):
             told = seen.told[0]
             runs = server.install(0, SLOW) - first - 1
             beats = (time.monotonic() - began) / 0.02
-            fcreq("--port", server.port, "delete", "/p/0")
-            time.sleep(0.5)
-            ended = seen.told[0]
-            time.sleep(2)
-            after = seen.told[0] - ended
     wrong = row("an expensive program runs at its beats at a worker", runs >= 0.97 * beats, f"{runs} runs of {beats:.0f}")
     wrong += row("its observer is notified, if not of each state", told >= 0.3 * beats, f"{told} notifications")
-    wrong += row("the server responds meanwhile", max(listed) < 0.25, f"{max(listed):.3f} s at most")
-    return wrong + row("no beat comes after the removal", after == 0, f"{after} notifications")
+    return wrong + row("the server responds meanwhile", max(listed) < 0.25, f"{max(listed):.3f} s at most")
+
+
+class Stopped:
+    """The workers of a server, each stopped as by a debugger (ptrace(2)). The thread that receives,
+    the first of the process, goes on."""
+
+    ATTACH, DETACH, ALL = 16, 17, 0x40000000
+
+    def __init__(self, pid):
+        self.call = ctypes.CDLL(None, use_errno=True).ptrace
+        self.call.argtypes = [ctypes.c_long, ctypes.c_long, ctypes.c_void_p, ctypes.c_void_p]
+        self.workers = [it for it in map(int, os.listdir(f"/proc/{pid}/task")) if it != pid]
+
+    def __enter__(self):
+        for it in self.workers:
+            if self.call(self.ATTACH, it, None, None):
+                raise OSError(ctypes.get_errno(), "ptrace")
+            os.waitpid(it, self.ALL)
+
+    def __exit__(self, *_):
+        for it in self.workers:
+            self.call(self.DETACH, it, None, None)
+
+
+def skipped(_seconds):
+    """Tries a timer of 20 ms whose job isn't run for a second, since the workers are stopped. A
+    counter replaces the expensive program: the jobs of 50 beats would add to its count."""
+    with Server("--workers", 2, "--every", "20:0") as server:
+        server.install(0, SLOW)
+        time.sleep(0.5)
+        with Stopped(server.it.pid):
+            time.sleep(1)
+            server.install(0, COUNTER)
+        began = time.monotonic()
+        time.sleep(1)
+        counted = server.count(0)
+        beats = (time.monotonic() - began) / 0.02
+    return row("the beats of a second without workers are skipped", abs(counted - beats) <= 8, f"{counted} runs, {beats:.0f} beats since then")
 
 
 def idle(_seconds):
@@ -248,7 +282,7 @@ def idle(_seconds):
     return wrong
 
 
-TRIES = {"mistakes": mistakes, "beats": beats, "late": late, "many": many, "expensive": expensive, "idle": idle}
+TRIES = {"mistakes": mistakes, "beats": beats, "late": late, "many": many, "expensive": expensive, "skipped": skipped, "idle": idle}
 
 
 def main():

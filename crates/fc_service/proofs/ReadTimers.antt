@@ -72,7 +72,7 @@ IsUncoloned text = (i : ℕ) → i < length text → slice_index text i ≢ colo
 digit_no_colon : (b : ℕ) → digit_value b < 10 → b ≢ colon
 digit_no_colon b h e = let r = digit_from_value b h in absurd (omega arith)
 
-digits_uncoloned : (text : List ℕ) → AllDigits 10 text → IsUncoloned text
+pub digits_uncoloned : (text : List ℕ) → AllDigits 10 text → IsUncoloned text
 digits_uncoloned [] h i lt = absurd (omega (arith, lt))
 digits_uncoloned (x ∷ text) h zero lt = digit_no_colon x h.0
 digits_uncoloned (x ∷ text) h (suc i) lt = digits_uncoloned text h.1 i (omega (arith, lt))

@@ -1,5 +1,5 @@
 -- All rounds of a server on one thread with timers are one history.
-use Rattle.std.proofs.Common.{◌≡◌, ◌⊎◌, ℕ, zero, suc, ◌<◌, Bool, true, false, List, [], ◌∷◌, ◌++◌, length, map, append-nil, Option, Some, None, ⊎_elim, arith, refl, ap, sym, subst, ◌∙◌}
+use Rattle.std.proofs.Common.{◌≡◌, ◌⊎◌, ℕ, suc, Bool, true, false, List, [], ◌∷◌, ◌++◌, length, map, append-nil, Option, Some, None, ⊎_elim, arith, refl, ap, sym, subst, ◌∙◌}
 use Rattle.std.specs.List.{All}
 use Rattle.std.specs.Option.{option_to_list}
 use Rattle.std.specs.Prelude.{MatchBool, flat_map, if◌then◌else◌, nat_lt}
@@ -24,7 +24,7 @@ use Rattle.fc_record.specs.ProgramRequests.{Requested}
 use Rattle.fc_record.specs.Recording.{Recording, recorded_calls}
 use Rattle.fc_record.specs.declared.report.Report.{Report}
 use Rattle.fc_workers.specs.declared.call_log.CallLog.{CallLog}
-use Rattle.fc_service.specs.Firing.{AreFired, Firing, FiresIfDue, FiresOnce, SkipsBeat, fired_calls, is_offloaded, readies_firing}
+use Rattle.fc_service.specs.Firing.{AreFired, Firing, FiresOnce, SkipsBeat, fired_calls, is_offloaded, readies_firing}
 use Rattle.fc_service.specs.Histories.{Arrival, Beat, Datagram, IsOneHistory, Silence, after_beat, arrival_at, beat_at, timed_arrivals_in, timers_after}
 use Rattle.fc_service.specs.Rounds.{AreRoundsBy, HasServedTimed, IsReceivedBy, IsRoundBy, Round, RoundCalls, sendings_in}
 use Rattle.fc_service.specs.SingleThread.{ReadiesRecorded}

@@ -35,7 +35,8 @@ use Rattle.fc_service.specs.declared.replies.SentReplies.{SentReplies}
 use Rattle.fc_service.specs.declared.replies.Replies.{Replies}
 
 -- a round: how long its receive waits, the datagram received, if any came in time, and the time.
--- Then the immediate response, the steps that followed, and the emissions passed to the sink.
+-- Then the immediate response, the steps that followed, and the emissions passed to the sink. Then
+-- the time at the end, if the clock was read again.
 pub record Round : Type 0 where
   pub wait : Option ℕ
   pub received : Option Incoming
@@ -43,6 +44,7 @@ pub record Round : Type 0 where
   pub sent : Option Emission
   pub steps : List FlushingStep
   pub sendings : List Sending
+  pub ended : Option ℕ
 
 -- the receive at the beginning of a round.
 abbrev pub receive_of : Round → Receive
@@ -84,17 +86,23 @@ at_most ms (Some wait) = Some (min wait ms)
 abbrev pub until_due : (now due : ℕ) → Option ℕ → Option ℕ
 until_due now due wait = if nat_lt due never then at_most (max (due - now) 1) wait else wait
 
--- how long a receive waits after a round at this time that left a server in this state. The wait
--- ends when the server's first timer is due.
-abbrev pub EndsByTimer : {S : Type 0} → IngressCalls S → S → ℕ → Bool → Option ℕ → Type 0
-EndsByTimer calls left now idle wait =
-    (due : ℕ) × (own : Option ℕ) × calls.is_first_due left due × EndsInTime (λ shard until. calls.stays_idle shard left until) now idle own × (wait ≡ until_due now due own)
+-- a wait is shortened from the time at which its round ended, and the clock is read then. If there
+-- is no timer, the clock isn't read, and the wait isn't shortened.
+abbrev pub ShortensTo : (due : ℕ) → Option ℕ → (own wait : Option ℕ) → Type 0
+ShortensTo due None own wait = (due ≡ never) × (wait ≡ own)
+ShortensTo due (Some ended) own wait = (due < never) × (wait ≡ until_due ended due own)
 
--- how long the first receive waits, and how long a receive waits after rounds that left a server in
--- this state.
+-- how long a receive waits after a round at this time that left a server in this state, and ended
+-- at that time. The wait ends when the server's first timer is due.
+abbrev pub EndsByTimer : {S : Type 0} → IngressCalls S → S → ℕ → Option ℕ → Bool → Option ℕ → Type 0
+EndsByTimer calls left now ended idle wait =
+    (due : ℕ) × (own : Option ℕ) × calls.is_first_due left due × EndsInTime (λ shard until. calls.stays_idle shard left until) now idle own × ShortensTo due ended own wait
+
+-- how long the first receive waits, from the start of the server's clock, and how long a receive
+-- waits after rounds that left a server in this state.
 abbrev pub WaitsAfter : {S : Type 0} → IngressCalls S → List Round → S → Option ℕ → Type 0
-WaitsAfter calls [] left wait = wait ≡ Some 100
-WaitsAfter calls (r ∷ rs) left wait = EndsByTimer calls left r.now (is_none r.received) wait
+WaitsAfter calls [] left wait = (due : ℕ) × calls.is_first_due left due × (wait ≡ until_due 0 due (Some 100))
+WaitsAfter calls (r ∷ rs) left wait = EndsByTimer calls left r.now r.ended (is_none r.received) wait
 
 -- ---- the order of a round's calls
 
@@ -108,14 +116,21 @@ pub record RoundCalls : Type 1 where
 abbrev pub round_calls : (Receive → CallLog → CallLog → Type 0) → (ℕ → CallLog → CallLog → Type 0) → (Emission → Bool → CallLog → CallLog → Type 0) → RoundCalls
 round_calls received time went = record { received = received; time = time; went = went }
 
+-- the clock was read, and gave this time; or it wasn't read.
+abbrev pub IsReadIfAny : (ℕ → CallLog → CallLog → Type 0) → Option ℕ → CallLog → CallLog → Type 0
+IsReadIfAny time None before after = after ≡ before
+IsReadIfAny time (Some now) before after = time now before after
+
 -- a source was called for a datagram, then the clock was read, and then these emissions were passed
--- to a sink, in order. The log has no other call.
+-- to a sink, in order. At the end the clock was read again, or not. The log has no other call.
 pub record IsCalledIn (e : RoundCalls) (r : Round) (before after : CallLog) : Type 0 where
   pub asked : CallLog
   pub receives : e.received (receive_of r) before asked
   pub told : CallLog
   pub time : e.time r.now asked told
-  pub handed : AreHanded e.went r.sendings told after
+  pub passed : CallLog
+  pub handed : AreHanded e.went r.sendings told passed
+  pub ends : IsReadIfAny e.time r.ended passed after
 
 -- the calls of rounds, one after the other, the newest first.
 abbrev pub AreCalledIn : RoundCalls → List Round → CallLog → CallLog → Type 0

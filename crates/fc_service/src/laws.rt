@@ -1,5 +1,10 @@
 //! Consequences of the service's definitions: each function's contract is a law.
-ghost use Rattle.std.specs.Prelude.{◌≡◌, ◌+◌, ◌-◌, ◌*◌, ◌/◌, ◌%◌, ◌<◌, ◌≤◌, ◌↔◌, ◌⊎◌, ℕ, Bool, List, [], ◌∷◌, None, Option, Some, codes, false, flat_map, length, map, true};
+ghost use Rattle.std.specs.Prelude.{◌≡◌, ◌≢◌, ◌+◌, ◌-◌, ◌*◌, ◌/◌, ◌%◌, ◌<◌, ◌≤◌, ◌↔◌, ◌⊎◌, ℕ, Bool, List, [], ◌∷◌, None, Option, Some, codes, false, flat_map, is_none, length, map, true};
+ghost use Rattle.coap_msg.specs.declared.types.Emission.{Emission};
+ghost use Rattle.fc_calls.specs.Doings.{AnswersAt};
+ghost use Rattle.fc_core.specs.Contents.{Content};
+ghost use Rattle.fc_core.specs.Exchanges.{FrontState, advanced};
+ghost use Rattle.fc_core.specs.Timers.{timer_job};
 ghost use Rattle.fc_core.specs.declared.front.Handled.TheVariants.{Job, Nothing, Reply, Signal};
 ghost use Rattle.fc_observe.specs.declared.observers.Ticked.{Ticked};
 ghost use Rattle.fc_observe.specs.declared.observers.Ticked.TheVariants.{Quiet};
@@ -8,15 +13,15 @@ ghost use Rattle.fc_registry.specs.Watches.{at_time, overdue_place, watch_at};
 ghost use Rattle.fc_server.specs.Notified.{Nobody, Notified};
 ghost use Rattle.fc_server.specs.Steps.{shard_turn};
 ghost use Rattle.fc_server.specs.declared.server.Begin.{Begin};
-ghost use Rattle.fc_host.specs.Sockets.{Receive};
+ghost use Rattle.fc_host.specs.Sockets.{Incoming, Receive};
 ghost use Rattle.fc_host.specs.Timers.{put_off};
 ghost use Rattle.fc_host.specs.declared.timer.Timer.{Timer};
 ghost use Rattle.fc_server.specs.declared.engine.FireOutcome.{FireOutcome};
 ghost use Rattle.std.specs.List.{All};
 ghost use Rattle.fc_server.specs.SingleThread.{NotifiesAlone, ResendsAlone};
-ghost use Rattle.fc_service.specs.Every.{IsTimerText};
-ghost use Rattle.fc_service.specs.Firing.{Firing, FiresIfDue, fired_calls, is_offloaded};
-ghost use Rattle.fc_service.specs.Histories.{Beat, IsOneHistory, after_beat, arrivals_in, arrivals_in_lines, beat_at, sent_in_lines, timed_arrivals_in};
+ghost use Rattle.fc_service.specs.Every.{IsNoTimerText, IsTimerText};
+ghost use Rattle.fc_service.specs.Firing.{AreFired, Firing, FiresIfDue, fired_calls, is_offloaded};
+ghost use Rattle.fc_service.specs.Histories.{Beat, Datagram, IsOneHistory, Silence, after_beat, arrivals_in, arrivals_in_lines, beat_at, sent_in_lines, timed_arrivals_in};
 ghost use Rattle.fc_server.specs.Ingresses.{is_reply};
 ghost use Rattle.fc_lines.specs.Emissions.{printed};
 ghost use Rattle.fc_service.specs.Playing.{IsNextText, IsPlayedOut, PlayedLine, printed_lines};
@@ -28,7 +33,7 @@ ghost use Rattle.fc_record.specs.declared.gauges.Gauges.{Gauges};
 ghost use Rattle.fc_service.specs.Logs.{ArePeriods, IsReportText};
 ghost use Rattle.fc_service.specs.Reporting.{AreGaugesOf, Reporting, ReportsIfDue, reported_calls, reporting_from};
 ghost use Rattle.fc_workers.specs.declared.call_log.CallLog.{CallLog};
-ghost use Rattle.fc_service.specs.Rounds.{EndsInTime, HasServed, HasServedTimed, WaitsAfter, round_calls, sendings_in, until_due};
+ghost use Rattle.fc_service.specs.Rounds.{EndsInTime, HasServed, HasServedTimed, Round, WaitsAfter, round_calls, sendings_in, until_due};
 ghost use Rattle.fc_server.specs.Flushing.{most_steps};
 ghost use Rattle.fc_service.specs.Serials.{IsNewerNumber, serial_of_start};
 ghost use Rattle.fc_server.specs.declared.alone.SingleThread.{SingleThread};
@@ -68,6 +73,17 @@ pub fn longest_period_is_a_day()
     ensures most { (text : List ℕ) (t : Timer) → IsTimerText text t → t.every ≤ 24 * 60 * 60 * 1000 }
 {}
 
+/// A timer has a period of 1 ms to a day, and a slot of 0 to 63.
+///
+/// `1:0` and `1000:63` are the texts of timers. `0:7`, `86400001:7` and `1000:64` are those of none.
+pub fn timers_have_periods_and_slots()
+    ensures shortest { IsTimerText (codes "1:0") (record { every = 1; slot = 0; due = 1; offloaded = false }) }
+    ensures last { IsTimerText (codes "1000:63") (record { every = 1000; slot = 63; due = 1000; offloaded = false }) }
+    ensures none { IsNoTimerText (codes "0:7") }
+    ensures longer { IsNoTimerText (codes "86400001:7") }
+    ensures beyond { IsNoTimerText (codes "1000:64") }
+{}
+
 /// The receiver sends immediate responses.
 ///
 /// It doesn't send a job's reply, a signal, or anything for an ignored datagram.
@@ -89,9 +105,13 @@ pub fn shards_tell_what_is_so()
         → ((told ≡ Nobody) ↔ (shard_turn now (shard_at old.engine.shards (shard % 8)) ≡ None)) }
 {}
 
-/// The first receive waits 100 ms.
+/// The first receive waits 100 ms, or until a timer is due before that.
+///
+/// With a timer of 20 ms it waits 20 ms.
 pub fn first_wait_is_100_ms<N: Ingress>()
-    ensures { (left : N) (wait : Option ℕ) → WaitsAfter N.calls [] left wait → wait ≡ Some 100 }
+    ensures without { (left : N) (wait : Option ℕ) → ((due : ℕ) → N.calls.is_first_due left due → due ≡ 18446744073709551615) → WaitsAfter N.calls [] left wait → wait ≡ Some 100 }
+    ensures timer { (left : N) (wait : Option ℕ) → ((due : ℕ) → N.calls.is_first_due left due → due ≡ 20) → WaitsAfter N.calls [] left wait → wait ≡ Some 20 }
+    ensures later { (left : N) (wait : Option ℕ) → ((due : ℕ) → N.calls.is_first_due left due → due ≡ 1000) → WaitsAfter N.calls [] left wait → wait ≡ Some 100 }
 {}
 
 /// A played line ends before a line feed, the byte 10.
@@ -162,14 +182,54 @@ pub fn timers_fire_when_they_are_due()
     ensures late { (after_beat 8300 (record { every = 1000; slot = 7; due = 5000; offloaded = false })).due ≡ 9000 }
 {}
 
+/// A timer of 1,000 ms of slot 7 fires in rounds at 1,000 and 2,300 ms, and not between them.
+///
+/// The rounds are at 900, 1,000, 1,500 and 2,300 ms. In its round the timer fires before the
+/// datagram is delivered.
+pub fn timers_fire_in_their_rounds()
+    ensures { (r : Round) (incoming : Incoming)
+        → timed_arrivals_in
+        (record r { now = 2300; received = Some incoming } ∷ record r { now = 1500; received = None } ∷ record r { now = 1000; received = None } ∷ record r { now = 900; received = Some incoming } ∷ [])
+        (record { every = 1000; slot = 7; due = 1000; offloaded = false } ∷ [])
+        ≡ Datagram 900 incoming ∷ Beat 1000 7 ∷ Silence 1000 ∷ Silence 1500 ∷ Beat 2300 7 ∷ Datagram 2300 incoming ∷ [] }
+{}
+
+/// The timers that are due in a round fire in their order.
+///
+/// In a round at 5,300 ms, timers that are due at 5,000 and 5,200 ms fire one after the other, once
+/// each. A timer that is due at 7,000 ms remains as it is.
+pub fn due_timers_fire_in_order<N: Ingress>()
+    ensures both { (t u : Timer) (new : List Timer) (before after : N) → t.due ≡ 5000 → u.due ≡ 5200 → t.offloaded ≡ false → u.offloaded ≡ false
+        → AreFired N.calls 5300 (t ∷ u ∷ []) new before after
+        → (mid : N) × (first : FireOutcome) × (second : FireOutcome) × N.calls.fires t.slot 5300 before mid first × N.calls.fires u.slot 5300 mid after second
+        × (new ≡ record (put_off 5300 t) { offloaded = is_offloaded first } ∷ record (put_off 5300 u) { offloaded = is_offloaded second } ∷ []) }
+    ensures first { (t u : Timer) (new : List Timer) (before after : N) → t.due ≡ 5000 → u.due ≡ 7000 → t.offloaded ≡ false
+        → AreFired N.calls 5300 (t ∷ u ∷ []) new before after
+        → (outcome : FireOutcome) × N.calls.fires t.slot 5300 before after outcome × (new ≡ record (put_off 5300 t) { offloaded = is_offloaded outcome } ∷ u ∷ []) }
+    ensures second { (t u : Timer) (new : List Timer) (before after : N) → t.due ≡ 7000 → u.due ≡ 5000 → u.offloaded ≡ false
+        → AreFired N.calls 5300 (t ∷ u ∷ []) new before after
+        → (outcome : FireOutcome) × N.calls.fires u.slot 5300 before after outcome × (new ≡ t ∷ record (put_off 5300 u) { offloaded = is_offloaded outcome } ∷ []) }
+{}
+
 /// A timer skips a beat only if its last job was sent to a worker.
 ///
 /// A timer of slot 7 that is due at 5,000 ms fires once in a round at 5,300 ms, by one call of the
-/// server, for slot 7.
+/// server, for slot 7. If its last job was sent to a worker, it fires once or skips the beat, and is
+/// due at 6,000 ms in either case.
 pub fn timers_skip_beats_only_for_a_worker<N: Ingress>()
     ensures free { (t u : Timer) (before after : N) → t.due ≡ 5000 → t.offloaded ≡ false → FiresIfDue N.calls 5300 t u before after
         → (outcome : FireOutcome) × N.calls.fires t.slot 5300 before after outcome × (u ≡ record (put_off 5300 t) { offloaded = is_offloaded outcome }) }
     ensures early { (t u : Timer) (before after : N) → t.due ≡ 5000 → FiresIfDue N.calls 4999 t u before after → (u ≡ t) × (after ≡ before) }
+    ensures offloaded { (t u : Timer) (before after : N) → t.every ≡ 1000 → t.due ≡ 5000 → t.offloaded ≡ true → FiresIfDue N.calls 5300 t u before after
+        → (u.due ≡ 6000) × (((outcome : FireOutcome) × N.calls.fires t.slot 5300 before after outcome × (u.offloaded ≡ is_offloaded outcome)) ⊎ ((after ≡ before) × (u.offloaded ≡ true))) }
+{}
+
+/// The answer of a timer's job is sent to nobody, by a worker either.
+///
+/// It is stored in no exchange, and draws no message ID: of the front only the time changes.
+pub fn workers_send_no_answer_of_a_timer()
+    ensures { (now slot : ℕ) (content : Content) (sent : Option Emission) (before after : FrontState) → AnswersAt now (timer_job slot) content sent before after
+        → (sent ≡ None) × (after ≡ advanced before now) }
 {}
 
 /// A wait ends when the first timer is due.
@@ -184,9 +244,37 @@ pub fn waits_end_when_a_timer_is_due<N: Ingress>()
     ensures least { until_due 5000 5000 (Some 100) ≡ Some 1 }
     ensures without { (now : ℕ) (wait : Option ℕ) → until_due now 18446744073709551615 wait ≡ wait }
     ensures first { (due : ℕ) (f : Firing N) → (fired_calls N.calls).is_first_due f due → All (λ t. due ≤ t.due) f.timers }
+    ensures earliest { (due : ℕ) (f : Firing N) (t u : Timer) → t.due ≡ 5000 → u.due ≡ 7000 → f.timers ≡ t ∷ u ∷ [] → ((own : ℕ) → N.calls.is_first_due f.ingress own → own ≡ 18446744073709551615)
+        → (fired_calls N.calls).is_first_due f due → due ≡ 5000 }
+    ensures own { (due : ℕ) (f : Firing N) (t : Timer) → t.due ≡ 5000 → f.timers ≡ t ∷ [] → ((own : ℕ) → N.calls.is_first_due f.ingress own → own ≡ 4600)
+        → (fired_calls N.calls).is_first_due f due → due ≡ 4600 }
 {
     no_timer_is_due_before_the_first();
 }
+
+/// The next receive of a server with timers waits until the first of them is due.
+///
+/// Timers are due at 5,000 and 7,000 ms, and the server that they fire has no timer of its own.
+/// After a round at 4,190 ms that ended at 4,200 ms the next receive waits 100 ms if a datagram was
+/// received, and 50 ms after one that ended at 4,950 ms. If none was received and no shard has work,
+/// it waits 800 ms. With timers the clock is read at the end of each round, and without timers it
+/// isn't.
+pub fn receives_end_when_a_timer_is_due<N: Ingress>()
+    ensures received { (f : Firing N) (t u : Timer) (r : Round) (rs : List Round) (wait : Option ℕ) → t.due ≡ 5000 → u.due ≡ 7000 → f.timers ≡ t ∷ u ∷ []
+        → ((own : ℕ) → N.calls.is_first_due f.ingress own → own ≡ 18446744073709551615) → r.now ≡ 4190 → r.ended ≡ Some 4200 → is_none r.received ≡ false
+        → WaitsAfter (fired_calls N.calls) (r ∷ rs) f wait → wait ≡ Some 100 }
+    ensures soon { (f : Firing N) (t u : Timer) (r : Round) (rs : List Round) (wait : Option ℕ) → t.due ≡ 5000 → u.due ≡ 7000 → f.timers ≡ t ∷ u ∷ []
+        → ((own : ℕ) → N.calls.is_first_due f.ingress own → own ≡ 18446744073709551615) → r.now ≡ 4190 → r.ended ≡ Some 4950 → is_none r.received ≡ false
+        → WaitsAfter (fired_calls N.calls) (r ∷ rs) f wait → wait ≡ Some 50 }
+    ensures idle { (f : Firing N) (t u : Timer) (r : Round) (rs : List Round) (wait : Option ℕ) → t.due ≡ 5000 → u.due ≡ 7000 → f.timers ≡ t ∷ u ∷ []
+        → ((own : ℕ) → N.calls.is_first_due f.ingress own → own ≡ 18446744073709551615)
+        → ((shard until : ℕ) → N.calls.stays_idle shard f.ingress until → until ≡ 18446744073709551615) → r.now ≡ 4190 → r.ended ≡ Some 4200 → is_none r.received ≡ true
+        → WaitsAfter (fired_calls N.calls) (r ∷ rs) f wait → wait ≡ Some 800 }
+    ensures read { (f : Firing N) (t u : Timer) (r : Round) (rs : List Round) (wait : Option ℕ) → t.due ≡ 5000 → u.due ≡ 7000 → f.timers ≡ t ∷ u ∷ []
+        → ((own : ℕ) → N.calls.is_first_due f.ingress own → own ≡ 18446744073709551615) → WaitsAfter (fired_calls N.calls) (r ∷ rs) f wait → r.ended ≢ None }
+    ensures unread { (left : N) (r : Round) (rs : List Round) (wait : Option ℕ) → ((due : ℕ) → N.calls.is_first_due left due → due ≡ 18446744073709551615)
+        → WaitsAfter N.calls (r ∷ rs) left wait → r.ended ≡ None }
+{}
 
 /// All lines that a server on one thread plays are one history of events.
 ///

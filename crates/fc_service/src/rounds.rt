@@ -4,7 +4,7 @@ ghost use Rattle.std.specs.Option.{option_to_list};
 ghost use Rattle.coap_msg.specs.declared.types.Emission.{Emission};
 ghost use Rattle.fc_core.specs.Receiving.{emission_if};
 ghost use Rattle.fc_service.specs.Ingresses.{IsHandledBy};
-ghost use Rattle.fc_service.specs.Rounds.{EndsByTimer, EndsInTime, HasRun, round_calls, until_due};
+ghost use Rattle.fc_service.specs.Rounds.{EndsByTimer, EndsInTime, HasRun, IsReadIfAny, round_calls, until_due};
 ghost use Rattle.fc_server.specs.Flushing.{AreIdleUntil, AreFlushed, AreStepsBy, FlushingStep, sent_in_steps};
 ghost use Rattle.fc_service.specs.Traffic.{Sends};
 
@@ -15,7 +15,7 @@ use fc_host::socket::{BUFFER, SHORTEST_WAIT, Sink, Source};
 use fc_server::Ingress;
 use fc_server::flush::{Flushing, STEPS, idle_until};
 use fc_server::ingress::is_reply;
-use fc_workers::TimeSource;
+use fc_workers::{CallLog, TimeSource};
 use std::sync::Wait;
 
 /// Work on an ingress at the start of a round.
@@ -48,8 +48,8 @@ impl<N: Ingress> Preparation<N> for Unprepared {
 /// worker. After each datagram, and after each receive without one, notifications that have
 /// timed out are retransmitted. Then observers with pending notifications are notified. A receive
 /// waits 100 ms. After a round without a datagram, the next waits until the earliest time at which
-/// there may be work, or without limit. Each wait but the first ends when a timer of the server is
-/// due. The result counts the replies passed to the sink, once each.
+/// there may be work, or without limit. Each wait ends when a timer of the server is due. The result
+/// counts the replies passed to the sink, once each.
 pub(crate) fn run_rounds<R: Wait, N: Ingress, P: Preparation<N>, S: Source, K: Sink, M: TimeSource>(
     rt: &R,
     ingress: &mut N,
@@ -65,7 +65,7 @@ pub(crate) fn run_rounds<R: Wait, N: Ingress, P: Preparation<N>, S: Source, K: S
     let mut buffer = [0; BUFFER];
     let mut replied = SentReplies::new();
     let mut received = 0u32;
-    let mut wait = Some(SHORTEST_WAIT);
+    let mut wait = until_due(0, ingress.first_due(), Some(SHORTEST_WAIT));
     for _ in rt.forever() {
         if limit > 0 && received >= limit {
             break;
@@ -83,17 +83,31 @@ pub(crate) fn run_rounds<R: Wait, N: Ingress, P: Preparation<N>, S: Source, K: S
             None => ingress.tick(now),
         }
         flush(ingress, now, &mut reply, sink, &mut replied);
-        wait = next_wait(ingress, now, idle);
+        wait = next_wait(rt, ingress, times, now, idle, &mut replied.log);
     }
     replied.replies
 }
 
 // Returns how long the next receive waits after a round at `now`, in milliseconds. `None` is
-// unlimited. The wait ends when the first timer is due that the server fires itself.
-fn next_wait<N: Ingress>(ingress: &N, now: u64, idle: bool) -> Option<u64>
-    ensures { EndsByTimer N.calls ingress.now now idle result }
+// unlimited. The wait ends when the first timer is due that the server fires itself. If there is
+// one, the clock is read, and the wait is counted from that time.
+fn next_wait<R: Wait, N: Ingress, M: TimeSource>(
+    rt: &R,
+    ingress: &N,
+    times: &M,
+    now: u64,
+    idle: bool,
+    log: &mut CallLog,
+) -> Option<u64>
+    ensures { (ended : Option ℕ) × EndsByTimer N.calls ingress.now now ended idle result × IsReadIfAny M.is_time ended log.old log.new }
 {
-    until_due(now, ingress.first_due(), next_call(ingress, now, idle))
+    let wait = next_call(ingress, now, idle);
+    let due = ingress.first_due();
+    if due == u64::MAX {
+        return wait;
+    }
+    let ended = times.now(rt, log);
+    until_due(ended, due, wait)
 }
 
 // Returns how long the next receive waits if the server has no timer. After a round that received a

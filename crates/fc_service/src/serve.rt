@@ -191,7 +191,7 @@ pub fn serve_at<
 ///
 /// In each round the timers that are due fire before the datagram is handled, in their order. The
 /// job of a timer is that of a POST of its slot's resource, which sends nothing. A timer whose last
-/// job is at a worker skips the beat. Each receive but the first ends when the first timer is due.
+/// job is at a worker skips the beat. Each receive ends when the first timer is due.
 pub fn serve_timed<
     R: Threads + Wait + Clock + Sync,
     S: Source + Drop,

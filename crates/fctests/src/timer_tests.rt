@@ -58,7 +58,7 @@ impl<'a, C: Clock> Source for Sleeping<'a, C> {
         let _ = log;
         self.calls = self.calls.saturating_add(1);
         let wait = wait.unwrap_or(u64::MAX);
-        if self.calls > 1 && wait > PERIOD {
+        if wait > PERIOD {
             self.long = self.long.saturating_add(1);
         }
         match self.calls {

@@ -1,4 +1,4 @@
-use Rattle.std.proofs.Common.{◌≡◌, List, false, length, subst, sym, true, ◌∙◌}
+use Rattle.std.proofs.Common.{◌≡◌, List, false, length, subst, sym, ◌∙◌}
 use Rattle.std.specs.Prelude.{◌==◌}
 use Rattle.fc_host.specs.declared.timer.Timer.{Timer}
 use Rattle.fc_service.proofs.Reported.{run_with}
