@@ -52,9 +52,29 @@ fn commit<B: Bench, R: Wait>(
     }
 }
 
-// Installs, commits, removes, and removes nothing, in a slot of a new server that begins at serial
-// 7. Returns the slot's serial after the removal, and the number of changes in the tally of its
-// shard.
+// Installs a program, commits a run, removes the program, and removes it again, which changes
+// nothing. Returns the slot's serial after the removal; `None` if the run or the removal failed.
+fn change_slot<B: Bench, R: Wait>(
+    rt: &R,
+    alloc: Global,
+    bench: &B,
+    tallies: &mut B::Tallies,
+    log: &mut TrackLog<B::Book>,
+) -> Result<Option<u64>, Fail> {
+    let job = post();
+    let program = Arc::new(alloc, verify(alloc, COUNTER).map_err(|_| "accepted")?)?;
+    let _made = bench.install(rt, &job, program, tallies, log);
+    let has_run = commit(rt, alloc, bench, tallies, log, &job)?;
+    let removal = bench.remove(rt, &job, tallies, log);
+    let _absent = bench.remove(rt, &job, tallies, log);
+    match removal {
+        Removal::Removed { serial } if has_run => Ok(Some(serial)),
+        Removal::Removed { .. } | Removal::Absent | Removal::AtEnd => Ok(None),
+    }
+}
+
+// Changes a slot of a new server that begins at serial 7. Returns the slot's serial at the end, 0 if
+// a change failed, and the number of changes in the tally of its shard.
 fn change<B: Books, R: Wait>(
     rt: &R,
     alloc: Global,
@@ -84,17 +104,9 @@ fn change<B: Books, R: Wait>(
         unreachable!();
     };
     let mut tallies = unassigned.split();
-    let job = post();
-    let program = Arc::new(alloc, verify(alloc, COUNTER).map_err(|_| "accepted")?)?;
-    let _made = server.install(rt, &job, program, &mut tallies, &mut log);
-    let has_run = commit(rt, alloc, &server, &mut tallies, &mut log, &job)?;
-    let removal = server.remove(rt, &job, &mut tallies, &mut log);
-    let _absent = server.remove(rt, &job, &mut tallies, &mut log);
-    let shown = if has_run { tallies.shown(3) } else { 0 };
-    match removal {
-        Removal::Removed { serial } => Ok((serial, shown)),
-        Removal::Absent | Removal::AtEnd => Ok((0, shown)),
-    }
+    let changed = change_slot(rt, alloc, &server, &mut tallies, &mut log);
+    let shown = tallies.shown(3);
+    changed.map(|serial| (serial.unwrap_or(0), shown))
 }
 
 #[test]
