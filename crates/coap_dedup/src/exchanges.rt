@@ -215,8 +215,9 @@ impl Exchanges {
     }
 }
 
-// Returns the class of a duplicate, for `look`. `confirmable` and `answer` are those of the first
-// request; `answer` is `None` if that request is in progress.
+// Returns the class of a duplicate: `Busy`, `Again` with the stored response, or `Silent`.
+// `confirmable` and `answer` are those of the first request; `answer` is `None` if that request is
+// in progress.
 fn repeat(confirmable: bool, answer: Option<&Datagram>) -> Looked
     ensures { (room : Room) → look_of result room ≡ repeated_by confirmable (option_map (λ bytes. bytes.now) answer.entry) }
 {

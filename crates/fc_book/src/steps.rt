@@ -74,7 +74,7 @@ pub(crate) fn begin_part(words: &Words, seat: &mut CallSeat) -> CallSeat
 
 /// Begins the next track, and returns it in a new owner.
 ///
-/// The new owner is that of a thread or a message, and may begin no track.
+/// The new owner is for a thread or a message. It isn't permitted to begin tracks.
 pub(crate) fn begin_tracks(words: &Words, seat: &mut CallSeat) -> CallSeat
     requires size { 0 < words.now.shared.table_id.words }
     requires table { seat.old.table_id ≡ words.now.shared.table_id }

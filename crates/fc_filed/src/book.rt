@@ -216,10 +216,11 @@ impl<J: ServerName> ServerTracks<J> {
         steps::begin(&book.words, &mut self.seat);
     }
 
-    /// Splits off the owner's first track, a job's, and returns it for a message.
+    /// Moves the owner's first track to a new owner, for a message, and returns the new owner.
     ///
-    /// Requires that the track is right for its job. So the track is right even if the message is
-    /// lost.
+    /// The new owner may begin no track, and has no track if the owner had none. Requires that the
+    /// first track, if any, is a job's and is right for its job. So it is right even if the message
+    /// is lost.
     pub fn split_first(&mut self, book: &ServerBook<J>) -> ServerTracks<J>
         requires { IsFirstSent J.first_job self.old.own }
         ensures first { result ≡ first_own self.old }

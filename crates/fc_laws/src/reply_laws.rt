@@ -21,7 +21,7 @@ ghost use Rattle.fc_core.specs.declared.event.Event.TheVariants.{Answer, Deliver
 ghost use Rattle.fc_core.specs.declared.front.Delivered.TheVariants.{Signal};
 ghost use Rattle.fc_core.specs.Stage.{ToAnswer};
 
-/// A request that a check of its options refuses is answered by the check's code.
+/// A request that a check of its options refuses is answered with the check's code.
 ///
 /// The request is no duplicate. A confirmable message with a format error is rejected by a Reset
 /// message with the same message ID (RFC 7252, section 4.2). So is a ping, and a confirmable

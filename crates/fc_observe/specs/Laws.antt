@@ -43,8 +43,8 @@ abbrev pub IsNotified : ObserverCall → ObserverList → Entry → ℕ → Type
 IsNotified (Notify now turn id sent random bytes) t o serial = (is_out turn (list_at_time now t) o ≡ true) × (serial ≡ sent)
 IsNotified other t o serial = ⊥
 
--- an entry `o` after a call has the same observer as `before`. The last revision sent to the
--- observer is unchanged, or is that of the notification by the call.
+-- an entry `o` after a call has the same observer as `before`. The last serial sent to the
+-- observer is unchanged, or the call is a notification with the new one.
 abbrev pub KeepsSerial : ObserverCall → ObserverList → Entry → Entry → Type 0
 KeepsSerial c t o before = (interest_of o ≡ interest_of before) × ((o.serial ≡ before.serial) ⊎ IsNotified c t before o.serial)
 

@@ -88,10 +88,11 @@ pub fn entries_are_of_their_commits()
         ≡ keep_last 8 (slot.ring ++ record { serial = slot.serial + 1; request = c.request; readings = c.readings; before = c.before; after = c.after } ∷ []) }
 {}
 
-/// The serials of a ticket and its slot decide the outcome of the ticket's commit.
+/// The outcome of a commit follows from the serials, if the slot gave the ticket.
 ///
-/// This holds if the slot gave the ticket. Then the slot has changed since the snapshot exactly if
-/// its serial isn't that of the ticket.
+/// The slot has changed since the snapshot exactly if its serial isn't the ticket's. A run that is
+/// to write is then overtaken. Otherwise it writes, or is refused at the slot's last serial. A run
+/// with nothing to write keeps the slot. See `CommitOutcome`.
 pub fn serials_decide()
     ensures { (t : Ticket) (slot : Slot) (o : CommitOutcome) → HasGiven slot t → ComesTo t slot o → o ≡ outcome t slot }
 {}

@@ -216,8 +216,8 @@ struct Ended<X: Drop, T: Drop, L: Drop> {
 /// The parts of a pool.
 ///
 /// It has the number of workers, 1 to 16, and the dispatch policy. It also has the server's initial
-/// state, the transmitter of the jobs' replies, and the clock. The last two are the device whose
-/// readings programs get, and the recorder of program changes.
+/// state, the transmitter of the jobs' replies, and the clock. Its other parts are the
+/// device whose readings programs get, and the recorder of program changes.
 #[derive(Drop)]
 pub struct Pool<'a, W: Wire, M: TimeSource, D: Device, C: Recorder> {
     pub workers: u8,

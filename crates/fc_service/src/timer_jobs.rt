@@ -46,7 +46,7 @@ impl TimerJobs {
         }
     }
 
-    /// Returns whether a worker has a job of a timer.
+    /// Returns whether a worker has a job of the timer at `place`.
     pub(crate) fn is_running(&self, place: usize) -> bool {
         match self.sent.get(place) {
             Some(sent) => sent.load(Ordering::SeqCst) != 0,
@@ -54,7 +54,8 @@ impl TimerJobs {
         }
     }
 
-    // Stores that the job with this number has ended.
+    // Stores that the job with this number has ended: its timer, if it has one, isn't running any
+    // more. The number `UNSENT` changes nothing.
     fn end(&self, number: u64) {
         if number == UNSENT {
             return;

@@ -129,9 +129,10 @@ fn serve_socket<R: Runtime + AllocGlobal + Threads + Wait + Net + RandomSource +
     )
 }
 
-// Serves with these options and timers, and returns the status. `end` logs the end of the server,
-// `changes` records the changes of programs, and `reporter` reports the counts. Returns an error if
-// the time or random bytes can't be read.
+// Serves with these options and timers, and returns the status of `serve`. `files` opens the
+// sensors' file, if the options name one. `err` gets the listening address, or the reason of a
+// failure. `end` logs the end of the server, `changes` records the changes of programs, and
+// `reporter` reports the counts. Returns an error if the time or the random bytes can't be read.
 fn serve_logged<
     R: Runtime + AllocGlobal + Threads + Wait + Net + RandomSource + Sync,
     E: Write,
