@@ -6,8 +6,9 @@
 # Use: examples/bridge.sh [-s STATE] [-t SECONDS] PORT PATH COMMAND..
 #      examples/bridge.sh -l [-s STATE] [-t SECONDS] URI COMMAND..
 #
-# The first form runs at the top of the repository, whose fcreq is built, or with FCREQ=PROGRAM. The
-# second uses libcoap's client, of Debian's package libcoap3-bin.
+# The first form uses the client FCREQ. By default that is the built one of the repository, if the
+# bridge runs at its top, or else fcreq on the path. The second form uses libcoap's client, of
+# Debian's package libcoap3-bin.
 #
 # -s STATE    the safe state. The command runs with it if there is no successful response for SECONDS,
 #             and when the bridge ends by SIGTERM or SIGINT
@@ -39,6 +40,15 @@ say() {
     echo "bridge: $target: $*" >&2
 }
 
+if [ "$client" = fcreq ]; then
+    fcreq=${FCREQ:-crates/fcreq/out/fcreq}
+    [ "$FCREQ" ] || [ -x "$fcreq" ] || fcreq=fcreq
+    if ! command -v "$fcreq" >/dev/null; then
+        say "no client $fcreq: set FCREQ, or put fcreq on the path"
+        exit 2
+    fi
+fi
+
 # Sets `now`, in seconds, by a clock that isn't adjusted.
 look_at_clock() {
     read -r now _ </proc/uptime
@@ -52,7 +62,7 @@ ask() {
         state=$(timeout --foreground "$1" coap-client-notls -v 2 -B "$1" -m post "$target" 2>/dev/null)
         [ -z "$state" ] || code=2.04
     else
-        { read -r code && read -r state; } < <(timeout --foreground "$1" "${FCREQ:-crates/fcreq/out/fcreq}" --port "$port" --text -f /dev/null post "$target" 2>/dev/null)
+        { read -r code && read -r state; } < <(timeout --foreground "$1" "$fcreq" --port "$port" --text -f /dev/null post "$target" 2>/dev/null)
     fi
 }
 

@@ -33,8 +33,8 @@
 //!   since block number 0, joined.
 //! - A timer that fires makes the job of a POST of its slot's resource. The job has no exchange, so
 //!   answering the job sends nothing.
-//! - `gauges` returns how many exchanges and transfers a front holds at a time, and their limits. It
-//!   changes nothing.
+//! - `gauges` returns how many exchanges and transfers a front holds at a time, and their limits.
+//!   It changes nothing.
 //!
 //! By the contracts of `Front::deliver`, `handle`, `answer`, `respond`, `tick`, `fire`, `fresh_id`,
 //! `gauges`, `Heads`, `Task`, `Answer::ran`.

@@ -40,8 +40,8 @@
 //!   or a longer argument.
 //! - An observer renders each note of a list, once, and writes nothing else. Its registration was
 //!   sent, and each note came with its token. Each state is newer than the one before it (RFC 7641,
-//!   section 3.4). No message is a duplicate, by its message ID within 247 s, of one before it. Each
-//!   can be shown, and each but the last is a state.
+//!   section 3.4). No message is a duplicate, by its message ID within 247 s, of one before it.
+//!   Each can be shown, and each but the last is a state.
 //! - A note whose message is whole has one line. A state of several blocks ends in one of three
 //!   ways. Its blocks, which were requested one after the other, are joined in one line. Or a newer
 //!   notification arrived before they were whole; it has no line, and that notification is the next

@@ -13,9 +13,9 @@
 //! on. From the *first job's* key on, each job has a key of its own. The rule is
 //! `HaveServerHistory` (`specs/Books.antt`).
 //!
-//! The server of `fc_workers` has its front and its shards under their locks in this form. Its reads
-//! and raises of head words aren't filed yet, and its jobs have no tracks of their own: once both
-//! are, the calls of all workers are one legal history.
+//! The server of `fc_workers` has its front and its shards under their locks in this form. Its
+//! reads and raises of head words aren't filed yet, and its jobs have no tracks of their own: once
+//! both are, the calls of all workers are one legal history.
 //!
 //! ```rust
 //! ghost use Rattle.std.specs.Prelude.{◌≡◌};
@@ -48,8 +48,8 @@
 //! - Each call of a front or a shard becomes the last entry on the tracks of its part, thread and
 //!   job. The entry has its arguments and its answer. A part's calls lead from the server's first
 //!   front, or shard, to the one under the lock.
-//! - Two kinds of calls leave the shard unchanged and aren't filed: an advance of a shard that isn't
-//!   idle, and a call by `FiledShard::inspect`.
+//! - Two kinds of calls leave the shard unchanged and aren't filed: an advance of a shard that
+//!   isn't idle, and a call by `FiledShard::inspect`.
 //! - A look at a head word and a raise are entries too, made in the step itself. The history's
 //!   looks and raises lead the head words from 0 to those of the table. A rejected image and
 //!   refused memory are also entries; they belong to no part.

@@ -55,8 +55,9 @@
 //! - The gauges of the front at a time, and the numbers of a shard's observers, are read. A read is
 //!   no event.
 //!
-//! By the contracts of `Server`, `Engine::handle`, `tick`, `fire`, `resend`, `notify`, `idle_until`,
-//! `gauges`, `observer_counts`, `SingleThread`, `Flushing::begin`, `step`, `flush::idle_until`.
+//! By the contracts of `Server`, `Engine::handle`, `tick`, `fire`, `resend`, `notify`,
+//! `idle_until`, `gauges`, `observer_counts`, `SingleThread`, `Flushing::begin`, `step`,
+//! `flush::idle_until`.
 #![tactic(auto)]
 
 pub mod alone;

@@ -44,10 +44,10 @@
 //!   socket are unknown (`Source::came`, `Sink::went`).
 //! - **Waits**: the first receive waits 100 ms, and so does each receive after a datagram. After an
 //!   idle round the wait lasts until the earliest time that the shards returned, and at least 100
-//!   ms. It is unlimited if they returned none. Each wait also ends when the server's first timer is
-//!   due, and then lasts at least 1 ms. With timers the clock is read at the end of each round, and
-//!   the next wait is counted from then (`run_rounds`, by `WaitsAfter`). A test shows that no job of
-//!   a server with workers is running when the server calls the shards.
+//!   ms. It is unlimited if they returned none. Each wait also ends when the server's first timer
+//!   is due, and then lasts at least 1 ms. With timers the clock is read at the end of each round,
+//!   and the next wait is counted from then (`run_rounds`, by `WaitsAfter`). A test shows that no
+//!   job of a server with workers is running when the server calls the shards.
 //! - **Timers**: in each round the timers that are due fire first, in their order, and no other.
 //!   Each fires by one call of the server, for its own slot, at the round's time, and is next due
 //!   at its first beat after that. A timer skips a beat only if its last job was sent to a worker

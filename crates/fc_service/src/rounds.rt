@@ -45,10 +45,10 @@ impl<N: Ingress> Preparation<N> for Unprepared {
 /// Receives `limit` datagrams, or never ends if `limit` is 0. Counts the replies.
 ///
 /// Each datagram is handled in order, before the next is received, and answered unless it needs a
-/// worker. After each datagram, and after each receive without one, notifications that have
-/// timed out are retransmitted. Then observers with pending notifications are notified. A receive
-/// waits 100 ms. After a round without a datagram, the next waits until the earliest time at which
-/// there may be work, or without limit. Each wait ends when a timer of the server is due. The result
+/// worker. After each datagram, and after each receive without one, notifications that have timed
+/// out are retransmitted. Then observers with pending notifications are notified. A receive waits
+/// 100 ms. After a round without a datagram, the next waits until the earliest time at which there
+/// may be work, or without limit. Each wait ends when a timer of the server is due. The result
 /// counts the replies passed to the sink, once each.
 pub(crate) fn run_rounds<R: Wait, N: Ingress, P: Preparation<N>, S: Source, K: Sink, M: TimeSource>(
     rt: &R,

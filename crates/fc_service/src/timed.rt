@@ -23,8 +23,8 @@ pub(crate) struct TimersOf<'a> {
 
 /// Receives datagrams as [`run_reported`] does, and fires the timers when they are due.
 ///
-/// A timer fires in the first round at or after its due time. Each receive ends when the first timer
-/// is due. Without timers the server is called directly. Returns the numbers of replies, as
+/// A timer fires in the first round at or after its due time. Each receive ends when the first
+/// timer is due. Without timers the server is called directly. Returns the numbers of replies, as
 /// `run_reported` does.
 pub(crate) fn run_timed<
     R: Wait,

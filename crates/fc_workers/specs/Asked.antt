@@ -51,8 +51,8 @@ abbrev pub shard_called : ℕ → ℕ
 shard_called index = min index 7
 
 -- the meaning of a call in a worker's log: its readings are the device's, or the front or a shard
--- was called. The calls of the front and of shards are filed, and no others. The read of a head word
--- and a raise take no lock: their effects are stated of the worker's handle.
+-- was called. The calls of the front and of shards are filed, and no others. The read of a head
+-- word and a raise take no lock: their effects are stated of the worker's handle.
 abbrev pub IsLoggedCall : Beginning → (List ℕ → CallLog → CallLog → Type 0) → LoggedCall → TrackedLog → TrackedLog → Type 0
 IsLoggedCall first AreReadings (GivesReadings readings) before after = IsUnfiled (AreReadings readings) before after
 IsLoggedCall first AreReadings (TellsReceipt job receipt) before after = IsShardCall first (job.origin.slot % 8) (λ x y. DescribesTo job x receipt y) (TellsReceipt job receipt) before after

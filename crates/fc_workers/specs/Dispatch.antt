@@ -108,14 +108,14 @@ module _ {T : Type 0} (s : WorkerView T) where
     pub delivery : IsSomeDelivery now from bytes (handled result job reply)
     pub done : IsDone offload from (handled result job reply) (logged_at log before) after
 
-  -- the job went to the workers under this number, as the policy allows; or without a number, it was
-  -- run here.
+  -- the job went to the workers under this number, as the policy allows; or without a number, it
+  -- was run here.
   abbrev pub IsDispatchedUnder : Offload → Job → Option ℕ → Dispatched T → Dispatched T → Type 0
   IsDispatchedUnder offload job (Some number) before after = (number ≡ length before.sent.sent) × IsHandedOver offload job before after
   IsDispatchedUnder offload job None before after = IsWorkedHere job before after
 
-  -- the timer of a slot fired at this time, and its job is dispatched: under this number, if it went
-  -- to the workers.
+  -- the timer of a slot fired at this time, and its job is dispatched: under this number, if it
+  -- went to the workers.
   pub record IsTimerFired (offload : Offload) (slot now : ℕ) (number : Option ℕ) (before after : Dispatched T) : Type 0 where
     pub log : TrackedLog
     pub fires : s.logged (FiresTimer slot now) before.share.log log

@@ -73,8 +73,8 @@ fn change_slot<B: Bench, R: Wait>(
     }
 }
 
-// Changes a slot of a new server that begins at serial 7. Returns the slot's serial at the end, 0 if
-// a change failed, and the number of changes in the tally of its shard.
+// Changes a slot of a new server that begins at serial 7. Returns the slot's serial at the end, 0
+// if a change failed, and the number of changes in the tally of its shard.
 fn change<B: Books, R: Wait>(
     rt: &R,
     alloc: Global,

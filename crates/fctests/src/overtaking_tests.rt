@@ -245,8 +245,8 @@ where
 pub(crate) struct TwoAtOnce;
 
 impl TwoAtOnce {
-    // Runs this trial with the workers. Returns the responses, conflicts and tallies, or an error if
-    // memory can't be allocated or a response wasn't seen in time.
+    // Runs this trial with the workers. Returns the responses, conflicts and tallies, or an error
+    // if memory can't be allocated or a response wasn't seen in time.
     fn hold<B: Bench + Sync, R: Threads + Wait + Clock + Sync>(
         &self,
         rt: &R,
@@ -337,8 +337,8 @@ pub(crate) struct Overtaken {
 }
 
 impl Overtaken {
-    // Runs this trial with the workers. Returns the responses, conflicts and tallies, or an error if
-    // memory can't be allocated or a response wasn't seen in time.
+    // Runs this trial with the workers. Returns the responses, conflicts and tallies, or an error
+    // if memory can't be allocated or a response wasn't seen in time.
     fn hold<B: Bench + Sync, R: Threads + Wait + Clock + Sync>(
         &self,
         rt: &R,
@@ -409,8 +409,8 @@ pub(crate) enum Trial {
 }
 
 impl Trial {
-    // Runs this trial with the workers. Returns the responses, conflicts and tallies, or an error if
-    // memory can't be allocated or a response wasn't seen in time.
+    // Runs this trial with the workers. Returns the responses, conflicts and tallies, or an error
+    // if memory can't be allocated or a response wasn't seen in time.
     fn hold<B: Locks + Sync, R: Threads + Wait + Clock + Sync>(
         &self,
         rt: &R,
