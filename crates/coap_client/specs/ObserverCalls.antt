@@ -50,7 +50,7 @@ abbrev pub dates : List ℕ → ℕ → List PeerCall
 dates bytes time = Reads time ∷ acknowledges bytes
 
 -- the datagram is a notification that isn't shown. At the time that the clock then returns, it is a
--- duplicate of one already shown, or isn't newer than the state shown last.
+-- duplicate of one already accepted, or isn't newer than the state accepted last.
 pub record IsOlderNotification (told : ℕ → Type 0) (token : List ℕ) (w : Observation) (bytes : List ℕ) (sent : List PeerCall) : Type 0 where
   pub message : Message
   pub read_is : reading_of bytes ≡ Ok message

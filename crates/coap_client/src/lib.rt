@@ -93,7 +93,7 @@
 //!   that can't be shown.
 //! - The next notification to show came from `Peer::receive`. It is a separate response with the
 //!   observer's token, and was acknowledged if it is confirmable. It is a state newer than the one
-//!   shown last, at a time that the peer returned; or it is the last, and no clause says that the
+//!   accepted last, at a time that the peer returned; or it is the last, and no clause says that the
 //!   last is newer.
 //! - A skipped datagram isn't a notification, or isn't newer, or is a duplicate of one already
 //!   shown. Nothing is sent except the acknowledgement of each confirmable notification.

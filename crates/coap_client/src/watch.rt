@@ -65,8 +65,8 @@ impl Observation {
 
     /// Classifies a separate response received at `at`, in milliseconds.
     ///
-    /// A state is `Older` if it isn't newer than the one shown last. A duplicate of a message shown
-    /// is `Older` too.
+    /// A state is `Older` if it isn't newer than the one accepted last. A duplicate of an accepted
+    /// message is `Older` too.
     pub fn notice_of(&self, at: u64, message: &Message<'_>) -> NotificationClass
         ensures { result ≡ notice_after self.now at message.now }
     {
