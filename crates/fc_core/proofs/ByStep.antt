@@ -8,11 +8,11 @@ use Rattle.fc_observe.specs.declared.entry.Turn.{Turn}
 use Rattle.fc_registry.specs.declared.job.Job.{Job}
 use Rattle.fc_registry.specs.Changes.{Change}
 use Rattle.fc_registry.specs.declared.commit.CommitOutcome.{CommitOutcome}
-use Rattle.fc_registry.specs.Calls.{commit_calls, commits, is_out_at, outcome, readings_if, receipt_at, remove_from, snapshot, turn_snapshot, initial_vars_of}
+use Rattle.fc_registry.specs.Calls.{commit_calls, commits, is_out_at, outcome, readings_if, receipt_at, remove_from, snapshot, turn_snapshot, initial_vars_of, wants}
 use Rattle.fc_registry.specs.Slots.{Slot, Ticket}
 use Rattle.fc_verify.specs.Judged.{judged}
 use Rattle.fc_core.specs.declared.event.Event.{Event}
-use Rattle.fc_core.specs.declared.event.Event.TheVariants.{Peek, Take, Commit, Install, Remove, Receipt, Raise, Answer, Fresh, Note, GiveUp, Lose}
+use Rattle.fc_core.specs.declared.event.Event.TheVariants.{Peek, Take, Commit, Install, Remove, Refuse, Receipt, Raise, Answer, Fresh, Note, GiveUp, Lose}
 use Rattle.fc_core.specs.Stage.{Stage}
 use Rattle.fc_core.specs.Stage.{ToMatch, ToTake, ToCommit, ToInstall, ToRemove, ToDescribe, ToList, ToRaise, ToAnswer, ToTell}
 use Rattle.fc_core.specs.TurnStage.{TurnStage}
@@ -40,6 +40,9 @@ pub data Step : Type 0 where
   Commits : (now count : ℕ) (t : Ticket) → Step
   Installs : (memory : Bool) → Step
   Removes : Step
+  -- refusals of a run that wants to write, and of a removal.
+  RefusesRun : (count : ℕ) (t : Ticket) → Step
+  RefusesRemoval : Step
   Describes : Step
   Raises : (word : ℕ) (content : Content) → Step
   Answers : (now : ℕ) (content : Content) → Step
@@ -58,6 +61,8 @@ event_by k (TakesTurn memory readings turn) = Take k memory readings
 event_by k (Commits now count t) = Commit k now
 event_by k (Installs memory) = Install k memory
 event_by k Removes = Remove k
+event_by k (RefusesRun count t) = Refuse k
+event_by k RefusesRemoval = Refuse k
 event_by k Describes = Receipt k
 event_by k (Raises word content) = Raise k
 event_by k (Answers now content) = Answer k now
@@ -75,6 +80,8 @@ stage_by (TakesTurn memory readings turn) = ToTell turn turns.ToTake
 stage_by (Commits now count t) = ToCommit count t
 stage_by (Installs memory) = ToInstall
 stage_by Removes = ToRemove
+stage_by (RefusesRun count t) = ToCommit count t
+stage_by RefusesRemoval = ToRemove
 stage_by Describes = ToDescribe
 stage_by (Raises word content) = ToRaise word content
 stage_by (Answers now content) = ToAnswer content
@@ -83,10 +90,11 @@ stage_by (Notes now random turn found id) = ToTell turn (turns.ToNote found id)
 stage_by (GivesUp now turn needs) = ToTell turn needs
 stage_by (Loses needs) = needs
 
--- the head word that is read is the one that the stage needs.
+-- the head word that is read is the one that the stage needs. A run that is refused wants to write.
 abbrev pub IsAsked : Step → Job → Type 0
 IsAsked (Matches n) job = (n == job.origin.slot) ≡ true
 IsAsked (Lists n seen) job = (n == length seen.items) ≡ true
+IsAsked (RefusesRun count t) job = wants t ≡ true
 IsAsked other job = Unit {0}
 
 -- the call of a step, with the result that the job's slot and its surroundings determine.
@@ -98,6 +106,8 @@ call_by (TakesTurn memory readings turn) job slot ws = calls.TakesTurn turn (tur
 call_by (Commits now count t) job slot ws = calls.Commits count t (commits (outcome t slot) t slot.serial ws.watch).answer
 call_by (Installs memory) job slot ws = install_if memory (initial_vars_of job.ask) (judged (image_of job.ask)) slot
 call_by Removes job slot ws = calls.Removes (remove_from slot).answer
+call_by (RefusesRun count t) job slot ws = calls.RefusesChange (ToCommit count t)
+call_by RefusesRemoval job slot ws = calls.RefusesChange ToRemove
 call_by Describes job slot ws = calls.Describes (receipt_at slot.present)
 call_by (Raises word content) job slot ws = calls.Raises word content
 call_by (Answers now content) job slot ws = calls.Answers content
@@ -153,6 +163,10 @@ module _ (P : Event → Stage → Effect → Type 0) (job : Job) (slot : Slot) (
   lists k n seen true is = step k (Lists n seen) is
   lists k n seen false is = rest (Peek k n) (ToList seen) (rests (λ slot ws. ap (λ (b : Bool). call_if b (call_by (Lists n seen) job slot ws)) is) (λ j named. ap not is) refl refl (λ slot ws cs. refl))
 
+  refuses : (k count : ℕ) (t : Ticket) (b : Bool) → wants t ≡ b → P (Refuse k) (ToCommit count t) (effect_of (Refuse k) (at job slot ws (ToCommit count t)) (call_if b (call_by (RefusesRun count t) job slot ws)))
+  refuses k count t true is = step k (RefusesRun count t) is
+  refuses k count t false is = rest (Refuse k) (ToCommit count t) (rests (λ slot ws. ap (λ (b : Bool). call_if b (call_by (RefusesRun count t) job slot ws)) is) (λ j named. ap not is) refl refl (λ slot ws cs. refl))
+
   -- a property holds for each transition if it holds for each step with its transition, and for
   -- each event that is no step.
   pub by_step : (e : Event) (s : Stage) → P e s (transition e (at job slot ws s))
@@ -169,6 +183,9 @@ module _ (P : Event → Stage → Effect → Type 0) (job : Job) (slot : Slot) (
   by_step (Install k memory) other = rest (Install k memory) other (rests (λ slot ws. refl) (λ j is. refl) refl refl (λ slot ws cs. refl))
   by_step (Remove k) ToRemove = step k Removes tt
   by_step (Remove k) other = rest (Remove k) other (rests (λ slot ws. refl) (λ j is. refl) refl refl (λ slot ws cs. refl))
+  by_step (Refuse k) (ToCommit count t) = refuses k count t (wants t) refl
+  by_step (Refuse k) ToRemove = step k RefusesRemoval tt
+  by_step (Refuse k) other = rest (Refuse k) other (rests (λ slot ws. refl) (λ j is. refl) refl refl (λ slot ws cs. refl))
   by_step (Receipt k) ToDescribe = step k Describes tt
   by_step (Receipt k) other = rest (Receipt k) other (rests (λ slot ws. refl) (λ j is. refl) refl refl (λ slot ws cs. refl))
   by_step (Raise k) (ToRaise word content) = step k (Raises word content) tt

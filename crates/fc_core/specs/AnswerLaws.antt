@@ -8,7 +8,7 @@ use Rattle.fc_registry.specs.declared.receipt.Receipt.{Receipt as Facts}
 use Rattle.fc_registry.specs.Calls.{meaning_at, wants}
 use Rattle.fc_registry.specs.Slots.{Slot, Present, Ticket}
 use Rattle.fc_core.specs.declared.event.Event.{Event}
-use Rattle.fc_core.specs.declared.event.Event.TheVariants.{Deliver, Peek, Take, Commit, Install, Remove, Receipt, Answer, Due, Fire, Fresh, Note, GiveUp, Tick, ShardTick}
+use Rattle.fc_core.specs.declared.event.Event.TheVariants.{Deliver, Peek, Take, Commit, Install, Remove, Refuse, Receipt, Answer, Due, Fire, Fresh, Note, GiveUp, Tick, ShardTick}
 use Rattle.fc_core.specs.Stage.{Stage}
 use Rattle.fc_core.specs.TurnStage as turns
 use Rattle.arrayvec.specs.ArrayVec.{ArrayVec}
@@ -18,7 +18,7 @@ use Rattle.fc_core.specs.Contents.{Content, RunAnswer, Ran, Missing, Unavailable
 use Rattle.fc_core.specs.Heads.{head_word, word_at}
 use Rattle.fc_core.specs.History.{Entry, History, Begins, Then, Seen, seen, job, slot_at, stage}
 use Rattle.fc_core.specs.Laws.{slot_of, stage_named, snapshots_of}
-use Rattle.fc_core.specs.Stages.{image_of}
+use Rattle.fc_core.specs.Stages.{image_of, is_refusable}
 use Rattle.fc_core.specs.Transitions.{names}
 
 -- ---- the origin of an answer
@@ -26,7 +26,7 @@ use Rattle.fc_core.specs.Transitions.{names}
 -- the event makes the answer of job k 5.03. The job is at this stage, in this slot, and has had
 -- this many tickets. Memory for a ticket or an install was refused (`NoTicket`, `NoMemory`), or the
 -- slot changed under the eighth ticket (`Overtaken`). Or the slot is at its last serial and has to
--- change.
+-- change. Or the change that the job wants to make wasn't saved (`Unsaved`).
 pub data IsUnavailable (e : Event) (k : ℕ) (j : Job) (slot : Slot) (at : Stage) (taken : ℕ) : Type 0 where
   NoTicket : (count : ℕ) (readings : List ℕ) (p : Present) (event : e ≡ Take k false readings) (is : at ≡ ToTake count) (found : slot.present ≡ Some p) → IsUnavailable e k j slot at taken
   NoMemory : (event : e ≡ Install k false) (is : at ≡ ToInstall) → IsUnavailable e k j slot at taken
@@ -34,6 +34,7 @@ pub data IsUnavailable (e : Event) (k : ℕ) (j : Job) (slot : Slot) (at : Stage
   LastCommit : (now count : ℕ) (t : Ticket) (event : e ≡ Commit k now) (is : at ≡ ToCommit count t) (wants : wants t ≡ true) (last : 9223372036854775807 ≤ slot.serial) → IsUnavailable e k j slot at taken
   LastInstall : (p : Program) (event : e ≡ Install k true) (is : at ≡ ToInstall) (accepted : judged (image_of j.ask) ≡ Accepts p) (last : 9223372036854775807 ≤ slot.serial) → IsUnavailable e k j slot at taken
   LastRemoval : (p : Present) (event : e ≡ Remove k) (is : at ≡ ToRemove) (found : slot.present ≡ Some p) (last : 9223372036854775807 ≤ slot.serial) → IsUnavailable e k j slot at taken
+  Unsaved : (event : e ≡ Refuse k) (may : is_refusable at ≡ true) → IsUnavailable e k j slot at taken
 
 -- the event makes the answer of job k 4.04: the job's snapshot finds the slot empty, or there is no
 -- program to describe.

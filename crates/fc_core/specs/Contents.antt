@@ -36,8 +36,8 @@ pub data Content : Type 0 where
   Ran : (run : RunAnswer) → Content
   -- the slot was empty.
   Missing : Content
-  -- the slot is at its last serial, memory can't be allocated, or the slot changed under the eighth
-  -- ticket.
+  -- the slot is at its last serial, memory can't be allocated, the slot changed under the eighth
+  -- ticket, or the change wasn't saved.
   Unavailable : Content
   -- a program was installed; `created` says whether the slot was empty.
   Made : (receipt : Receipt) (created : Bool) → Content

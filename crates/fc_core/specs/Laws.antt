@@ -5,12 +5,13 @@ use Rattle.fc_registry.specs.Slots.{Present, Ticket}
 use Rattle.fc_registry.specs.Changes.{Change}
 use Rattle.fc_registry.specs.Calls.{is_out_at, meaning_at, ticket_of, wants}
 use Rattle.fc_core.specs.declared.event.Event.{Event}
-use Rattle.fc_core.specs.declared.event.Event.TheVariants.{Deliver, Peek, Take, Commit, Install, Remove, Receipt, Raise, Answer, Due, Fire, Fresh, Note, GiveUp, Signal, Tick, ShardTick, Lose}
+use Rattle.fc_core.specs.declared.event.Event.TheVariants.{Deliver, Peek, Take, Commit, Install, Remove, Refuse, Receipt, Raise, Answer, Due, Fire, Fresh, Note, GiveUp, Signal, Tick, ShardTick, Lose}
 use Rattle.fc_core.specs.Stage.{Stage}
 use Rattle.fc_core.specs.Stage.{ToMatch, ToTake, ToCommit, ToInstall, ToRemove, ToDescribe, ToList, ToRaise, ToAnswer, ToTell, Gone}
 use Rattle.fc_core.specs.TurnStage as turns
 use Rattle.coap_reply.specs.Blocks.{cut_for}
 use Rattle.fc_core.specs.Contents.{Content, RunAnswer}
+use Rattle.fc_core.specs.Stages.{is_refusable}
 use Rattle.fc_core.specs.Transitions.{Inputs, names}
 use Rattle.fc_core.specs.History.{Entry, History, Begins, Then, Seen, seen, job, inputs, slot_at, stage}
 
@@ -32,6 +33,7 @@ is_noop_at (Take k memory readings) own (ToTell turn turns.ToTake) = false
 is_noop_at (Commit k now) own (ToCommit count t) = false
 is_noop_at (Install k memory) own ToInstall = false
 is_noop_at (Remove k) own ToRemove = false
+is_noop_at (Refuse k) own at = not (is_refusable at)
 is_noop_at (Receipt k) own ToDescribe = false
 is_noop_at (Raise k) own (ToRaise word content) = false
 is_noop_at (Answer k now) own (ToAnswer content) = false

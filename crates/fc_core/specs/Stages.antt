@@ -14,7 +14,7 @@ use Rattle.fc_registry.specs.declared.shard.Removal.TheVariants as removals
 use Rattle.fc_registry.specs.declared.commit.Committed.{Committed}
 use Rattle.fc_registry.specs.declared.commit.Committed.TheVariants.{Done, Overtaken, Ended, Stranger}
 use Rattle.fc_registry.specs.Slots.{Ticket}
-use Rattle.fc_registry.specs.Calls.{meaning_at, turn_of}
+use Rattle.fc_registry.specs.Calls.{meaning_at, turn_of, wants}
 use Rattle.fc_core.specs.Contents.{Content, Ran, run_answer, Missing as Misses, Unavailable, Made as Makes, Valid, Deleted, Described, Listed}
 use Rattle.fc_core.specs.Heads.{head_word, is_match, serial_in}
 use Rattle.fc_core.specs.Stage.{Stage}
@@ -142,6 +142,13 @@ listed words = if nat_lt (length words) 64 then ToList (record { items = words }
 abbrev pub after_list : Stage → Stage
 after_list (ToList seen) = listed seen.items
 after_list other = other
+
+-- whether a server may refuse the change of a job at this stage: the commit of a run that wants to
+-- write, or a removal. The refusal of an install is an `Install` without memory.
+abbrev pub is_refusable : Stage → Bool
+is_refusable (ToCommit count t) = wants t
+is_refusable ToRemove = true
+is_refusable other = false
 
 -- the image that a job is to install; any other job has none.
 abbrev pub image_of : Ask → List ℕ

@@ -19,13 +19,13 @@ use Rattle.fc_registry.specs.Notes.{note_at, note_calls}
 use Rattle.fc_core.specs.Contents.{Rejected, Untyped}
 use Rattle.fc_core.specs.Heads.{published, word_at}
 use Rattle.fc_core.specs.declared.event.Event.{Event}
-use Rattle.fc_core.specs.declared.event.Event.TheVariants.{Peek, Take, Commit, Install, Remove, Receipt, Raise, Answer, Fresh, Note, GiveUp, Lose}
+use Rattle.fc_core.specs.declared.event.Event.TheVariants.{Peek, Take, Commit, Install, Remove, Refuse, Receipt, Raise, Answer, Fresh, Note, GiveUp, Lose}
 use Rattle.fc_core.specs.Stage.{Stage}
 use Rattle.fc_core.specs.Stage.{ToMatch, ToTake, ToCommit, ToInstall, ToRemove, ToDescribe, ToList, ToRaise, ToAnswer, ToTell}
 use Rattle.fc_core.specs.TurnStage as turns
 use Rattle.fc_core.specs.declared.stage.Task.{Task}
-use Rattle.fc_core.specs.Stages.{image_of}
-use Rattle.fc_core.specs.Steps.{Call, Matches, Lists, Takes, Commits, Installs, Rejects, Refuses, Removes, Describes, Raises, Answers, TakesTurn, Draws, Notes, GivesUp, Loses, changes_of_call, next_stage, word_of_call}
+use Rattle.fc_core.specs.Stages.{image_of, is_refusable}
+use Rattle.fc_core.specs.Steps.{Call, Matches, Lists, Takes, Commits, Installs, Rejects, Refuses, RefusesChange, Removes, Describes, Raises, Answers, TakesTurn, Draws, Notes, GivesUp, Loses, changes_of_call, next_stage, word_of_call}
 
 -- the job that an event names, if any.
 abbrev pub names : Event → Option ℕ
@@ -34,6 +34,7 @@ names (Take job memory readings) = Some job
 names (Commit job now) = Some job
 names (Install job memory) = Some job
 names (Remove job) = Some job
+names (Refuse job) = Some job
 names (Receipt job) = Some job
 names (Raise job) = Some job
 names (Answer job now) = Some job
@@ -67,7 +68,7 @@ pub record Inputs : Type 0 where
 
 -- ---- the call of an event
 
--- the call if the head word that is read is the one that the job needs, otherwise none.
+-- the call if this condition holds, otherwise none.
 abbrev pub call_if : Bool → Call → Option Call
 call_if true call = Some call
 call_if false call = None
@@ -94,6 +95,7 @@ call_at (Take job memory readings) s (ToTell turn turns.ToTake) =
 call_at (Commit job now) s (ToCommit count t) = Some (Commits count t (commits (outcome t s.slot) t s.slot.serial s.around.watch).answer)
 call_at (Install job memory) s ToInstall = Some (install_if memory (initial_vars_of s.job.ask) (judged (image_of s.job.ask)) s.slot)
 call_at (Remove job) s ToRemove = Some (Removes (remove_from s.slot).answer)
+call_at (Refuse job) s needs = call_if (is_refusable needs) (RefusesChange needs)
 call_at (Receipt job) s ToDescribe = Some (Describes (receipt_at s.slot.present))
 call_at (Raise job) s (ToRaise word content) = Some (Raises word content)
 call_at (Answer job now) s (ToAnswer content) = Some (Answers content)

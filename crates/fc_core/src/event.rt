@@ -47,6 +47,13 @@ pub enum Event<'a> {
     Remove {
         job: usize,
     },
+    /// The change of a job's slot can't be saved, and the server refuses it.
+    ///
+    /// The change is a removal, or the commit of a run that wants to write. The refusal of an
+    /// install is an [`Event::Install`] without memory.
+    Refuse {
+        job: usize,
+    },
     /// A job reads the receipt of the program of the job's slot.
     Receipt {
         job: usize,
@@ -117,6 +124,7 @@ impl Event<'_> {
             Event::Commit { job, .. } => Some(job),
             Event::Install { job, .. } => Some(job),
             Event::Remove { job } => Some(job),
+            Event::Refuse { job } => Some(job),
             Event::Receipt { job } => Some(job),
             Event::Raise { job } => Some(job),
             Event::Answer { job, .. } => Some(job),

@@ -234,7 +234,9 @@ impl Stage {
         self.step = Step::ToAnswer;
     }
 
-    /// Continues after a failed allocation, or at the last serial: the answer is 5.03.
+    /// Continues after a failed allocation, a refused change, or at the last serial.
+    ///
+    /// The answer is 5.03.
     pub fn unavailable(&mut self)
         ensures { self.new ≡ ToAnswer Unavailable }
     {

@@ -6,7 +6,7 @@ ghost use Rattle.std.specs.Prelude.{◌≡◌, ℕ, ◌<◌, List, None, Option,
 ghost use Rattle.fc_verify.specs.Accepted.{Accepts};
 ghost use Rattle.fc_verify.specs.Judged.{judged};
 ghost use Rattle.fc_registry.specs.Slots.{IsOwned, slot_in};
-ghost use Rattle.fc_registry.specs.Calls.{HasGiven};
+ghost use Rattle.fc_registry.specs.Calls.{HasGiven, wants};
 ghost use Rattle.fc_registry.specs.Notes.{note_calls};
 ghost use Rattle.fc_registry.specs.Views.{HasSize, taken_with};
 ghost use Rattle.fc_registry.specs.Watches.{at_time, with_calls};
@@ -32,7 +32,7 @@ use fc_machine::{Frame, run};
 use fc_observe::Turn;
 use fc_registry::{
     Ask, InitialVars, Job, NoteOutcome, Notification, Receipt, Shard, SlotNumber, SlotSnapshot,
-    Taken, Ticket,
+    Taken, Ticket, wants_to_write,
 };
 use fc_verify::{Refusal, Verified, verify};
 use std::alloc::{AllocError, Global};
@@ -185,6 +185,26 @@ impl Task {
         let stage = &mut self.stage;
         if let Step::ToRemove = &stage.step {
             stage.removed(shard.remove(self.job.origin.slot));
+        }
+    }
+
+    /// Refuses the change of the job's slot, since it can't be saved: the job is answered 5.03.
+    ///
+    /// The change is a removal, or the commit of a run that wants to write. The snapshot's program
+    /// runs in `frame` to decide whether it wants to; any other run isn't refused. No slot changes.
+    pub fn refuse(&mut self, frame: &mut Frame)
+        ensures { (k : ℕ) (shard : Shard) → TaskMoves (Event.Refuse k) shard self.old self.new }
+    {
+        let stage = &mut self.stage;
+        match &stage.step {
+            Step::ToCommit(_, program) => {
+                let ticket = Ticket::of(program, &stage.found);
+                if wants(frame, &ticket) {
+                    stage.unavailable();
+                }
+            }
+            Step::ToRemove => stage.unavailable(),
+            _ => {}
         }
     }
 
@@ -396,6 +416,20 @@ fn run_and_commit(
     );
     let committed = shard.commit(now, &outcome, ticket);
     Step::committed(count, &outcome, ticket, committed, answer)
+}
+
+// Runs the ticket's program, and returns whether the run wants to write.
+fn wants(frame: &mut Frame, ticket: &Ticket<'_>) -> bool
+    ensures { result ≡ wants ticket.now }
+{
+    let outcome = run(
+        frame,
+        ticket.program(),
+        ticket.request(),
+        ticket.vars(),
+        ticket.readings(),
+    );
+    wants_to_write(&outcome)
 }
 
 // Returns the ticket of a program and its snapshot, or `None` if the slot was empty.

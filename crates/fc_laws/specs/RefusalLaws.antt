@@ -20,7 +20,7 @@ use Rattle.fc_verify.specs.Accepted.{Accepts}
 use Rattle.fc_verify.specs.Judged.{judged}
 use Rattle.fc_core.specs.Contents.{Content}
 use Rattle.fc_core.specs.declared.event.Event.{Event}
-use Rattle.fc_core.specs.declared.event.Event.TheVariants.{Answer, Commit, Deliver, Fresh, Install, Note, Receipt, Remove, Take}
+use Rattle.fc_core.specs.declared.event.Event.TheVariants.{Answer, Commit, Deliver, Fresh, Install, Note, Receipt, Refuse, Remove, Take}
 use Rattle.fc_core.specs.Stage.{Stage}
 use Rattle.fc_core.specs.Stage.{ToAnswer, ToCommit, ToDescribe, ToInstall, ToRemove, ToTake, ToTell}
 use Rattle.fc_core.specs.TurnStage as turns
@@ -29,7 +29,7 @@ use Rattle.fc_core.specs.History.{Entry, Seen, and_then, job, slot_at, stage, wa
 use Rattle.fc_core.specs.Ids.{free_id}
 use Rattle.fc_core.specs.Laws.{slot_of}
 use Rattle.fc_laws.specs.ReplyLaws.{Refuses, Rejects}
-use Rattle.fc_core.specs.Stages.{image_of}
+use Rattle.fc_core.specs.Stages.{image_of, is_refusable}
 use Rattle.fc_laws.specs.TurnLaws.{time_at}
 
 -- ---- refusals
@@ -51,6 +51,7 @@ pub data IsTurnedDown (s : Seen) (e : Event) : Type 0 where
 -- - An install fails: the image isn't accepted, memory can't be allocated, or the slot is at its
 --   last serial.
 -- - A removal or a receipt finds the slot empty, or a removal finds the slot at its last serial.
+-- - A removal, or the commit of a run that wants to write, can't be saved.
 -- - An answer isn't sent.
 -- - A lease gets no message ID or no memory, or isn't active any more.
 pub data IsRefusedCall (s : Seen) (k : ℕ) (e : Event) (emitted : Option Emission) : Type 0 where
@@ -64,6 +65,7 @@ pub data IsRefusedCall (s : Seen) (k : ℕ) (e : Event) (emitted : Option Emissi
       (why : (memory ≡ false) ⊎ (9223372036854775807 ≤ (slot_at s (slot_of s k)).serial)) → IsRefusedCall s k e emitted
   NotRemoved : (event : e ≡ Remove k) (at : stage s k ≡ ToRemove) (why : ((slot_at s (slot_of s k)).present ≡ None) ⊎
       (9223372036854775807 ≤ (slot_at s (slot_of s k)).serial)) → IsRefusedCall s k e emitted
+  NotSaved : (event : e ≡ Refuse k) (may : is_refusable (stage s k) ≡ true) → IsRefusedCall s k e emitted
   NotDescribed : (event : e ≡ Receipt k) (at : stage s k ≡ ToDescribe) (empty : (slot_at s (slot_of s k)).present ≡ None) → IsRefusedCall s k e emitted
   NotSent : (now : ℕ) (content : Content) (event : e ≡ Answer k now) (at : stage s k ≡ ToAnswer content) (none : emitted ≡ None) → IsRefusedCall s k e emitted
   HasNoId : (now : ℕ) (turn : Turn) (found : Option Ticket) (event : e ≡ Fresh k now) (at : stage s k ≡ ToTell turn (turns.ToDraw found))

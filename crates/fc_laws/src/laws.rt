@@ -1,7 +1,7 @@
 //! Laws of jobs: each function is a law, stated by its contract.
 ghost use Rattle.coap_msg.specs.declared.types.Emission.{Emission};
 ghost use Rattle.fc_core.specs.Contents.{Content, Ran, RunAnswer, Unavailable};
-ghost use Rattle.fc_core.specs.declared.event.Event.TheVariants.{Take, Commit, Install, Raise, Answer, Lose};
+ghost use Rattle.fc_core.specs.declared.event.Event.TheVariants.{Take, Commit, Install, Refuse, Raise, Answer, Lose};
 ghost use Rattle.fc_core.specs.Stage.{ToTake, ToCommit, ToInstall, ToRaise, ToAnswer, ToTell, Gone};
 ghost use Rattle.fc_core.specs.TurnStage.{ToDraw, ToNote};
 ghost use Rattle.fc_core.specs.History.{Entry, History, Then, Seen, seen, and_then, did, job, slot_at, stage};
@@ -10,8 +10,9 @@ ghost use Rattle.fc_observe.specs.declared.entry.Turn.{Turn};
 ghost use Rattle.fc_registry.specs.Calls.{commit_of, run_of};
 ghost use Rattle.fc_registry.specs.Slots.{Present, Ticket};
 ghost use Rattle.fc_core.specs.Legal.{AllMean, Emits, IsMeant};
+ghost use Rattle.fc_core.specs.Stages.{is_refusable};
 ghost use Rattle.fc_core.specs.Transitions.{names};
-ghost use Rattle.std.specs.Prelude.{ℕ, ◌+◌, ◌<◌, ◌≤◌, List, None, Option, Some, false, length, true, ◌≡◌};
+ghost use Rattle.std.specs.Prelude.{ℕ, ◌+◌, ◌<◌, ◌≤◌, List, None, Option, Some, false, length, slice_set, true, ◌≡◌};
 
 /// An event at the wrong stage of its job changes nothing and emits nothing.
 ///
@@ -112,6 +113,19 @@ pub fn ended_jobs_stay_ended()
 pub fn raises_keep_the_answer()
     ensures { (s : Seen) (k word : ℕ) (o : Option Emission) (content : Content)
         → stage s k ≡ ToRaise word content → stage (and_then (did (Raise k) o) s) k ≡ ToAnswer content }
+{}
+
+/// A change that can't be saved isn't made, and its job is answered 5.03.
+///
+/// 5.03 is Service Unavailable. The change is a removal, or the commit of a run that wants to
+/// write. Its refusal changes the stage of its job and nothing else: no slot, no observer, no head
+/// word and no time. It emits nothing. So the next snapshot finds each slot as it was.
+pub fn unsaved_changes_are_refused()
+    ensures alone { (s : Seen) (k : ℕ) (o : Option Emission) → is_refusable (stage s k) ≡ true
+        → and_then (did (Refuse k) o) s
+        ≡ record s { tasks = slice_set s.tasks k (record { job = job s k; stage = ToAnswer Unavailable }) } }
+    ensures finds { (s : Seen) (k n : ℕ) (o : Option Emission) → slot_at (and_then (did (Refuse k) o) s) n ≡ slot_at s n }
+    ensures emitted { (s : Seen) (k : ℕ) (o : Option Emission) → Emits s (Refuse k) o → o ≡ None }
 {}
 
 /// A job without memory for a ticket or an install is answered 5.03.

@@ -27,19 +27,19 @@ use Rattle.fc_registry.specs.Shards.{shard_at}
 use Rattle.fc_registry.specs.Slots.{Present, Shard, Slot, Ticket, last_serial, slot_in, with_slot}
 use Rattle.fc_registry.specs.Watches.{after_given_up, at_time, watch_at, with_calls}
 use Rattle.fc_core.specs.declared.stage.Task.{Task}
-use Rattle.fc_core.specs.declared.event.Event.TheVariants.{Commit, GiveUp, Install, Note, Receipt, Remove}
+use Rattle.fc_core.specs.declared.event.Event.TheVariants.{Commit, GiveUp, Install, Note, Receipt, Refuse, Remove}
 use Rattle.fc_core.specs.Contents.{Content, Unavailable}
 use Rattle.fc_core.specs.Ends.{refused}
 use Rattle.fc_core.specs.Fits.{FitsTurn, IsSafe, IsTicketOf}
 use Rattle.fc_core.specs.History.{History, task_at}
-use Rattle.fc_core.specs.Transitions.{Effect, Inputs, install_call, install_if, effect_of, goes_to, transition, task_moved, words_after}
+use Rattle.fc_core.specs.Transitions.{Effect, Inputs, call_if, install_call, install_if, effect_of, goes_to, transition, task_moved, words_after}
 use Rattle.fc_core.specs.Sound.{AllSafe}
 use Rattle.fc_core.specs.Stage.{Stage}
 use Rattle.fc_core.specs.Stage.{ToCommit, ToInstall, ToRemove, ToDescribe, ToAnswer, ToTell, Gone}
 use Rattle.fc_core.specs.TurnStage.{TurnStage}
 use Rattle.fc_core.specs.TurnStage as turns
 use Rattle.fc_core.specs.Stages.{after_commit, image_of, made, removed, receipt_content}
-use Rattle.fc_core.specs.Steps.{Call, Commits, Installs, Rejects, Removes, changes_of_call}
+use Rattle.fc_core.specs.Steps.{Call, Commits, Installs, RefusesChange, Rejects, Removes, changes_of_call}
 use Rattle.fc_core.proofs.Commits.{IsTransition, commit_transition, left_by, shard_of_transition}
 use Rattle.fc_core.proofs.Rejections.{rejected_call, same_slot}
 use Rattle.fc_calls.specs.Logged.{CommitsRun, GivesUpTurn, InstallsProgram, NotesTurn, RemovesProgram, TellsReceipt}
@@ -48,7 +48,7 @@ use Rattle.fc_calls.specs.Doings.{SaysFound}
 use Rattle.fc_server.specs.Serving.{Serves}
 use Rattle.fc_server.specs.States.{AtWork, Does, ServerState, inputs_in, shards_moved}
 use Rattle.fc_server.proofs.Others.{does_quietly}
-use Rattle.fc_linear.specs.Operations.{Operation, Logged, LogEntry, LacksMemory, ReceiptMoves, RejectsImage}
+use Rattle.fc_linear.specs.Operations.{Operation, Logged, LogEntry, LacksMemory, LacksStorage, ReceiptMoves, RejectsImage}
 use Rattle.fc_linear.specs.Parts.{RightByParts}
 use Rattle.fc_linear.proofs.Afters.{After, eight}
 use Rattle.fc_linear.proofs.Firsts.{entry_for, named, on_shard}
@@ -390,6 +390,22 @@ module _ (k : ℕ) (es : List LogEntry) (h : History) (end s : ServerState) (tas
         tasks = set tasks k later;
         serves = job_served h e k (refl, refl, refl) s s tasks later None (does_quietly e s s task later (ToAnswer (refused (Broken f))) there refl
             (ap (λ (x : Stage). record { job = task.job; stage = x }) (n.moves.3 ∙ ap (λ (c : Content). ToAnswer c) n.moves.1.2) ∙ ap (λ (m : Effect). task_moved task m) (sym there)) refl) v;
+        rest = record { front = st.front; shards = st.shards; words = st.words; jobs = n.jobs; to_come = n.to_come; numbered = n.numbered; events = st.events.1 };
+      }
+
+  pub after_refuse : (j : Job) → RightByParts end s tasks (entry_for k (LacksStorage j) ∷ es) → After k (LacksStorage j) es h end
+  after_refuse j st =
+      let op : Operation = LacksStorage j in
+      let task = task_at tasks k in
+      let n = named k op end s tasks es st refl refl in
+      let later : Task = record { job = task.job; stage = n.stage } in
+      let e = Refuse k in
+      let there : transition e (inputs_in s task) ≡ goes_to (ToAnswer Unavailable) = ap (λ (b : Bool). effect_of e (inputs_in s task) (call_if b (RefusesChange task.stage))) n.moves.1 in
+      record {
+        server = s;
+        tasks = set tasks k later;
+        serves = job_served h e k (refl, refl, refl) s s tasks later None (does_quietly e s s task later (ToAnswer Unavailable) there refl
+            (ap (λ (x : Stage). record { job = task.job; stage = x }) n.moves.2 ∙ ap (λ (m : Effect). task_moved task m) (sym there)) refl) v;
         rest = record { front = st.front; shards = st.shards; words = st.words; jobs = n.jobs; to_come = n.to_come; numbered = n.numbered; events = st.events.1 };
       }
 

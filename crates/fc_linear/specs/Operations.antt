@@ -16,7 +16,7 @@ use Rattle.fc_registry.specs.Calls.{receipt_of, run_of}
 use Rattle.fc_registry.specs.Notes.{sent_of}
 use Rattle.fc_registry.specs.Slots.{Shard, Ticket}
 use Rattle.fc_core.specs.declared.event.Event.{Event}
-use Rattle.fc_core.specs.declared.event.Event.TheVariants.{Deliver, Peek, Take, Commit, Install, Remove, Receipt, Raise, Answer, Due, Fire, Fresh, Note, GiveUp, Signal, Tick, ShardTick}
+use Rattle.fc_core.specs.declared.event.Event.TheVariants.{Deliver, Peek, Take, Commit, Install, Remove, Refuse, Receipt, Raise, Answer, Due, Fire, Fresh, Note, GiveUp, Signal, Tick, ShardTick}
 use Rattle.fc_core.specs.declared.front.Delivered.{Delivered}
 use Rattle.fc_core.specs.declared.front.Delivered.TheVariants.{Job as Brings, Reply}
 use Rattle.fc_core.specs.Stage.{Stage}
@@ -29,7 +29,7 @@ use Rattle.fc_core.specs.Exchanges.{FrontState}
 use Rattle.fc_core.specs.Fits.{IsSafe}
 use Rattle.fc_core.specs.Heads.{word_at, word_raised}
 use Rattle.fc_core.specs.Legal.{resent}
-use Rattle.fc_core.specs.Stages.{after_commit, had_memory, image_of, listed, made, matched, removed, receipt_content, took, turn_took, with_id}
+use Rattle.fc_core.specs.Stages.{after_commit, had_memory, image_of, is_refusable, listed, made, matched, removed, receipt_content, took, turn_took, with_id}
 use Rattle.fc_core.specs.Timers.{timer_job}
 use Rattle.fc_calls.specs.Logged.{LoggedCall}
 use Rattle.fc_calls.specs.Logged.{HandlesDatagram, AdvancesFront, FiresTimer, DrawsId, AnswersRequest, TellsReceipt, GivesReadings, LooksAt, RaisesWord}
@@ -37,12 +37,13 @@ use Rattle.fc_calls.specs.Logged.{TakesForJob, CommitsRun, InstallsProgram, Remo
 use Rattle.fc_calls.specs.Doings.{AdvancesTo, AnswersAt, CommitsAt, DescribesTo, DrawsAt, FiresAt, GivesTurnAt, GivesUpAt, HandsOn, HandlesAt, InstallsTo, NotesAt, PassesIfIdle, RemovesFrom, TakesTo, TicksAt}
 use Rattle.fc_calls.specs.Doings.{SaysFound}
 
--- a call in a thread's log, or an image that isn't installed. Such an image breaks a rule, or
--- memory for it is refused.
+-- a call in a thread's log, an image that isn't installed, or a change that isn't saved. Such an
+-- image breaks a rule, or memory for it is refused.
 pub data Operation : Type 0 where
   Logged : (call : LoggedCall) → Operation
   RejectsImage : (job : Job) (content : Content) → Operation
   LacksMemory : (job : Job) → Operation
+  LacksStorage : (job : Job) → Operation
 
 -- an operation, with the number of its job; the number has no meaning if the operation is for no
 -- job.
@@ -83,6 +84,7 @@ abbrev pub part_of : Operation → ServerPart
 part_of (Logged call) = part_by call
 part_of (RejectsImage job content) = NoPart
 part_of (LacksMemory job) = NoPart
+part_of (LacksStorage job) = NoPart
 
 abbrev pub is_front : ServerPart → Bool
 is_front FrontPart = true
@@ -189,6 +191,7 @@ StageMoves (Logged (RaisesWord slot word)) job s t = (slot ≡ job.origin.slot) 
 StageMoves (RejectsImage j content) job s t =
     (j ≡ job) × ((f : Fault) × IsRefusal (image_of job.ask) (Broken f) × (content ≡ refused (Broken f))) × (s ≡ ToInstall) × (t ≡ ToAnswer content)
 StageMoves (LacksMemory j) job s t = (j ≡ job) × (s ≡ ToInstall) × (t ≡ ToAnswer Unavailable)
+StageMoves (LacksStorage j) job s t = (j ≡ job) × (is_refusable s ≡ true) × (t ≡ ToAnswer Unavailable)
 StageMoves other job s t = ⊥
 
 -- ---- its event, and what that emits
@@ -221,6 +224,7 @@ abbrev pub event_for : ℕ → Operation → Event
 event_for k (Logged call) = event_by k call
 event_for k (RejectsImage j content) = Install k true
 event_for k (LacksMemory j) = Install k false
+event_for k (LacksStorage j) = Refuse k
 
 abbrev pub event_of : LogEntry → Event
 event_of e = event_for e.job e.operation

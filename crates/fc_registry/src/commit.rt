@@ -1,5 +1,10 @@
 //! Outcomes and results of commits.
+ghost use Rattle.std.specs.Prelude.{◌≡◌};
+ghost use Rattle.fc_registry.specs.Calls.{is_post, wants_by};
+
 use crate::ticket::Mark;
+use fc_help::Method;
+use fc_machine::Outcome;
 
 /// The outcome of a commit of a ticket's run, at its slot.
 #[derive(Clone, Copy, PartialEq, Eq)]
@@ -35,4 +40,20 @@ pub enum Committed {
     /// The outcome isn't of the ticket's program, request, variables and readings. Or the ticket is
     /// that of a lease, or the ticket's serial is above the slot's.
     Stranger,
+}
+
+/// Returns whether a run has variables to write: it answered a POST with a code of class 2.
+///
+/// The commit of any other run changes no slot.
+pub fn wants_to_write(outcome: &Outcome<'_>) -> bool
+    ensures { result ≡ wants_by outcome.now }
+{
+    is_post(outcome.request().method()) && outcome.code() / 32 == 2
+}
+
+// Returns whether a request is a POST.
+fn is_post(method: Method) -> bool
+    ensures { result ≡ is_post method }
+{
+    method == Method::Post
 }

@@ -67,7 +67,7 @@
 //! By the contracts of `plan_install`, `plan_commit`, `plan_removal`, `Shard::restore`, `take`,
 //! `take_into`, `would_write`, `commit`, `install`, `remove`, `receipt`, `next_due`, `note`,
 //! `give_up`, `signal`, `tick`, `advance_if_idle`, `idle_until`, `observer_counts`,
-//! `rings_are_chains`, `no_observer_is_ahead`, `laws`.
+//! `wants_to_write`, `rings_are_chains`, `no_observer_is_ahead`, `laws`.
 #![tactic(auto)]
 
 mod body;
@@ -87,7 +87,7 @@ pub mod slot_number;
 pub mod ticket;
 mod turn;
 
-pub use commit::{CommitOutcome, Committed};
+pub use commit::{CommitOutcome, Committed, wants_to_write};
 pub use job::{Ask, InitialVars, Job, Opening, Origin};
 pub use note::{NoteOutcome, Noted, Notification};
 pub use observe::{CANCEL, REGISTER, has_observe};

@@ -5,14 +5,14 @@ ghost use Rattle.std.specs.Prelude.{◌≡◌, ◌+◌, ◌<◌, ◌≤◌, ◌�
 ghost use Rattle.fc_machine.specs.Ran.{meaning_of};
 ghost use Rattle.fc_registry.specs.Slots.{new_slot, last_serial, version_in, vars_in};
 ghost use Rattle.fc_registry.specs.Changes.{Committed as Wrote, after_changes, vars_installed};
-ghost use Rattle.fc_registry.specs.Calls.{IsCommit, ComesTo, IsOwn, IsCurrent, commit_calls, commit_of, is_observed, is_post, observe_calls, mark_of, install_in, receipt_at, remove_from, run_of, wants_by, IsFinding, IsTurnSnapshot, WouldWrite, turn_calls};
+ghost use Rattle.fc_registry.specs.Calls.{IsCommit, ComesTo, IsOwn, IsCurrent, commit_calls, commit_of, is_observed, observe_calls, mark_of, install_in, receipt_at, remove_from, run_of, IsFinding, IsTurnSnapshot, WouldWrite, turn_calls};
 ghost use Rattle.fc_registry.specs.Plans.{IsRestoreError, IsRestored};
 ghost use Rattle.fc_registry.specs.Record.{IsRecord};
 ghost use Rattle.fc_registry.specs.Views.{HasSize, as_seen, present_of, taken_with};
 ghost use Rattle.fc_observe.specs.Calls.{after_calls};
 
 use crate::body::Body;
-use crate::commit::{CommitOutcome, Committed};
+use crate::commit::{CommitOutcome, Committed, wants_to_write};
 use crate::job::{InitialVars, Job};
 use crate::observe::observe;
 use crate::receipt::Receipt;
@@ -21,7 +21,7 @@ use crate::ring::{Entry, Ring};
 use crate::shard::{Made, Removal, Taken};
 use crate::ticket::{Mark, SlotSnapshot, Ticket, is_run_of};
 use fc_help::vars::VARS;
-use fc_help::{Method, Readings, Vars};
+use fc_help::{Readings, Vars};
 use fc_machine::Outcome;
 use fc_observe::{Observers, Turn};
 use fc_store::StoredSlot;
@@ -259,20 +259,6 @@ fn is_own(outcome: &Outcome<'_>, ticket: &Ticket<'_>, slot: &SlotState) -> bool
     ticket.turn().is_none() && is_run_of(outcome, ticket, slot.serial)
 }
 
-// Returns whether the run has variables to write: it answered a POST with a code of class 2.
-fn wants(outcome: &Outcome<'_>) -> bool
-    ensures { result ≡ wants_by outcome.now }
-{
-    is_post(outcome.request().method()) && outcome.code() / 32 == 2
-}
-
-// Returns whether a request is a POST.
-fn is_post(method: Method) -> bool
-    ensures { result ≡ is_post method }
-{
-    method == Method::Post
-}
-
 // Returns whether the slot still has the serial, the program, the version and the variables that
 // the ticket's snapshot found.
 fn is_current(ticket: &Ticket<'_>, slot: &SlotState) -> bool
@@ -295,7 +281,7 @@ fn outcome_of(outcome: &Outcome<'_>, ticket: &Ticket<'_>, slot: &SlotState) -> C
     requires { IsOwn outcome.now ticket.now (as_seen slot.now) }
     ensures { ComesTo ticket.now (as_seen slot.now) result }
 {
-    if !wants(outcome) {
+    if !wants_to_write(outcome) {
         CommitOutcome::Keeps
     } else if !is_current(ticket, slot) {
         CommitOutcome::Overtakes
@@ -335,7 +321,7 @@ pub(crate) fn committed(
 pub(crate) fn would_write(outcome: &Outcome<'_>, ticket: &Ticket<'_>, slot: &SlotState) -> bool
     ensures { IsTrue result ↔ WouldWrite outcome.now ticket.now (as_seen slot.now) }
 {
-    wants(outcome)
+    wants_to_write(outcome)
         && is_own(outcome, ticket, slot)
         && matches!(outcome_of(outcome, ticket, slot), CommitOutcome::Writes)
 }

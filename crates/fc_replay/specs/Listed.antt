@@ -4,7 +4,7 @@ use Rattle.std.specs.Borrow.{Bor}
 use Rattle.std.specs.List.{Contains, slice_split}
 use Rattle.hex.specs.Hex.{decode_of, decode_sized}
 use Rattle.fc_core.specs.declared.event.Event.{Event}
-use Rattle.fc_core.specs.declared.event.Event.TheVariants.{Deliver, Peek, Take, Commit, Install, Remove, Receipt, Raise, Answer, Due, Fire, Fresh, Note, GiveUp, Signal, Tick, ShardTick, Lose}
+use Rattle.fc_core.specs.declared.event.Event.TheVariants.{Deliver, Peek, Take, Commit, Install, Remove, Refuse, Receipt, Raise, Answer, Due, Fire, Fresh, Note, GiveUp, Signal, Tick, ShardTick, Lose}
 use Rattle.coap_msg.specs.declared.types.Endpoint.{Endpoint}
 use Rattle.fc_help.specs.Region.{no_readings}
 use Rattle.fc_registry.specs.Slots.{last_serial}
@@ -99,6 +99,7 @@ IsEventOf name parts (Take job memory readings) =
 IsEventOf name parts (Commit job now) = IsForm name parts (codes "Commit") 2 × HasJob parts job × HasTime parts now
 IsEventOf name parts (Install job memory) = IsForm name parts (codes "Install") 2 × HasJob parts job × HasFlag parts (codes "memory") memory
 IsEventOf name parts (Remove job) = IsForm name parts (codes "Remove") 1 × HasJob parts job
+IsEventOf name parts (Refuse job) = IsForm name parts (codes "Refuse") 1 × HasJob parts job
 IsEventOf name parts (Receipt job) = IsForm name parts (codes "Receipt") 1 × HasJob parts job
 IsEventOf name parts (Raise job) = IsForm name parts (codes "Raise") 1 × HasJob parts job
 IsEventOf name parts (Answer job now) = IsForm name parts (codes "Answer") 2 × HasJob parts job × HasTime parts now

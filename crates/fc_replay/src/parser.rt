@@ -305,6 +305,9 @@ fn with_one<'a>(name: &str, parts: &[&str]) -> Option<Event<'a>>
         "Remove" => Some(Event::Remove {
             job: index(parts, "job")?,
         }),
+        "Refuse" => Some(Event::Refuse {
+            job: index(parts, "job")?,
+        }),
         "Receipt" => Some(Event::Receipt {
             job: index(parts, "job")?,
         }),

@@ -254,6 +254,10 @@ impl Server {
                 self.remove(task);
                 Ok(None)
             }
+            Event::Refuse { .. } => {
+                self.refuse(task);
+                Ok(None)
+            }
             Event::Receipt { .. } => {
                 self.describe(task);
                 Ok(None)
@@ -294,6 +298,16 @@ impl Server {
         ensures { (k : ℕ) → Does (Event.Remove k) self.old task.old self.new task.new None }
     {
         task.remove(&mut self.shards[task.job.origin.slot.shard()]);
+    }
+
+    /// Applies `Refuse`: refuses the change of a task's slot, since the change can't be saved.
+    ///
+    /// The task is then answered 5.03, and nothing else changes. See [`Task::refuse`].
+    pub fn refuse(&mut self, task: &mut Task)
+        requires { AtWork self.old task.old }
+        ensures { (k : ℕ) → Does (Event.Refuse k) self.old task.old self.new task.new None }
+    {
+        task.refuse(&mut self.frame);
     }
 
     /// Applies `Receipt`: reads the receipt of the program in a task's slot.

@@ -20,17 +20,17 @@ use Rattle.fc_registry.specs.Changes.{Change}
 use Rattle.fc_registry.specs.Notes.{note_to, observer_told, told_calls}
 use Rattle.fc_registry.specs.Slots.{Present, Ticket, last_serial}
 use Rattle.fc_core.specs.declared.event.Event.{Event}
-use Rattle.fc_core.specs.declared.event.Event.TheVariants.{Answer, Commit, Fresh, Install, Note, Receipt, Remove, Take}
+use Rattle.fc_core.specs.declared.event.Event.TheVariants.{Answer, Commit, Fresh, Install, Note, Receipt, Refuse, Remove, Take}
 use Rattle.fc_core.specs.Stage.{Stage}
 use Rattle.fc_core.specs.Stage.{ToAnswer, ToCommit, ToDescribe, ToInstall, ToRemove, ToTake, ToTell}
 use Rattle.fc_core.specs.TurnStage as turns
 use Rattle.fc_core.specs.Heads.{published}
 use Rattle.fc_core.specs.History.{Entry, Seen, additions_by, and_then, answered_in, at_front, calls_named, changes_after, did, exchanges_by, job, inputs, stage, tasks_brought, tasks_moved, watch, words_seen, at_shard, calls_by}
 use Rattle.fc_core.specs.Laws.{slot_of}
-use Rattle.fc_core.specs.Transitions.{Effect, Inputs, call_at, install_if, effect_of, names, transition}
-use Rattle.fc_core.specs.Stages.{content_at, image_of}
-use Rattle.fc_core.specs.Steps.{Commits, Installs, Removes}
-use Rattle.fc_laws.specs.RefusalLaws.{HasNoId, HasNoTicket, IsRefusedCall, IsStaleNote, IsStaleSnapshot, LeavesAllButStage, NotAccepted, NotCommitted, NotDescribed, NotInstalled, NotRemoved, NotSent, NothingTaken}
+use Rattle.fc_core.specs.Transitions.{Effect, Inputs, call_at, call_if, install_if, effect_of, names, transition}
+use Rattle.fc_core.specs.Stages.{content_at, image_of, is_refusable}
+use Rattle.fc_core.specs.Steps.{Commits, Installs, RefusesChange, Removes}
+use Rattle.fc_laws.specs.RefusalLaws.{HasNoId, HasNoTicket, IsRefusedCall, IsStaleNote, IsStaleSnapshot, LeavesAllButStage, NotAccepted, NotCommitted, NotDescribed, NotInstalled, NotRemoved, NotSaved, NotSent, NothingTaken}
 use Rattle.fc_laws.specs.TurnLaws.{time_at}
 
 -- ---- a transition that changes nothing
@@ -128,6 +128,10 @@ unremoved k serial s false (Some p) why = record { changes = refl; calls = Nothi
 unremoved k serial s true (Some p) (inl is) = absurd (cc is)
 unremoved k serial s true (Some p) (inr is) = absurd (cc is)
 
+unsaved : (k : ℕ) (s : Inputs) (x : Stage) (b : Bool) → IsStill (effect_of (Refuse k) s (call_if b (RefusesChange x)))
+unsaved k s x true = record { changes = refl; calls = Nothing refl; raises = refl }
+unsaved k s x false = record { changes = refl; calls = Nothing refl; raises = refl }
+
 present_missed : (b : Bool) (turn : Turn) (p : Present) → mark_missing_calls b turn (Some p) ≡ []
 present_missed true turn p = refl
 present_missed false turn p = refl
@@ -176,6 +180,9 @@ module _ (k : ℕ) (o : Option Emission) (s : Seen) where
       (at_stage (Remove k) ToRemove (record { named = refl; brought = refl; calm = λ n. refl; added = refl; kept = refl }) at
       (unremoved k (inputs s k).slot.serial (inputs s k) (nat_lt (inputs s k).slot.serial last_serial) (inputs s k).slot.present
       (⊎_elim (λ empty. inl empty) (λ last. inr (le-ltb (inputs s k).slot.serial last_serial last)) why)))
+  by_call e (NotSaved is may) = subst (λ (x : Event). LeavesAllButStage k s (and_then (did x o) s)) (sym is)
+      (at_stage (Refuse k) (stage s k) (record { named = refl; brought = refl; calm = λ n. refl; added = refl; kept = refl }) refl
+      (unsaved k (inputs s k) (stage s k) (is_refusable (stage s k))))
   by_call e (NotDescribed is at empty) = subst (λ (x : Event). LeavesAllButStage k s (and_then (did x o) s)) (sym is)
       (at_stage (Receipt k) ToDescribe (record { named = refl; brought = refl; calm = λ n. refl; added = refl; kept = refl }) at
       (record { changes = refl; calls = Nothing refl; raises = refl }))

@@ -4,15 +4,18 @@ use Rattle.std.specs.Prelude.{◌==◌, ◌%◌, length, not, List}
 use Rattle.std.proofs.lemmas.List.{append-nil, set-get_or}
 use Rattle.coap_msg.specs.declared.types.Emission.{Emission}
 use Rattle.fc_registry.specs.declared.job.Job.{Job}
+use Rattle.fc_registry.specs.Calls.{wants}
 use Rattle.fc_registry.specs.Slots.{Slot}
 use Rattle.fc_core.specs.declared.event.Event.{Event}
-use Rattle.fc_core.specs.declared.event.Event.TheVariants.{Deliver, Peek, Take, Commit, Install, Remove, Receipt, Raise, Answer, Signal, Tick, ShardTick, Lose, Fresh, Note, GiveUp, Due, Fire}
+use Rattle.fc_core.specs.declared.event.Event.TheVariants.{Deliver, Peek, Take, Commit, Install, Remove, Refuse, Receipt, Raise, Answer, Signal, Tick, ShardTick, Lose, Fresh, Note, GiveUp, Due, Fire}
 use Rattle.fc_core.specs.Stage.{Stage}
 use Rattle.fc_core.specs.Stage.{ToAnswer, Gone, ToTell}
 use Rattle.fc_core.specs.TurnStage as turns
 use Rattle.fc_core.specs.Contents.{Content}
-use Rattle.fc_core.specs.Stages.{content_at, needs_id}
-use Rattle.fc_core.specs.Transitions.{Around, Effect, Inputs, handed, task_moved, goes_to, names, notification, transition, words_after}
+use Rattle.fc_core.specs.Stages.{content_at, is_refusable, needs_id}
+use Rattle.fc_core.specs.Steps.{Call, RefusesChange, next_stage}
+use Rattle.fc_core.specs.declared.stage.Task.{Task}
+use Rattle.fc_core.specs.Transitions.{Around, Effect, Inputs, call_if, effect_of, handed, task_moved, goes_to, names, notification, transition, words_after}
 use Rattle.fc_core.specs.History.{Entry, Seen, and_then, calls_named, changes_after, did, job, no_task, inputs, shard_time_after, stage, task_at, tasks_brought, tasks_moved, words_seen, at_front, time_by, exchanges_by, additions_by, ids_by, at_shard, hands_by, calls_by}
 use Rattle.coap_block.specs.Transfers.{Addition}
 use Rattle.fc_core.specs.Laws.{is_noop, is_noop_at}
@@ -35,8 +38,14 @@ asked_isnt false is e = false_isnt is
 step_still : (k : ℕ) (c : Step) (job : Job) (slot : Slot) (ws : Around) → IsAsked c job → is_noop_at (event_by k c) job.origin.slot (stage_by c) ≡ true → effect_by c job slot ws ≡ goes_to (stage_by c)
 step_still k (steps.Matches n) job slot ws asked e = absurd (asked_isnt (n == job.origin.slot) asked e)
 step_still k (steps.Lists n seen) job slot ws asked e = absurd (asked_isnt (n == length seen.items) asked e)
+step_still k (steps.RefusesRun count t) job slot ws asked e = absurd (asked_isnt (wants t) asked e)
 step_still k (steps.Loses Gone) job slot ws asked e = refl
 step_still k other job slot ws asked e = absurd (false_isnt e)
+
+-- a call that changes its job's stage alone, under a condition.
+call_moves : (e : Event) (x : Inputs) (c : Call) → effect_of e x (Some c) ≡ goes_to (next_stage c) → (b : Bool) → effect_of e x (call_if b c) ≡ goes_to (effect_of e x (call_if b c)).stage
+call_moves e x c idle true = idle
+call_moves e x c idle false = refl
 
 transition_still : (e : Event) (job : Job) (slot : Slot) (ws : Around) (s : Stage) → is_noop_at e job.origin.slot s ≡ true → transition e (at job slot ws s) ≡ goes_to s
 transition_still e job slot ws s =
@@ -51,9 +60,13 @@ none_answered : (k now own : ℕ) (s : Stage) → is_noop_at (Answer k now) own 
 none_answered k now own (ToAnswer content) e = absurd (cc)
 none_answered k now own other e = refl
 
-module _ (s : Seen) (e : Event) (k : ℕ) (still : transition e (inputs s k) ≡ goes_to (stage s k)) where
-  tasks_still : tasks_moved (Some k) e s ≡ s.tasks
-  tasks_still = ap (λ (m : Effect). set s.tasks k (task_moved (task_at s.tasks k) m)) still ∙ set-get_or s.tasks k no_task
+-- the history's summary with job k at this stage.
+abbrev pub with_stage : Seen → ℕ → Stage → Seen
+with_stage s k stage = record s { tasks = set s.tasks k (record { job = job s k; stage = stage }) }
+
+module _ (s : Seen) (e : Event) (k : ℕ) (st : Stage) (still : transition e (inputs s k) ≡ goes_to st) where
+  tasks_still : tasks_moved (Some k) e s ≡ set s.tasks k (record { job = job s k; stage = st })
+  tasks_still = ap (λ (m : Effect). set s.tasks k (task_moved (task_at s.tasks k) m)) still
 
   changes_if : (n : ℕ) (b : Bool) → (if b then (transition e (inputs s k)).changes ++ s.changes n else s.changes n) ≡ s.changes n
   changes_if n true = ap (λ (m : Effect). m.changes ++ s.changes n) still
@@ -82,17 +95,23 @@ module _ (s : Seen) (e : Event) (k : ℕ) (still : transition e (inputs s k) ≡
 all_same : (a b : Seen) → a.policy ≡ b.policy → a.first_serial ≡ b.first_serial → a.time ≡ b.time → a.exchanges ≡ b.exchanges → a.additions ≡ b.additions → a.ids ≡ b.ids → a.tasks ≡ b.tasks → ((n : ℕ) → a.changes n ≡ b.changes n) → ((n : ℕ) → a.shard_time n ≡ b.shard_time n) → ((n : ℕ) → a.calls n ≡ b.calls n) → a.words ≡ b.words → a ≡ b
 all_same a b o f m x p d t c h v w = λ i. record { policy = o i; first_serial = f i; time = m i; exchanges = x i; additions = p i; ids = d i; tasks = t i; changes = λ n. c n i; shard_time = λ n. h n i; calls = λ n. v n i; words = w i }
 
+-- if an event of a job changes the job's stage alone, and leaves the front and the shards unchanged,
+-- it leaves everything else unchanged.
+named_moves : (s : Seen) (e : Event) (o : Option Emission) (k : ℕ) (st : Stage) → names e ≡ Some k → transition e (inputs s k) ≡ goes_to st → time_by (at_front e) s ≡ s.time → exchanges_by (at_front e) o s ≡ s.exchanges → additions_by (at_front e) s ≡ [] → ids_by (at_front e) s ≡ s.ids → tasks_brought e s ≡ [] → ((i : ℕ) → hands_by (at_shard e) i ≡ None) → ((n : ℕ) → calls_by (at_shard e) s n ≡ []) → and_then (did e o) s ≡ with_stage s k st
+named_moves s e o k st is still m x p d b g q =
+    all_same (and_then (did e o) s) (with_stage s k st) refl refl m x (ap (λ (l : List Addition). l ++ s.additions) p) d
+    ((λ i. tasks_moved (is i) e s ++ b i) ∙ (append-nil (tasks_moved (Some k) e s) ∙ tasks_still s e k st still))
+    (λ n. (λ i. changes_after (is i) e s n) ∙ changes_still s e k st still n)
+    (λ n. (λ i. handed (g n i) (shard_time_after (is i) e s n)) ∙ shard_still s e k st still n)
+    (λ n. (λ i. calls_named (is i) e s n ++ (q n i ++ s.calls n)) ∙ calls_still s e k st still n)
+    ((λ i. words_seen (is i) e s) ∙ words_still s e k st still)
+
 -- if a no-op event of a job leaves the front and the shards unchanged, it leaves everything
 -- unchanged.
 named_still : (s : Seen) (e : Event) (o : Option Emission) (k : ℕ) → names e ≡ Some k → is_noop_at e (job s k).origin.slot (stage s k) ≡ true → time_by (at_front e) s ≡ s.time → exchanges_by (at_front e) o s ≡ s.exchanges → additions_by (at_front e) s ≡ [] → ids_by (at_front e) s ≡ s.ids → tasks_brought e s ≡ [] → ((i : ℕ) → hands_by (at_shard e) i ≡ None) → ((n : ℕ) → calls_by (at_shard e) s n ≡ []) → and_then (did e o) s ≡ s
 named_still s e o k is noop m x p d b g q =
     let still : transition e (inputs s k) ≡ goes_to (stage s k) = transition_still e (job s k) (inputs s k).slot (inputs s k).around (stage s k) noop in
-    all_same (and_then (did e o) s) s refl refl m x (ap (λ (l : List Addition). l ++ s.additions) p) d
-    ((λ i. tasks_moved (is i) e s ++ b i) ∙ (append-nil (tasks_moved (Some k) e s) ∙ tasks_still s e k still))
-    (λ n. (λ i. changes_after (is i) e s n) ∙ changes_still s e k still n)
-    (λ n. (λ i. handed (g n i) (shard_time_after (is i) e s n)) ∙ shard_still s e k still n)
-    (λ n. (λ i. calls_named (is i) e s n ++ (q n i ++ s.calls n)) ∙ calls_still s e k still n)
-    ((λ i. words_seen (is i) e s) ∙ words_still s e k still)
+    named_moves s e o k (stage s k) is still m x p d b g q ∙ ap (λ (ts : List Task). record s { tasks = ts }) (set-get_or s.tasks k no_task)
 
 noop_still : (e : Event) (o : Option Emission) (s : Seen) → is_noop s e ≡ true → and_then (did e o) s ≡ s
 noop_still (Deliver now to bytes) o s e = absurd (cc)
@@ -103,6 +122,7 @@ noop_still (Due shard now) o s e = absurd (cc)
 noop_still (ShardTick shard now) o s e = absurd (cc)
 noop_still (Peek k n) o s e = named_still s (Peek k n) o k refl e refl refl refl refl refl (λ i. refl) (λ n. refl)
 noop_still (Remove k) o s e = named_still s (Remove k) o k refl e refl refl refl refl refl (λ i. refl) (λ n. refl)
+noop_still (Refuse k) o s e = named_still s (Refuse k) o k refl e refl refl refl refl refl (λ i. refl) (λ n. refl)
 noop_still (Receipt k) o s e = named_still s (Receipt k) o k refl e refl refl refl refl refl (λ i. refl) (λ n. refl)
 noop_still (Take k memory readings) o s e = named_still s (Take k memory readings) o k refl e refl refl refl refl refl (λ i. refl) (λ n. refl)
 noop_still (Commit k now) o s e = named_still s (Commit k now) o k refl e refl refl refl refl refl (λ i. refl) (λ n. refl)
@@ -120,6 +140,16 @@ noop_still (Fresh k now) o s e =
 
 pub no_ops_stay : (r : Entry) (s : Seen) → is_noop s r.event ≡ true → and_then r s ≡ s
 no_ops_stay r s e = noop_still r.event r.emitted s e
+
+-- ---- a refused change
+
+-- a refused change changes the stage of its job alone.
+pub refused_moves : (s : Seen) (k : ℕ) (o : Option Emission) → and_then (did (Refuse k) o) s ≡ with_stage s k (transition (Refuse k) (inputs s k)).stage
+refused_moves s k o =
+    named_moves s (Refuse k) o k (transition (Refuse k) (inputs s k)).stage refl (call_moves (Refuse k) (inputs s k) (RefusesChange (stage s k)) refl (is_refusable (stage s k)))
+    refl refl refl refl refl (λ i. refl) (λ n. refl)
+
+-- ---- emissions
 
 none_told : (k now random own : ℕ) (x : Inputs) (st : Stage) → is_noop_at (Note k now random) own st ≡ true → notification now x st ≡ None
 none_told k now random own x (ToTell turn (turns.ToNote found id)) e = absurd (cc)

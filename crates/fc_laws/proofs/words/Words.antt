@@ -15,7 +15,7 @@ use Rattle.fc_verify.specs.Judged.{judged}
 use Rattle.fc_core.specs.AnswerLaws.{HasSerial, greatest}
 use Rattle.fc_core.specs.Contents.{Valid}
 use Rattle.fc_core.specs.declared.event.Event.{Event}
-use Rattle.fc_core.specs.declared.event.Event.TheVariants.{Peek, Take, Commit, Install, Remove, Receipt, Raise, Answer, Fresh, Note, GiveUp, Lose}
+use Rattle.fc_core.specs.declared.event.Event.TheVariants.{Peek, Take, Commit, Install, Remove, Receipt, Raise, Answer, Fresh, Note, GiveUp, Lose, Refuse}
 use Rattle.fc_core.specs.Stage.{Stage}
 use Rattle.fc_core.specs.Stage.{ToMatch, ToInstall, ToRaise, ToAnswer}
 use Rattle.fc_laws.specs.HeadLaws.{raises_of, word_to_raise, words_raised}
@@ -123,6 +123,7 @@ word_after (Take k memory readings) s n lt = by_none (Take k memory readings) s 
 word_after (Commit k now) s n lt = by_none (Commit k now) s k n lt refl
 word_after (Install k memory) s n lt = by_none (Install k memory) s k n lt refl
 word_after (Remove k) s n lt = by_none (Remove k) s k n lt refl
+word_after (Refuse k) s n lt = by_none (Refuse k) s k n lt refl
 word_after (Receipt k) s n lt = by_none (Receipt k) s k n lt refl
 word_after (Answer k now) s n lt = by_none (Answer k now) s k n lt refl
 word_after (Fresh k now) s n lt = by_none (Fresh k now) s k n lt refl

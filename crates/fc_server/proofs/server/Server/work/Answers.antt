@@ -17,6 +17,9 @@ returns-in-Commit c = subst (λ (e : Event). Works e c.args.self.now c.args.task
 pub returns-in-Remove : goal.returns-in-Remove
 returns-in-Remove c = subst (λ (e : Event). Works e c.args.self.now c.args.task.now c.remove.new.self c.remove.new.task None) (sym c.in-Remove.is) (c.remove.ensures _)
 
+pub returns-in-Refuse : goal.returns-in-Refuse
+returns-in-Refuse c = subst (λ (e : Event). Works e c.args.self.now c.args.task.now c.refuse.new.self c.refuse.new.task None) (sym c.in-Refuse.is) (c.refuse.ensures _)
+
 pub returns-in-Receipt : goal.returns-in-Receipt
 returns-in-Receipt c = subst (λ (e : Event). Works e c.args.self.now c.args.task.now c.describe.new.self c.describe.new.task None) (sym c.in-Receipt.is) (c.describe.ensures _)
 
