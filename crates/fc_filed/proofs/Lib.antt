@@ -5,3 +5,4 @@ pub mod Closing
 pub mod Leading
 pub mod Shards
 pub mod ByThread
+pub mod Known

@@ -13,8 +13,9 @@ use Rattle.fc_linear.specs.Operations.{ServerPart, NoPart, is_words, part_of}
 use Rattle.fc_filed.specs.declared.entry.FiledEntry.{FiledEntry}
 use Rattle.fc_filed.specs.Books.{HasServerHistory, HaveServerHistory, IsFirstSent, IsWithThread, heads_in}
 use Rattle.fc_filed.specs.Entries.{ChangesWords, IsKeyed, WordsDoIf, entry_keys, part_key}
-use Rattle.fc_filed.specs.Threads.{entry_of_look, entry_of_raise}
+use Rattle.fc_filed.specs.Threads.{entry_of_look, entry_of_raise, known_word}
 use Rattle.fc_filed.proofs.Keyed.{keyed_more}
+use Rattle.fc_filed.proofs.Known.{known_at_most}
 use Rattle.fc_filed.proofs.Leading.{leads_more}
 use Rattle.fc_filed.proofs.Sent.{holds_with, sent_filed, sent_gives, sent_seen, sent_still, still_cut, still_joined, still_set}
 
@@ -211,6 +212,9 @@ module _ (first_job : ℕ) (words : List ℕ) (views : List (BookView FiledEntry
         let x : FiledEntry = entry_of_look e slot (slice_index words (8 + slot)) in
         loaded (8 + slot) (set views id (with_filed entry_keys x v))
         (held_alone x refl who job (record { who = (low.0, low.1); job = λ is. low.2; none = λ is. absurd (cc is); event = tt }) words h.size (head_at words slot, refl))
+
+    pub rises_at : slot < 64 → known_word slot v.own ≤ slice_index words (8 + slot)
+    rises_at lt = subst (λ (n : ℕ). known_word slot v.own ≤ n) (sym (head_at words slot)) (known_at_most slot h.log v (heads_in words) lt (h.views_of.each id v at) h.heads)
 
     pub held_raises : (word : ℕ) → HaveServerHistory first_job (set words (8 + slot) (max (slice_index words (8 + slot)) word)) (set views id (with_filed entry_keys (entry_of_raise e slot word) v))
     held_raises word =

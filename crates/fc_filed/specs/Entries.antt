@@ -40,7 +40,7 @@ AreKeyed first_job (e ∷ es) = IsKeyed first_job e × AreKeyed first_job es
 abbrev pub blank_entry : FiledEntry
 blank_entry = record { who = 0; job = 0; operation = no_operation }
 
--- ---- the operations of a thread, of the front and of a shard, in order
+-- ---- the operations of a thread, of the front, of a shard and of the head words, in order
 
 abbrev pub entries_by : ℕ → List FiledEntry → List FiledEntry
 entries_by who log = filter (λ e. e.who == who) log
@@ -50,6 +50,9 @@ front_entries log = filter (λ e. is_front (part_of e.operation)) log
 
 abbrev pub shard_entries : ℕ → List FiledEntry → List FiledEntry
 shard_entries index log = filter (λ e. is_shard index (part_of e.operation)) log
+
+abbrev pub word_entries : List FiledEntry → List FiledEntry
+word_entries log = filter (λ e. is_words (part_of e.operation)) log
 
 -- ---- the log of the entries, whose jobs have the numbers from 0 up
 

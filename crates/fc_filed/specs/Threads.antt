@@ -1,5 +1,5 @@
 -- The entries that a thread files, by its tracks.
-use Rattle.std.specs.Prelude.{◌≡◌, ℕ, ◌<◌, ◌≤◌, Bool, true, false, if◌then◌else◌, List, [], ◌∷◌}
+use Rattle.std.specs.Prelude.{◌≡◌, ℕ, ◌<◌, ◌≤◌, ◌==◌, Bool, true, false, if◌then◌else◌, List, [], ◌∷◌, max}
 use Rattle.fc_book.specs.declared.view.Track.{Track}
 use Rattle.fc_book.specs.declared.view.BookView.{BookView}
 use Rattle.fc_book.specs.Tracks.{HasKey, with_begun, with_filed}
@@ -59,3 +59,21 @@ entry_of_look e slot found = record e { operation = Logged (LooksAt slot found) 
 
 abbrev pub entry_of_raise : FiledEntry → ℕ → ℕ → FiledEntry
 entry_of_raise e slot word = record e { operation = Logged (RaisesWord slot word) }
+
+-- the word of a slot that the operation read, or to which it raised the slot's head word; otherwise
+-- 0.
+abbrev pub word_in : ℕ → Operation → ℕ
+word_in slot (Logged (LooksAt n word)) = if n == slot then word else 0
+word_in slot (Logged (RaisesWord n word)) = if n == slot then word else 0
+word_in slot other = 0
+
+-- the greatest such word in these entries, or 0.
+abbrev pub greatest_word : ℕ → List FiledEntry → ℕ
+greatest_word slot [] = 0
+greatest_word slot (e ∷ es) = max (word_in slot e.operation) (greatest_word slot es)
+
+-- the greatest word of a slot that the owner of these tracks knows, or 0: the greatest such word in
+-- their entries.
+abbrev pub known_word : ℕ → List (Track FiledEntry) → ℕ
+known_word slot [] = 0
+known_word slot (t ∷ ts) = max (greatest_word slot t.entries) (known_word slot ts)

@@ -1,5 +1,5 @@
 //! The book of a server's history, and the owners of its tracks.
-ghost use Rattle.std.specs.Prelude.{◌≡◌, ◌+◌, ◌<◌, ◌++◌, ◌∷◌, [], true, false, IfOk};
+ghost use Rattle.std.specs.Prelude.{◌≡◌, ◌+◌, ◌<◌, ◌≤◌, ◌++◌, ◌∷◌, [], true, false, IfOk};
 ghost use Rattle.atomic_table.specs.Seated.{TableId};
 ghost use Rattle.fc_book.specs.Tracks.{first_own, first_view, merged_with, own_view, part_view, with_begun, with_next, with_part, without_first};
 ghost use Rattle.fc_server.specs.declared.server.Begin.{Begin};
@@ -7,7 +7,7 @@ ghost use Rattle.fc_calls.specs.Logged.{LooksAt, RaisesWord};
 ghost use Rattle.fc_linear.specs.Operations.{LacksMemory, LacksStorage, Logged, NoPart, RejectsImage, is_words, part_of};
 ghost use Rattle.fc_filed.specs.Books.{HasServerHistory, IsFirstSent};
 ghost use Rattle.fc_filed.specs.Entries.{part_key};
-ghost use Rattle.fc_filed.specs.Threads.{HasJobFirst, HasOwnTrack, MayFile, did_by, entry_by};
+ghost use Rattle.fc_filed.specs.Threads.{HasJobFirst, HasOwnTrack, MayFile, did_by, entry_by, known_word};
 
 use crate::steps::{self, FiledSeat, FiledWords};
 use crate::view::FiledName;
@@ -262,11 +262,14 @@ impl<J: ServerName> ServerTracks<J> {
 
     /// Returns the head word of `slot`, 0 to 63, and files the read.
     ///
-    /// The entry is filed for thread `who` and for the job whose track is first. No lock is taken.
+    /// The result is no less than a word of the slot in an entry on these tracks: one that was read,
+    /// or to which the word was raised. The entry is filed for thread `who` and for the job whose
+    /// track is first. No lock is taken.
     pub fn look(&mut self, book: &ServerBook<J>, who: u64, slot: usize) -> u64
         requires slot { slot < 64 }
         requires thread { HasOwnTrack J.first_job who self.old }
         requires job { HasJobFirst J.first_job self.old }
+        ensures rises { known_word slot self.old.own ≤ result }
         ensures filed { self.new ≡ did_by who (Logged (LooksAt slot result)) self.old }
     {
         look_as::<Brand, J>(book, self, who, slot)
@@ -433,6 +436,7 @@ fn look_as<X: FiledName, J: ServerName>(
     requires slot { slot < 64 }
     requires thread { HasOwnTrack J.first_job who tracks.old }
     requires job { HasJobFirst J.first_job tracks.old }
+    ensures rises { known_word slot tracks.old.own ≤ result }
     ensures filed { tracks.new ≡ did_by who (Logged (LooksAt slot result)) tracks.old }
 {
     let _ = who;

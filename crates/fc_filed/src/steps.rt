@@ -11,7 +11,7 @@ ghost use Rattle.fc_book.specs.Tracks.{AreSingle, HasKey, filed_with, first_own,
 ghost use Rattle.fc_linear.specs.Operations.{NoPart, is_words, part_of};
 ghost use Rattle.fc_filed.specs.Books.{HasServerHistory, IsFirstSent};
 ghost use Rattle.fc_filed.specs.Entries.{IsKeyed, entry_keys};
-ghost use Rattle.fc_filed.specs.Threads.{entry_of_look, entry_of_raise};
+ghost use Rattle.fc_filed.specs.Threads.{entry_of_look, entry_of_raise, known_word};
 
 use crate::book::ServerName;
 use crate::entry::FiledEntry;
@@ -175,6 +175,7 @@ pub(crate) fn look<X: FiledName>(words: &FiledWords, seat: &mut FiledSeat, slot:
     requires on { HasKey X.entry.who seat.old.me.0.own × HasKey X.entry.job seat.old.me.0.own }
     requires keyed { (9 ≤ X.entry.who) × (X.entry.who < words.now.shared.key) × (words.now.shared.key ≤ X.entry.job) }
     ensures table { seat.new.table_id ≡ seat.old.table_id }
+    ensures rises { known_word slot seat.old.me.0.own ≤ result }
     ensures filed { seat.new.me ≡ (with_filed entry_keys (entry_of_look X.entry slot result) seat.old.me.0, seat.old.me.1) }
 {
     words.shared.load::<LooksAtWord<X>>(seat, PADDING + slot)

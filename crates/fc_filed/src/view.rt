@@ -81,12 +81,13 @@ pub(crate) struct LooksAtWord<X: FiledName> {
 }
 
 impl<X: FiledName> Play<u8, BookView<FiledEntry>> for LooksAtWord<X> {
-    ghost use Rattle.std.specs.Prelude.{◌≡◌, ◌-◌};
+    ghost use Rattle.std.specs.Prelude.{◌≡◌, ◌≤◌, ◌-◌};
     ghost use Rattle.fc_book.specs.Tracks.{with_filed};
     ghost use Rattle.fc_filed.specs.Entries.{entry_keys};
-    ghost use Rattle.fc_filed.specs.Threads.{entry_of_look};
+    ghost use Rattle.fc_filed.specs.Threads.{entry_of_look, known_word};
 
-    ghost then = { λ s v found w. w ≡ (with_filed entry_keys (entry_of_look X.entry (s.word - 8) found) v.0, v.1) };
+    ghost then = { λ s v found w. (known_word (s.word - 8) v.0.own ≤ found)
+        × (w ≡ (with_filed entry_keys (entry_of_look X.entry (s.word - 8) found) v.0, v.1)) };
 }
 
 /// Raises a head word, and files the raise in the same step.

@@ -2,7 +2,7 @@
 //!
 //! Each slot has one word. Each thread has a handle to the words.
 //!
-//! A worker loads and publishes words through a [`HeadSeat`] of its own. A handle's view is two
+//! A thread loads and publishes words through a [`HeadSeat`] of its own. A handle's view is two
 //! lists of 64 words: for each slot the greatest value that the handle has seen, and the greatest
 //! that it published itself. Under every schedule a word is the greatest value published in any
 //! view, or 0, and no view has seen a greater one (`specs/Heads.antt`, `AreGreatest`).

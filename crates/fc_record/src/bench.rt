@@ -4,7 +4,6 @@ ghost use Rattle.fc_record.specs.Recording.{IsRecordedCall};
 use crate::recorder::{Recorder, record_answer};
 use coap_msg::{Emission, Endpoint};
 use fc_core::{Answer, FrontGauges, Handled};
-use fc_heads::HeadSeat;
 use fc_help::Readings;
 use fc_machine::Outcome;
 use fc_observe::{Ticked, Turn};
@@ -34,8 +33,6 @@ impl<'a, B: Bench, C: Recorder> Bench for RecordedBench<'a, B, C> {
     ghost changes = { B.changes };
 
     ghost ended = { B.ended };
-
-    ghost heads = { λ b. B.heads b.bench.now };
 
     ghost called = { B.called };
 
@@ -208,16 +205,12 @@ impl<'a, B: Bench, C: Recorder> Bench for RecordedBench<'a, B, C> {
         self.bench.receipt(rt, job, log)
     }
 
-    fn head_seat(&self) -> HeadSeat {
-        self.bench.head_seat()
+    fn peek(&self, slot: SlotNumber, log: &mut TrackLog<B::Book>) -> u64 {
+        self.bench.peek(slot, log)
     }
 
-    fn peek(&self, slot: SlotNumber, seat: &mut HeadSeat, log: &mut TrackLog<B::Book>) -> u64 {
-        self.bench.peek(slot, seat, log)
-    }
-
-    fn raise(&self, job: &Job, word: u64, seat: &mut HeadSeat, log: &mut TrackLog<B::Book>) {
-        self.bench.raise(job, word, seat, log);
+    fn raise(&self, job: &Job, word: u64, log: &mut TrackLog<B::Book>) {
+        self.bench.raise(job, word, log);
     }
 
     fn respond<R: Wait>(

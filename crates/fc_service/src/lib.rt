@@ -85,12 +85,13 @@
 //!   a dispatcher over any backend, `fc_workers` shows that it calls its own backend. A worker's
 //!   emission is passed to the sink once, by the worker's own log (`Wire::called`). The contract
 //!   doesn't say in which order several threads pass theirs.
-//! - **One order**: the calls of the front and of the eight shards that the workers and the
-//!   dispatcher filed have one order, with each thread's calls in its own order. The front's lead
-//!   from the server's first front to its last, and each shard's from its first shard to its last
-//!   (`run_pool`, by `HaveOneOrder`). `serve_at` says so of its dispatcher and of *some* shares of
-//!   its workers, to *some* closed server; with reports or timers it says nothing of its
-//!   dispatcher's calls. `play_by_workers` doesn't name its dispatcher's calls.
+//! - **One order**: the calls of the front, of the eight shards and of the head words that the
+//!   workers and the dispatcher filed have one order, with each thread's calls in its own order.
+//!   The front's lead from the server's first front to its last, and each shard's from its first
+//!   shard to its last. The looks and the raises lead the head words from 64 zeros (`run_pool`, by
+//!   `HaveOneOrder`). `serve_at` says so of its dispatcher and of *some* shares of its workers, to
+//!   *some* closed server; with reports or timers it says nothing of its dispatcher's calls.
+//!   `play_by_workers` doesn't name its dispatcher's calls.
 //! - **A pool** returns at its end the front and eight shards. For each shard it also returns the
 //!   serial that its slots began with, and the number of their changes. The serials of each shard
 //!   have risen by exactly these numbers, which are reported up to 2^64 - 1. The filed

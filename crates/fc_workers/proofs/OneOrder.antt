@@ -141,6 +141,8 @@ module _ (first_job : ℕ) where
         apart = apart_at logs threads;
         callers = by_threads h.log logs h.keyed has.threads threads count;
         front_led = subst (λ (es : List FiledEntry). OperationsLead FrontDoes es (first_server begin).front closed.front) (front_track first_job h.log h.keyed) first.0;
+        words = h.words;
+        heads_led = h.heads;
         shards_led = λ i lt. subst (λ (es : List FiledEntry). OperationsLead ShardDoes es (shard_at firsts i) (shard_at closed.shards i)) (shard_track first_job i lt h.log h.keyed)
             (subst (λ (k : ℕ). IsLed firsts h.log k (shard_at closed.shards i)) (zero-add i) (each.1 i (omega (arith, lt, eight))));
       }

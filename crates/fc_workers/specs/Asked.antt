@@ -50,13 +50,12 @@ IsShardCall first index Does call before after = IsAsked first index Does × (af
 abbrev pub shard_called : ℕ → ℕ
 shard_called index = min index 7
 
--- the meaning of a call in a worker's log: its readings are the device's, or the front or a shard
--- was called. The calls of the front and of shards are filed, and no others. The read of a head
--- word and a raise take no lock: their effects are stated of the worker's handle.
+-- the meaning of a call in a worker's log: its readings are the device's, or the front, a shard or a
+-- head word was called. All but the readings are filed.
 abbrev pub IsLoggedCall : Beginning → (List ℕ → CallLog → CallLog → Type 0) → LoggedCall → TrackedLog → TrackedLog → Type 0
 IsLoggedCall first AreReadings (GivesReadings readings) before after = IsUnfiled (AreReadings readings) before after
 IsLoggedCall first AreReadings (TellsReceipt job receipt) before after = IsShardCall first (job.origin.slot % 8) (λ x y. DescribesTo job x receipt y) (TellsReceipt job receipt) before after
-IsLoggedCall first AreReadings (LooksAt slot word) before after = after ≡ before
+IsLoggedCall first AreReadings (LooksAt slot word) before after = after ≡ with_filed_call (LooksAt slot word) before
 IsLoggedCall first AreReadings (HandlesDatagram now from bytes brings) before after = IsFrontCall first.front (HandlesAt now from bytes brings) (HandlesDatagram now from bytes brings) before after
 IsLoggedCall first AreReadings (AdvancesFront now) before after = IsFrontCall first.front (AdvancesTo now) (AdvancesFront now) before after
 IsLoggedCall first AreReadings (FiresTimer slot now) before after = IsFrontCall first.front (FiresAt now) (FiresTimer slot now) before after
@@ -72,4 +71,4 @@ IsLoggedCall first AreReadings (AdvancesShard shard now ticked) before after = I
 IsLoggedCall first AreReadings (GivesTurn shard now turn) before after = IsShardCall first shard (λ x y. GivesTurnAt now x turn y) (GivesTurn (shard_called shard) now turn) before after
 IsLoggedCall first AreReadings (NotesTurn turn message now random told noted) before after = IsShardCall first (turn.slot % 8) (λ x y. NotesAt turn message now random told x noted y) (NotesTurn turn message now random told noted) before after
 IsLoggedCall first AreReadings (GivesUpTurn turn now) before after = IsShardCall first (turn.slot % 8) (λ x y. GivesUpAt now turn x y) (GivesUpTurn turn now) before after
-IsLoggedCall first AreReadings (RaisesWord slot word) before after = after ≡ before
+IsLoggedCall first AreReadings (RaisesWord slot word) before after = after ≡ with_filed_call (RaisesWord slot word) before

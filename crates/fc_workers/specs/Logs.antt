@@ -13,9 +13,9 @@ pub record TrackedLog : Type 0 where
   pub who : ℕ
   pub tracks : BookView FiledEntry
 
--- a worker with these tracks may file each call of the front and of a shard: the first track is
--- that of the worker's jobs, and the worker's own track is among them. The worker begins no other
--- track.
+-- a worker with these tracks may file each call of the front, of a shard and of a head word: the
+-- first track is that of the worker's jobs, and the worker's own track is among them. The worker
+-- begins no other track.
 pub record MayFileAll (first_job who : ℕ) (v : BookView FiledEntry) : Type 0 where
   pub thread : HasOwnTrack first_job who v
   pub job : HasJobFirst first_job v

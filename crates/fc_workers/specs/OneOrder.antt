@@ -3,12 +3,13 @@ use Rattle.std.specs.Prelude.{◌≡◌, ◌≢◌, ℕ, ◌<◌, List, [], ◌�
 use Rattle.std.specs.List.{All, AllPairs, Any, flat_map}
 use Rattle.fc_book.specs.declared.view.BookView.{BookView}
 use Rattle.fc_book.specs.Tracks.{HasKey, entries_at}
+use Rattle.fc_core.specs.Heads.{no_words}
 use Rattle.fc_registry.specs.Shards.{shard_at}
 use Rattle.fc_server.specs.declared.server.Begin.{Begin}
 use Rattle.fc_linear.specs.Operations.{FrontDoes, ShardDoes}
 use Rattle.fc_linear.specs.Parts.{first_server}
 use Rattle.fc_filed.specs.declared.entry.FiledEntry.{FiledEntry}
-use Rattle.fc_filed.specs.Entries.{OperationsLead, entries_by, front_entries, shard_entries}
+use Rattle.fc_filed.specs.Entries.{ChangesWords, OperationsLead, entries_by, front_entries, shard_entries}
 use Rattle.fc_filed.specs.Threads.{HasOwnTrack}
 use Rattle.fc_workers.specs.declared.closed.ClosedServer.{ClosedServer}
 use Rattle.fc_workers.specs.Logs.{TrackedLog}
@@ -35,7 +36,8 @@ pub record HasTracksOf (first_job : ℕ) (logs : List TrackedLog) (v : BookView 
 -- exactly the calls in the list that have its key, in that order. No two logs are of the same
 -- thread, and each call is by a thread with one of the logs. The calls of the front lead from the
 -- server's first front to the closed one, and those of each of the eight shards from the server's
--- first shard of its index to the closed one.
+-- first shard of its index to the closed one. The looks at head words and the raises lead the words
+-- from 64 zeros to their last values.
 pub record HaveOneOrder (begin : Begin) (logs : List TrackedLog) (closed : ClosedServer) : Type 0 where
   pub calls : List FiledEntry
   pub tracks : All (λ (log : TrackedLog). HasKey log.who log.tracks.own) logs
@@ -44,3 +46,5 @@ pub record HaveOneOrder (begin : Begin) (logs : List TrackedLog) (closed : Close
   pub callers : All (λ (e : FiledEntry). Any (λ (log : TrackedLog). log.who ≡ e.who) logs) calls
   pub front_led : OperationsLead FrontDoes (front_entries calls) (first_server begin).front closed.front
   pub shards_led : (i : ℕ) → i < 8 → OperationsLead ShardDoes (shard_entries i calls) (shard_at (first_server begin).shards i) (shard_at closed.shards i)
+  pub words : List ℕ
+  pub heads_led : OperationsLead ChangesWords calls no_words words

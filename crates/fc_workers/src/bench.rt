@@ -1,6 +1,5 @@
 //! The backend: a server's shared parts, as workers call them.
-ghost use Rattle.std.specs.Prelude.{◌≡◌, ℕ, ◌+◌, ◌<◌, ◌≤◌, ⊤, MatchBool};
-ghost use Rattle.atomic_table.specs.Seated.{TableId};
+ghost use Rattle.std.specs.Prelude.{◌≡◌, ℕ, ◌+◌, ◌<◌, ◌≤◌, max, ⊤, MatchBool};
 ghost use Rattle.fc_core.specs.Timers.{timer_job};
 ghost use Rattle.fc_core.specs.Contents.{IsOf};
 ghost use Rattle.fc_core.specs.Receiving.{emission_if, handled};
@@ -8,7 +7,7 @@ ghost use Rattle.fc_registry.specs.Calls.{initial_vars_of};
 ghost use Rattle.fc_registry.specs.Notes.{noted_as};
 ghost use Rattle.fc_registry.specs.Turns.{written_if};
 ghost use Rattle.fc_registry.specs.Views.{HasSize, taken_with};
-ghost use Rattle.fc_heads.specs.Heads.{IsRaised, fresh, peeked, word_of};
+ghost use Rattle.fc_filed.specs.Threads.{known_word};
 ghost use Rattle.fc_workers.specs.Called.{BenchCall, CountsObservers, LeavesUnquiet, LooksAhead, ReadsGauges};
 ghost use Rattle.fc_calls.specs.Logged.{AdvancesFront, AdvancesIdle, FiresTimer, GivesReadings, HandsSignal, LooksAt};
 ghost use Rattle.fc_calls.specs.Logged.{AdvancesShard, AnswersRequest, CommitsRun, DrawsId, GivesTurn, GivesUpTurn, HandlesDatagram};
@@ -24,7 +23,6 @@ use crate::track_log::TrackLog;
 use coap_msg::{Emission, Endpoint};
 use fc_core::{Answer, FrontGauges, Handled};
 use fc_filed::ServerName;
-use fc_heads::HeadSeat;
 use fc_help::Readings;
 use fc_machine::Outcome;
 use fc_observe::{Ticked, Turn};
@@ -37,21 +35,21 @@ use std::sync::{Arc, Wait};
 
 /// The calls of the shards, the head words and the front.
 ///
-/// Any number of workers may call at a time. A server guards these parts with its locks, and each
-/// call may wait for one. The result of a call is that of the shard at some slot. No clause here
-/// relates the slots of two calls, since other threads may change them in between. An
+/// Any number of workers may call at a time. A server guards the front and each shard with a lock,
+/// for which a call may wait. The result of a call is that of the shard at some slot. No clause
+/// here relates the slots of two calls, since other threads may change them in between. An
 /// implementation states the effects of its calls.
 ///
 /// Each worker passes tallies of its own. They count the changes of each shard that the results of
 /// the worker's calls report, and the jobs that the worker ended. A worker passes its log to each
 /// call that may change something, or whose result is soon out of date. So a clause can state which
 /// of these calls the worker made, and in which order. The log has the worker's tracks in the
-/// server's book, on which an implementation files the calls of its front and of its shards.
+/// server's book, on which an implementation files the calls of its front, shards and head words.
 pub trait Bench {
     /// The counts of one worker's changes, and of the jobs that it ended.
     type Tallies: Drop;
 
-    /// The name of the book in which the calls of the front and of the shards are filed.
+    /// The name of the book in which the calls of the front, shards and head words are filed.
     type Book: ServerName;
 
     // The number of changes of a shard, by its index, from 0 to 7.
@@ -59,9 +57,6 @@ pub trait Bench {
 
     // The number of jobs that the worker ended, up to 2^64 - 1.
     ghost ended: { Self.Tallies → ℕ };
-
-    // The table of the head words.
-    ghost heads: { Self → TableId };
 
     // The calls that were made, of those that change nothing and are in no log, each with its
     // arguments and its result.
@@ -321,27 +316,22 @@ pub trait Bench {
         ensures receipt { IsSomeReceipt result }
         ensures logged { logged (TellsReceipt job.now result) log.old log.new };
 
-    /// Returns a worker's handle of the head words, which has seen and raised nothing.
-    fn head_seat(&self) -> HeadSeat
-        ensures { result ≡ record { table = heads self.now; view = fresh } };
-
     /// Returns the head word of a slot, without a lock.
     ///
-    /// It is no less than the word that `seat`, the worker's handle, has seen of that slot. The
-    /// handle has then seen it. See [`Heads::peek`](fc_heads::Heads::peek).
-    fn peek(&self, slot: SlotNumber, seat: &mut HeadSeat, log: &mut TrackLog<Self::Book>) -> u64
-        requires { seat.old.table ≡ heads self.now }
-        ensures rises { word_of seat.old.view.seen slot ≤ result }
-        ensures seen { seat.new ≡ record seat.old { view = peeked seat.old.view slot result } }
+    /// It is no less than a word of that slot that the worker knows: one that a look with this log
+    /// returned, or to which the worker raised the word. The worker then knows the result. See
+    /// [`ServerTracks::look`](fc_filed::ServerTracks::look).
+    fn peek(&self, slot: SlotNumber, log: &mut TrackLog<Self::Book>) -> u64
+        ensures rises { known_word slot log.old.tracks.own ≤ result }
+        ensures knows { known_word slot log.new.tracks.own ≡ result }
         ensures logged { logged (LooksAt slot result) log.old log.new };
 
     /// Raises the head word of `job`'s slot, without a lock.
     ///
-    /// `seat`, the worker's handle, has then seen `word` or a greater one. A head word that is
-    /// greater isn't changed. See [`Heads::raise`](fc_heads::Heads::raise).
-    fn raise(&self, job: &Job, word: u64, seat: &mut HeadSeat, log: &mut TrackLog<Self::Book>)
-        requires { seat.old.table ≡ heads self.now }
-        ensures raised { IsRaised job.now.origin.slot word seat.old seat.new }
+    /// A head word that is greater isn't changed. The worker then knows `word`, or a greater word
+    /// that it knew before. See [`ServerTracks::raise`](fc_filed::ServerTracks::raise).
+    fn raise(&self, job: &Job, word: u64, log: &mut TrackLog<Self::Book>)
+        ensures knows { known_word job.now.origin.slot log.new.tracks.own ≡ max (known_word job.now.origin.slot log.old.tracks.own) word }
         ensures logged { logged (RaisesWord job.now.origin.slot word) log.old log.new };
 
     /// Answers a job, at a time in milliseconds, and ends it.

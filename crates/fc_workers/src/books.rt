@@ -14,8 +14,8 @@ use std::sync::ledger::Ledger;
 /// The names of a server's ledgers, their parts, and the server's initial state.
 ///
 /// A name is given by the index of the ledger's shard. Each ledger is divided into the same number
-/// of parts. The table is that of the book in which the calls of the front and the shards are
-/// filed. The keys of its threads' tracks are below `first_job`.
+/// of parts. The table is that of the book in which the calls of the front, shards and head
+/// words are filed. The keys of its threads' tracks are below `first_job`.
 pub trait Books {
     ghost names: { ℕ → ℕ };
 
@@ -55,7 +55,7 @@ impl<B: Books, const INDEX: u8> Ledger for BookOf<B, INDEX> {
     ghost parts = { B.parts };
 }
 
-/// The name of the book in which the calls of the front and the shards are filed.
+/// The name of the book in which the calls of the front, shards and head words are filed.
 pub struct ServerOf<B: Books> {
     of: PhantomData<B>,
 }

@@ -71,7 +71,6 @@ pub struct Dispatcher<'a, B: Bench, G: Gate, W: Wire, M: TimeSource> {
     scratch: Scratch,
     done: Dispatched<B::Tallies, TrackLog<B::Book>>,
     ghost channel: { done.sent.channel ≡ jobs.now },
-    ghost heads: { scratch.heads.table ≡ B.heads context.now.bench.now },
 }
 
 impl<'a, B: Bench, G: Gate, W: Wire, M: TimeSource> Dispatcher<'a, B, G, W, M> {
@@ -101,7 +100,7 @@ impl<'a, B: Bench, G: Gate, W: Wire, M: TimeSource> Dispatcher<'a, B, G, W, M> {
             jobs,
             offload,
             job: blank_job(),
-            scratch: Scratch::new(context.bench, frame),
+            scratch: Scratch::new(frame),
             done: Dispatched {
                 sent,
                 share: Share::new(got, tallies, log),

@@ -1,12 +1,14 @@
 //! Laws about workers and their server.
 //!
 //! Each law is the contract of an empty function.
-ghost use Rattle.std.specs.Prelude.{◌≡◌, ◌<◌, ◌≤◌, ◌⊎◌, ℕ, Bool, Some, [], ◌∷◌};
+ghost use Rattle.std.specs.Prelude.{◌≡◌, ◌<◌, ◌≤◌, ◌⊎◌, ℕ, Bool, Some, List, [], ◌∷◌, ◌++◌};
 ghost use Rattle.coap_msg.specs.declared.types.Endpoint.{Endpoint};
 ghost use Rattle.fc_core.specs.declared.front.Delivered.TheVariants.{Signal};
-ghost use Rattle.fc_calls.specs.Logged.{DrawsId, HandsSignal, InstallsProgram, NotesTurn};
+ghost use Rattle.fc_calls.specs.Logged.{DrawsId, HandsSignal, InstallsProgram, LoggedCall, LooksAt, NotesTurn, RaisesWord};
 ghost use Rattle.fc_core.specs.declared.policy.Policy.{Policy};
-ghost use Rattle.fc_filed.specs.Entries.{front_entries, shard_entries};
+ghost use Rattle.fc_filed.specs.Entries.{front_entries, shard_entries, word_entries};
+ghost use Rattle.fc_filed.specs.Threads.{known_word};
+ghost use Rattle.fc_filed.specs.declared.entry.FiledEntry.{FiledEntry};
 ghost use Rattle.fc_kinds.specs.Meaning.{Program};
 ghost use Rattle.fc_linear.specs.Operations.{Logged};
 ghost use Rattle.fc_core.specs.Policies.{default_policy};
@@ -17,6 +19,7 @@ ghost use Rattle.fc_registry.specs.declared.job.Job.{Job};
 ghost use Rattle.fc_registry.specs.declared.shard.Made.TheVariants.{Raised};
 ghost use Rattle.fc_registry.specs.declared.note.Noted.{Noted};
 ghost use Rattle.fc_registry.specs.declared.note.Notification.{Notification};
+ghost use Rattle.fc_server.specs.declared.server.Begin.{Begin};
 ghost use Rattle.fc_workers.specs.Asked.{IsLoggedCall};
 ghost use Rattle.fc_workers.specs.Fronts.{beginning};
 ghost use Rattle.fc_workers.specs.Called.{worker_view};
@@ -79,4 +82,34 @@ pub fn two_threads_install_at_two_serials()
         → shard_entries 5 (filed_in one) ≡ record { who = one.who; job = j; operation = Logged (InstallsProgram job p (Raised a c)) } ∷ []
         → shard_entries 5 (filed_in other) ≡ record { who = other.who; job = k; operation = Logged (InstallsProgram also q (Raised b d)) } ∷ []
         → ((a ≡ 8) × (b ≡ 9)) ⊎ ((a ≡ 9) × (b ≡ 8)) }
+{}
+
+/// A worker of a server with locks still knows each head word that it knew before a logged call.
+///
+/// So a later look of the worker returns no less than the earlier one, whatever calls it made in
+/// between.
+pub fn workers_forget_no_head_word<B: Books, D: Device>()
+    ensures { (call : LoggedCall) (slot : ℕ) (before after : Log) → IsLoggedCall B.first D.are_readings call before after
+        → known_word slot before.tracks.own ≤ known_word slot after.tracks.own }
+{}
+
+/// Of two threads one raises the head word of slot 5 to 3, and the other looks at that word.
+///
+/// Each does so once, and neither calls another head word. The look finds 0 or 3.
+pub fn two_threads_raise_and_look()
+    ensures { (begin : Begin) (one other : Log) (j k a : ℕ) (closed : ClosedServer)
+        → HaveOneOrder begin (one ∷ other ∷ []) closed
+        → word_entries (filed_in one) ≡ record { who = one.who; job = j; operation = Logged (RaisesWord 5 3) } ∷ []
+        → word_entries (filed_in other) ≡ record { who = other.who; job = k; operation = Logged (LooksAt 5 a) } ∷ []
+        → (a ≡ 0) ⊎ (a ≡ 3) }
+{}
+
+/// A look at the head word of slot 5 that follows a raise to 7 finds 7 or more.
+///
+/// It follows the raise in the order of a server's filed calls. The two may be by any threads, and
+/// other calls may be between them.
+pub fn a_look_finds_the_raises_before_it()
+    ensures { (begin : Begin) (logs : List Log) (closed : ClosedServer) (order : HaveOneOrder begin logs closed) (j k who by a : ℕ) (earlier between later : List FiledEntry)
+        → order.calls ≡ earlier ++ record { who = who; job = j; operation = Logged (RaisesWord 5 7) } ∷ between ++ record { who = by; job = k; operation = Logged (LooksAt 5 a) } ∷ later
+        → 7 ≤ a }
 {}

@@ -109,24 +109,26 @@
 //! - Each call of the front, and each call that may change a shard, is filed in the server's book,
 //!   once, by its caller, with its arguments and its result. It is then the last entry on the
 //!   tracks of its part and of the caller. The part's entries lead from the server's first front,
-//!   or first shard of the index, to the one under the lock. No other call is filed. So two calls
-//!   of a part are of one part, the server's own, in one order.
+//!   or first shard of the index, to the one under the lock. So two calls of a part are of one
+//!   part, the server's own, in one order.
+//! - Each look at a head word and each raise is filed too, by the step that reads or raises the
+//!   word. No other call is filed.
 //! - **One order**: at the end of a server there is one list of all filed calls. Each thread has
 //!   filed exactly the calls in the list with its key, in that order, and no call is of another
 //!   thread. The calls of the front lead from the server's first front to its last, and those of
-//!   each of the eight shards from the server's first shard to its last (`HaveOneOrder`). So two
-//!   threads that draw a message ID each draw two, and two that install a program each in one slot
-//!   get two serials (`laws`).
+//!   each of the eight shards from the server's first shard to its last. The looks at head words
+//!   and the raises lead the words from 64 zeros (`HaveOneOrder`). So two threads that draw a
+//!   message ID each draw two, and two that install a program each in one slot get two serials. A
+//!   look finds the word that the raises before it left (`laws`).
 //! - The gauges that a server returns are those of a front that began so, at the given time, and
 //!   the numbers of observers are those of a shard with the given index. Neither read changes
 //!   anything or is filed. A dispatcher returns how many jobs it sent.
 //! - The readings that a server returns are those of some call of its device
 //!   (`Device::are_readings`).
-//! - A head word that a worker reads is no less than the worker has seen of that slot. After a
-//!   raise the worker has seen no less than the given word. Neither takes a lock.
+//! - A head word that a worker reads is no less than a word of that slot that it knows: that it
+//!   read before, or to which it raised the word. Neither call takes a lock.
 //! - Not claimed: that a call holds one lock; which readings a server returns; that the entries of
-//!   one job have a track of their own; that the reads and raises of head words are in the order;
-//!   and that a call returns.
+//!   one job have a track of their own; and that a call returns.
 //!
 //! By the contracts of `Context::work_off`, `Context::work`, `worker`, `run_workers`,
 //! `drive_workers`, `Dispatcher::handle`, `notify`, `offloaded`, the clauses of `Bench`,

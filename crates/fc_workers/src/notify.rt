@@ -40,7 +40,6 @@ impl<'a, B: Bench, G: Gate, W: Wire, M: TimeSource> Context<'a, B, G, W, M> {
         share: &mut Share<B::Tallies, TrackLog<B::Book>>,
     ) -> bool
         requires { turn.slot < 64 }
-        ensures heads { scratch.new.heads ≡ scratch.old.heads }
         ensures worked { IsTurnWorked (worker_view B.changes B.ended B.called B.logged M.is_time M.is_random G.passed W.called)
             job.now turn share.old share.new (emission_if result scratch.new.reply) }
         ensures ended { B.ended share.new.tallies ≡ saturated (B.ended share.old.tallies + 1) }

@@ -60,7 +60,6 @@ use fc_calls::calls::{
 use fc_calls::{Change, ShardCall};
 use fc_core::{Answer, Front, FrontGauges, Handled, Policy, Responded};
 use fc_filed::{FiledCall, NewServerBook, ServerBook, ServerTracks};
-use fc_heads::{HeadSeat, Heads};
 use fc_help::Readings;
 use fc_machine::Outcome;
 use fc_observe::{Ticked, Turn};
@@ -160,7 +159,6 @@ fn shard_of(slot: SlotNumber) -> u8
 #[derive(Drop)]
 pub struct Locked<'a, B: Books, D: Device> {
     device: &'a D,
-    heads: Heads,
     book: ServerBook<ServerOf<B>>,
     front: Mutex<BegunFront<B>>,
     shard0: LockedShard<0, B>,
@@ -177,9 +175,9 @@ impl<'a, B: Books, D: Device> Locked<'a, B, D> {
     /// Makes a server with slots 0 to 63 empty, each at `first_serial`.
     ///
     /// It has this policy, and draws `first_id` first. Its programs get the readings of `device`.
-    /// It opens the ledgers, and the unassigned shares are all their parts. The calls of its front
-    /// and of its shards are filed in `book`. Returns the server, the unassigned shares, and a log
-    /// for each thread of the book, in which nothing is filed yet.
+    /// It opens the ledgers, and the unassigned shares are all their parts. The calls of its front,
+    /// shards and head words are filed in `book`. Returns the server, the unassigned shares, and a
+    /// log for each thread of the book, in which nothing is filed yet.
     ///
     /// # Errors
     /// Returns `AllocError` if memory for the server can't be allocated.
@@ -203,7 +201,6 @@ impl<'a, B: Books, D: Device> Locked<'a, B, D> {
         ensures logs { IfOk result (λ r. 9 + vec_len r.2 ≡ B.first_job) }
         ensures new_logs { IfOk result (λ r. All IsNewLog r.2.items) }
     {
-        let (heads, _seat) = Heads::new(alloc)?;
         let threads = book.threads();
         let (front, mut new_server) = begin_front::<B>(
             alloc,
@@ -237,7 +234,6 @@ impl<'a, B: Books, D: Device> Locked<'a, B, D> {
         let logs = begin_logs(alloc, &book, &mut first, threads)?;
         let server = Locked {
             device,
-            heads,
             book,
             front: Mutex::new(front),
             shard0,
@@ -386,7 +382,7 @@ impl<'a, B: Books, D: Device> Locked<'a, B, D> {
     /// The serials of each shard have risen by the changes that were counted. The result has these
     /// counts. If `tracks` has the tracks of all threads' logs, the filed calls have one order.
     /// Each thread's calls are in its order. Those of the front, and those of each shard, lead from
-    /// the first one to the result's.
+    /// the first one to the result's. Those of the head words lead from 64 zeros.
     pub fn close(
         self,
         unassigned: &mut Unassigned<B>,
@@ -438,7 +434,7 @@ impl<'a, B: Books, D: Device> Locked<'a, B, D> {
 
 /// A call of the front or of a shard locks that part, and no other, and calls it.
 ///
-/// A call of the head words or of the device takes no lock.
+/// A look at a head word, a raise and a call of the device take no lock.
 impl<'a, B: Books, D: Device> Bench for Locked<'a, B, D> {
     ghost called = { IsServerCall B.first };
 
@@ -451,8 +447,6 @@ impl<'a, B: Books, D: Device> Bench for Locked<'a, B, D> {
     ghost changes = { λ t. slice_index t.changes };
 
     ghost ended = { λ t. t.ended };
-
-    ghost heads = { λ s. s.heads };
 
     fn handle<R: Wait>(
         &self,
@@ -654,18 +648,12 @@ impl<'a, B: Books, D: Device> Bench for Locked<'a, B, D> {
         self.ask(rt, shard, Describe { job }, &mut (), log)
     }
 
-    fn head_seat(&self) -> HeadSeat {
-        self.heads.new_seat()
+    fn peek(&self, slot: SlotNumber, log: &mut TrackLog<ServerOf<B>>) -> u64 {
+        log.look(&self.book, slot)
     }
 
-    fn peek(&self, slot: SlotNumber, seat: &mut HeadSeat, log: &mut TrackLog<ServerOf<B>>) -> u64 {
-        let _ = log;
-        self.heads.peek(slot.number(), seat)
-    }
-
-    fn raise(&self, job: &Job, word: u64, seat: &mut HeadSeat, log: &mut TrackLog<ServerOf<B>>) {
-        let _ = log;
-        self.heads.raise(job.origin.slot.number(), word, seat);
+    fn raise(&self, job: &Job, word: u64, log: &mut TrackLog<ServerOf<B>>) {
+        log.raise(&self.book, job.origin.slot, word);
     }
 
     fn respond<R: Wait>(

@@ -1,12 +1,15 @@
 //! The log of a worker, with its tracks in the server's book.
-ghost use Rattle.std.specs.Prelude.{◌≡◌, ◌+◌, ◌<◌, ◌≤◌, [], true, vec_len, IfOk};
+ghost use Rattle.std.specs.Prelude.{◌≡◌, ◌+◌, ◌<◌, ◌≤◌, [], true, max, vec_len, IfOk};
 ghost use Rattle.std.specs.List.{All};
 ghost use Rattle.fc_book.specs.Tracks.{own_view, with_next};
-ghost use Rattle.fc_workers.specs.Logs.{MayFileAll};
+ghost use Rattle.fc_calls.specs.Logged.{LooksAt, RaisesWord};
+ghost use Rattle.fc_filed.specs.Threads.{known_word};
+ghost use Rattle.fc_workers.specs.Logs.{MayFileAll, with_filed_call};
 ghost use Rattle.fc_workers.specs.OneOrder.{IsNewLog};
 
 use crate::call_log::CallLog;
 use fc_filed::{ServerBook, ServerName, ServerTracks};
+use fc_registry::SlotNumber;
 use std::alloc::{AllocError, Global};
 use std::marker::Model;
 
@@ -17,8 +20,8 @@ const FIRST_THREAD: u64 = 9;
 
 /// A worker's log: that of its calls, and its tracks in the server's book.
 ///
-/// Each call of the server's front or of a shard that gets the log becomes the last entry on the
-/// worker's own track. A call for a job is the last entry on the track of the worker's jobs, too.
+/// Each call of the server's front, of a shard or of a head word that gets the log becomes the last
+/// entry on the worker's own track. A call for a job is the last entry on the track of the worker's jobs, too.
 /// The other calls leave the tracks unchanged. A clause sees the log of the calls, the key of the
 /// worker's own track, and the tracks.
 #[derive(Drop)]
@@ -66,6 +69,30 @@ impl<J: ServerName> TrackLog<J> {
             who,
             tracks,
         }
+    }
+
+    /// Returns the head word of a slot, and files the look.
+    ///
+    /// It is no less than a word of the slot that the thread knows. The thread then knows it. No
+    /// lock is taken.
+    pub(crate) fn look(&mut self, book: &ServerBook<J>, slot: SlotNumber) -> u64
+        ensures rises { known_word slot self.old.tracks.own ≤ result }
+        ensures knows { known_word slot self.new.tracks.own ≡ result }
+        ensures filed { self.new ≡ with_filed_call (LooksAt slot result) self.old }
+    {
+        let slot = usize::from(slot.number());
+        self.tracks.look(book, self.who, slot)
+    }
+
+    /// Raises the head word of a slot to `word` if `word` is greater, and files the raise.
+    ///
+    /// The thread then knows `word`, or a greater word that it knew before. No lock is taken.
+    pub(crate) fn raise(&mut self, book: &ServerBook<J>, slot: SlotNumber, word: u64)
+        ensures knows { known_word slot self.new.tracks.own ≡ max (known_word slot self.old.tracks.own) word }
+        ensures filed { self.new ≡ with_filed_call (RaisesWord slot word) self.old }
+    {
+        let slot = usize::from(slot.number());
+        self.tracks.raise(book, self.who, slot, word);
     }
 
     /// Returns its tracks. The thread's own track is among them.

@@ -18,7 +18,6 @@ use fc_core::answer::Words;
 use fc_core::heads::WORDS;
 use fc_core::task::image;
 use fc_core::{Stage, Step};
-use fc_heads::HeadSeat;
 use fc_machine::{Frame, run};
 use fc_registry::{Job, Receipt, SlotNumber, Ticket};
 use fc_verify::{Refusal, Verified, verify};
@@ -50,8 +49,6 @@ impl<'a, B: Bench, G: Gate, W: Wire, M: TimeSource> Context<'a, B, G, W, M> {
         share: &mut Share<B::Tallies, TrackLog<B::Book>>,
     )
         requires asked { job.now.turn ≡ None }
-        requires heads { scratch.old.heads.table ≡ B.heads self.now.bench.now }
-        ensures heads { scratch.new.heads.table ≡ scratch.old.heads.table }
         ensures worked { IsWorkedTo (worker_view B.changes B.ended B.called B.logged M.is_time M.is_random G.passed W.called)
             number job.now scratch.new.stage share.old share.new }
         ensures ended { B.ended share.new.tallies ≡ B.ended share.old.tallies }
@@ -74,8 +71,6 @@ impl<'a, B: Bench, G: Gate, W: Wire, M: TimeSource> Context<'a, B, G, W, M> {
     )
         requires asked { job.now.turn ≡ None }
         requires ready { IsReady job.now scratch.old.stage }
-        requires heads { scratch.old.heads.table ≡ B.heads self.now.bench.now }
-        ensures heads { scratch.new.heads.table ≡ scratch.old.heads.table }
         ensures answers { IsToAnswer job.now scratch.new.stage }
         ensures worked { (before : Done B.Tallies)
             → Walked (worker_view B.changes B.ended B.called B.logged M.is_time M.is_random G.passed W.called)
@@ -89,7 +84,7 @@ impl<'a, B: Bench, G: Gate, W: Wire, M: TimeSource> Context<'a, B, G, W, M> {
             match &stage.step {
                 Step::ToMatch => {
                     let log = &mut share.log;
-                    let word = self.bench.peek(job.origin.slot, &mut scratch.heads, log);
+                    let word = self.bench.peek(job.origin.slot, log);
                     stage.matched(job, word);
                 }
                 Step::ToTake(_) => self.take(rt, job, stage, share),
@@ -104,13 +99,13 @@ impl<'a, B: Bench, G: Gate, W: Wire, M: TimeSource> Context<'a, B, G, W, M> {
                     stage.set_receipt(receipt);
                 }
                 Step::ToList => {
-                    self.list(&mut scratch.heads, &mut stage.seen, &mut share.log);
+                    self.list(&mut stage.seen, &mut share.log);
                     stage.listed();
                 }
                 Step::ToRaise(word) => {
                     let word = *word;
                     let log = &mut share.log;
-                    self.bench.raise(job, word, &mut scratch.heads, log);
+                    self.bench.raise(job, word, log);
                     stage.raised();
                 }
                 Step::ToAnswer => return,
@@ -133,8 +128,6 @@ impl<'a, B: Bench, G: Gate, W: Wire, M: TimeSource> Context<'a, B, G, W, M> {
         share: &mut Share<B::Tallies, TrackLog<B::Book>>,
     )
         requires asked { job.now.turn ≡ None }
-        requires heads { scratch.old.heads.table ≡ B.heads self.now.bench.now }
-        ensures heads { scratch.new.heads.table ≡ scratch.old.heads.table }
         ensures begun { (number : ℕ) → Walked (worker_view B.changes B.ended B.called B.logged M.is_time M.is_random G.passed W.called)
             number job.now scratch.new.stage share.old share.new }
         ensures found { (number : ℕ) → IsToCommit scratch.new.stage → AsksRun job.now.ask × HasTaken
@@ -157,8 +150,6 @@ impl<'a, B: Bench, G: Gate, W: Wire, M: TimeSource> Context<'a, B, G, W, M> {
         job: &Job,
         share: &mut Share<B::Tallies, TrackLog<B::Book>>,
     )
-        requires { scratch.old.heads.table ≡ B.heads self.now.bench.now }
-        ensures heads { scratch.new.heads.table ≡ scratch.old.heads.table }
         ensures kept { share.new ≡ record share.old { log = share.new.log } }
         ensures looks { IsLookedUp B.logged job.now share.old.log share.new.log }
         ensures looked { (number : ℕ) → Walked (worker_view B.changes B.ended B.called B.logged M.is_time M.is_random G.passed W.called)
@@ -169,7 +160,7 @@ impl<'a, B: Bench, G: Gate, W: Wire, M: TimeSource> Context<'a, B, G, W, M> {
         stage.ask(job);
         if let Step::ToMatch = &stage.step {
             let log = &mut share.log;
-            let head = self.bench.peek(job.origin.slot, &mut scratch.heads, log);
+            let head = self.bench.peek(job.origin.slot, log);
             stage.matched(job, head);
         }
     }
@@ -177,15 +168,13 @@ impl<'a, B: Bench, G: Gate, W: Wire, M: TimeSource> Context<'a, B, G, W, M> {
     // Reads the head words that `words` doesn't have yet, up to that of slot 63, and appends them
     // to `words` in order.
     #[inline(never)]
-    fn list(&self, heads: &mut HeadSeat, words: &mut Words, log: &mut TrackLog<B::Book>)
+    fn list(&self, words: &mut Words, log: &mut TrackLog<B::Book>)
         requires seen { length words.old.items < 64 }
-        requires heads { heads.old.table ≡ B.heads self.now.bench.now }
-        ensures heads { heads.new.table ≡ heads.old.table }
         ensures listed { ListsOn B.logged words.old.items words.new.items log.old log.new }
     {
         'slots: while words.len() < WORDS {
             let slot = SlotNumber::new(words.len() as u8);
-            let word = self.bench.peek(slot, heads, log);
+            let word = self.bench.peek(slot, log);
             let _fits = words.try_push(word);
         }
     }

@@ -74,7 +74,7 @@ pub fn worker<B: Bench, G: Gate, W: Wire, M: TimeSource, R: Wait>(
         frame,
     } = seat;
     let mut share = Share::new(got, tallies, log);
-    let mut scratch = Scratch::new(context.bench, frame);
+    let mut scratch = Scratch::new(frame);
     for _ in rt.forever() {
         let Some((number, job)) = jobs.next(rt, &mut share.got) else {
             break;
@@ -98,8 +98,6 @@ impl<'a, B: Bench, G: Gate, W: Wire, M: TimeSource> Context<'a, B, G, W, M> {
         job: &Job,
         share: &mut Share<B::Tallies, TrackLog<B::Book>>,
     )
-        requires { scratch.old.heads.table ≡ B.heads self.now.bench.now }
-        ensures heads { scratch.new.heads.table ≡ scratch.old.heads.table }
         ensures worked { IsReplied (worker_view B.changes B.ended B.called B.logged M.is_time M.is_random G.passed W.called)
             number job.now share.old share.new }
         ensures ended { B.ended share.new.tallies ≡ saturated (B.ended share.old.tallies + 1) }
@@ -124,8 +122,6 @@ impl<'a, B: Bench, G: Gate, W: Wire, M: TimeSource> Context<'a, B, G, W, M> {
     )
         requires asked { job.now.turn ≡ None }
         requires ready { IsReady job.now scratch.old.stage }
-        requires heads { scratch.old.heads.table ≡ B.heads self.now.bench.now }
-        ensures heads { scratch.new.heads.table ≡ scratch.old.heads.table }
         ensures worked { (before : Done B.Tallies)
             → Walked (worker_view B.changes B.ended B.called B.logged M.is_time M.is_random G.passed W.called)
             number job.now scratch.old.stage before share.old
@@ -148,8 +144,6 @@ impl<'a, B: Bench, G: Gate, W: Wire, M: TimeSource> Context<'a, B, G, W, M> {
         job: &Job,
         share: &mut Share<B::Tallies, TrackLog<B::Book>>,
     ) -> bool
-        requires { scratch.old.heads.table ≡ B.heads self.now.bench.now }
-        ensures heads { scratch.new.heads.table ≡ scratch.old.heads.table }
         ensures worked { IsWorked (worker_view B.changes B.ended B.called B.logged M.is_time M.is_random G.passed W.called)
             number job.now share.old share.new (emission_if result scratch.new.reply) }
         ensures ended { B.ended share.new.tallies ≡ saturated (B.ended share.old.tallies + 1) }
@@ -176,8 +170,6 @@ impl<'a, B: Bench, G: Gate, W: Wire, M: TimeSource> Context<'a, B, G, W, M> {
         share: &mut Share<B::Tallies, TrackLog<B::Book>>,
     ) -> bool
         requires asked { job.now.turn ≡ None }
-        requires heads { scratch.old.heads.table ≡ B.heads self.now.bench.now }
-        ensures heads { scratch.new.heads.table ≡ scratch.old.heads.table }
         ensures worked { IsRequestWorked (worker_view B.changes B.ended B.called B.logged M.is_time M.is_random G.passed W.called)
             number job.now share.old share.new (emission_if result scratch.new.reply) }
         ensures ended { B.ended share.new.tallies ≡ saturated (B.ended share.old.tallies + 1) }
@@ -197,7 +189,6 @@ impl<'a, B: Bench, G: Gate, W: Wire, M: TimeSource> Context<'a, B, G, W, M> {
         share: &mut Share<B::Tallies, TrackLog<B::Book>>,
     ) -> bool
         requires { IsToAnswer job.now scratch.old.stage }
-        ensures heads { scratch.new.heads ≡ scratch.old.heads }
         ensures worked { (number : ℕ) (before : Done B.Tallies)
             → IsWorkedTo (worker_view B.changes B.ended B.called B.logged M.is_time M.is_random G.passed W.called)
             number job.now scratch.old.stage before share.old

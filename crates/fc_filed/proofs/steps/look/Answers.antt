@@ -1,10 +1,10 @@
-use Rattle.std.proofs.Common.{ℕ, ◌+◌, ap, arith}
+use Rattle.std.proofs.Common.{ℕ, ◌+◌, ◌≤◌, ap, subst, arith}
 use Rattle.std.specs.Prelude.{slice_index}
 use Rattle.atomic_table.specs.Table.{keeps}
 use Rattle.fc_book.specs.Tracks.{with_filed}
 use Rattle.fc_filed.specs.Entries.{entry_keys}
-use Rattle.fc_filed.specs.Threads.{entry_of_look}
-use Rattle.fc_filed.proofs.Rule.{after_padding, held_looks_at}
+use Rattle.fc_filed.specs.Threads.{entry_of_look, known_word}
+use Rattle.fc_filed.proofs.Rule.{after_padding, held_looks_at, rises_at}
 use Rattle.fc_filed.proofs.steps.look.Goals as goal
 
 pub load-requires : goal.load-requires
@@ -19,6 +19,10 @@ load-requires g c =
         keeps,
         tt,
         held_looks_at c.args.words.now.shared.key s.words s.views _ v h at g.X.FiledName.entry slot on.0 on.1 c.requires.keyed,
-        ap (λ (n : ℕ). (with_filed entry_keys (entry_of_look g.X.FiledName.entry n (slice_index s.words (8 + slot))) v, c.args.seat.now.me.1)) (after_padding slot),
+        (
+          subst (λ (k : ℕ). known_word k v.own ≤ slice_index s.words (8 + slot)) (after_padding slot)
+              (rises_at c.args.words.now.shared.key s.words s.views _ v h at g.X.FiledName.entry slot on.0 on.1 c.requires.keyed c.requires.slot),
+          ap (λ (n : ℕ). (with_filed entry_keys (entry_of_look g.X.FiledName.entry n (slice_index s.words (8 + slot))) v, c.args.seat.now.me.1)) (after_padding slot),
+        ),
       ),
     )

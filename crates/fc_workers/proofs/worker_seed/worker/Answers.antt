@@ -1,4 +1,4 @@
-use Rattle.std.proofs.Common.{◌∙◌, ap, refl, subst, sym}
+use Rattle.std.proofs.Common.{◌∙◌, ap, subst, sym}
 use Rattle.fc_jobs.specs.Ends.{Got}
 use Rattle.fc_jobs.specs.declared.protocol.Numbered.{Numbered}
 use Rattle.fc_workers.specs.Workers.{Share}
@@ -14,7 +14,6 @@ loop-init g c = (
   tt,
   tt,
   ap (λ (s : Share _). s.got.channel) c.new-share.ensures ∙ c.requires,
-  refl,
   sets_out (worker_view g.B.Bench.changes g.B.Bench.ended g.B.Bench.called g.B.Bench.logged
       g.M.TimeSource.is_time g.M.TimeSource.is_random g.G.Gate.passed g.W.Wire.called) c.new-share.result,
 )
@@ -26,12 +25,11 @@ loop-preserved g c =
     let n : Numbered = record { number = c.in-Some-next.number; job = c.in-Some-next.job } in
     let got = c.in-Some-next.ensures.got in
     let worked = subst (λ (x : Got). IsReplied s n.number n.job (record c.loop.share { got = x }) c.work.new.share) got c.work.ensures.worked in
-    let h = c.loop.invariant.4 in
+    let h = c.loop.invariant.3 in
     let gets = c.work.ensures.got ∙ got in (
       tt,
       tt,
       ap (λ (x : Got). x.channel) gets ∙ c.loop.invariant.2,
-      c.work.ensures.heads ∙ c.loop.invariant.3,
       turns_on s n c.new-share.result c.loop.share c.work.new.share h (record { worked = worked; ends = c.work.ensures.ended }) gets,
     )
 
@@ -40,8 +38,8 @@ returns g c =
     let s = (worker_view g.B.Bench.changes g.B.Bench.ended g.B.Bench.called g.B.Bench.logged
     g.M.TimeSource.is_time g.M.TimeSource.is_random g.G.Gate.passed g.W.Wire.called) in
     let ended : HasEnded s c.new-share.result c.match-next.share = elim c.match-next.branch [
-      | in-None w ↦ subst (λ (x : Share _). HasEnded s c.new-share.result x) (sym w.share-is) c.loop.invariant.4
+      | in-None w ↦ subst (λ (x : Share _). HasEnded s c.new-share.result x) (sym w.share-is) c.loop.invariant.3
       | in-Some+in_default w ↦ subst (λ (x : Share _). HasEnded s c.new-share.result x)
-          (sym (w.share-is ∙ ap (λ (x : Got). record c.loop.share { got = x }) w.in_default.ensures.got)) c.loop.invariant.4
+          (sym (w.share-is ∙ ap (λ (x : Got). record c.loop.share { got = x }) w.in_default.ensures.got)) c.loop.invariant.3
     ] in
     record { ended = subst (λ (x : Share _). HasEnded s x c.match-next.share) c.new-share.ensures ended }

@@ -29,7 +29,6 @@ returns-in_default g c =
     g.M.TimeSource.is_time g.M.TimeSource.is_random g.G.Gate.passed g.W.Wire.called) in
     let share = c.args.share.now in
     record {
-      heads = refl;
       kept = refl;
       looks = inl refl;
       looked = λ number. subst (λ (x : Stage). Walked s number c.args.job.now x share share) (sym c.ask.ensures) (sets_out s number c.args.job.now share);

@@ -8,7 +8,7 @@ abbrev pub invariant-calls : goal.invariant-calls
 invariant-calls g l =
     let s = (worker_view g.B.Bench.changes g.B.Bench.ended g.B.Bench.called g.B.Bench.logged
     g.M.TimeSource.is_time g.M.TimeSource.is_random g.G.Gate.passed g.W.Wire.called) in
-    (l.scratch.heads.table ≡ l.initial.scratch.heads.table) × IsReady l.job l.scratch.stage
+    IsReady l.job l.scratch.stage
     × ((before : Share _) → Walked s l.number l.job l.initial.scratch.stage before l.initial.share → Walked s l.number l.job l.scratch.stage before l.share)
     × (g.B.Bench.ended l.share.tallies ≡ g.B.Bench.ended l.initial.share.tallies)
 
