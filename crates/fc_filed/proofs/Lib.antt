@@ -5,4 +5,5 @@ pub mod Closing
 pub mod Leading
 pub mod Shards
 pub mod ByThread
+pub mod JobTracks
 pub mod Known

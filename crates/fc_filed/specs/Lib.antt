@@ -4,3 +4,4 @@ pub mod Books
 pub mod Threads
 pub mod Parts
 pub mod Tracked
+pub mod JobTracks

@@ -1,5 +1,5 @@
 //! A backend of workers whose changes are recorded.
-ghost use Rattle.fc_record.specs.Recording.{IsRecordedCall};
+ghost use Rattle.fc_record.specs.Recording.{IsRecordedCall, recorded_files};
 
 use crate::recorder::{Recorder, record_answer};
 use coap_msg::{Emission, Endpoint};
@@ -37,6 +37,8 @@ impl<'a, B: Bench, C: Recorder> Bench for RecordedBench<'a, B, C> {
     ghost called = { B.called };
 
     ghost logged = { IsRecordedCall B.logged C.recorded };
+
+    ghost files = { recorded_files B.logged C.recorded B.files };
 
     fn handle<R: Wait>(
         &self,
@@ -211,6 +213,14 @@ impl<'a, B: Bench, C: Recorder> Bench for RecordedBench<'a, B, C> {
 
     fn raise(&self, job: &Job, word: u64, log: &mut TrackLog<B::Book>) {
         self.bench.raise(job, word, log);
+    }
+
+    fn reject_image(&self, job: &Job, answer: &Answer, log: &mut TrackLog<B::Book>) {
+        self.bench.reject_image(job, answer, log);
+    }
+
+    fn lack_memory(&self, job: &Job, log: &mut TrackLog<B::Book>) {
+        self.bench.lack_memory(job, log);
     }
 
     fn respond<R: Wait>(

@@ -1,5 +1,5 @@
 -- The tracks of all threads of a closed server are one order of their calls.
-use Rattle.std.proofs.Common.{◌≡◌, ◌≢◌, ℕ, zero, suc, ◌+◌, ◌<◌, List, [], ◌∷◌, add-zero, length, map, refl, sym, ◌∙◌, subst, inl, inr, arith, zero-add}
+use Rattle.std.proofs.Common.{◌≡◌, ◌≢◌, ℕ, zero, suc, ◌+◌, ◌<◌, ◌≤◌, List, [], ◌∷◌, add-zero, length, map, refl, sym, ◌∙◌, subst, ⊎_elim, inl, inr, arith, zero-add}
 use Rattle.std.specs.Prelude.{slice_index_or}
 use Rattle.std.specs.List.{All, Any}
 use Rattle.std.proofs.lemmas.List.{length-map}
@@ -7,15 +7,17 @@ use Rattle.std.proofs.lemmas.List.Elements.{All-cons, All-head, All-nil, All-tai
 use Rattle.fc_book.specs.declared.view.BookView.{BookView}
 use Rattle.fc_book.specs.declared.view.Track.{Track}
 use Rattle.fc_book.specs.Tracks.{AreOn, AreSingle, HasKey, on}
+use Rattle.fc_book.proofs.Keys.{has-append}
 use Rattle.fc_book.proofs.Numbers.{AreApart, AreBetween, HasNumber, all_among}
 use Rattle.fc_book.proofs.Owners.{entries_at_key, has_left, has_right, on_both, single_apart, single_rest}
+use Rattle.fc_core.specs.Exchanges.{FrontState}
 use Rattle.fc_registry.specs.Shards.{shard_at}
 use Rattle.fc_registry.specs.Slots.{Shard}
 use Rattle.fc_server.specs.declared.server.Begin.{Begin}
 use Rattle.fc_linear.specs.Operations.{FrontDoes, Operation, ShardDoes}
 use Rattle.fc_linear.specs.Parts.{first_server}
 use Rattle.fc_filed.specs.declared.entry.FiledEntry.{FiledEntry}
-use Rattle.fc_filed.specs.Books.{HasServerHistory}
+use Rattle.fc_filed.specs.Books.{HasServerHistory, IsRightForJob}
 use Rattle.fc_filed.specs.Entries.{AreKeyed, IsKeyed, OperationsLead, entries_by, entry_keys}
 use Rattle.fc_filed.specs.Threads.{HasOwnTrack}
 use Rattle.fc_filed.specs.Tracked.{IsPartClosed}
@@ -66,6 +68,23 @@ module _ (firsts : List Shard) where
         at : IsLed i s → ((j : ℕ) → j < length ss → IsLed (suc i + j) (shard_at ss j)) → (j : ℕ) → j < length (s ∷ ss) → IsLed (i + j) (shard_at (s ∷ ss) j)
         at first others zero lt = subst (λ (k : ℕ). IsLed k s) (sym (add-zero i)) first
         at first others (suc j) lt = subst (λ (k : ℕ). IsLed k (shard_at ss j)) (omega arith) (others j (omega (arith, lt)))
+
+-- ---- the keys of the owner's tracks
+
+key_stays : {S : Type 0} (Does : Operation → S → S → Type 0) (key j : ℕ) (x y : S) (v w : BookView FiledEntry) → IsPartClosed Does key x y v w → HasKey j v.own → HasKey j w.own
+key_stays Does key j x y v w c h = subst (λ (u : BookView FiledEntry). HasKey j u.own) (sym c.closed) (inr h)
+
+key_back : {S : Type 0} (Does : Operation → S → S → Type 0) (key j : ℕ) (x y : S) (v w : BookView FiledEntry) → IsPartClosed Does key x y v w → (key ≡ j → ⊥) → HasKey j w.own → HasKey j v.own
+key_back Does key j x y v w c other h = ⊎_elim (λ (e : key ≡ j). absurd (other e)) (λ (z : HasKey j v.own). z) (subst (λ (u : BookView FiledEntry). HasKey j u.own) c.closed h)
+
+module _ (firsts : List Shard) (j : ℕ) where
+  keys_stay : (i : ℕ) (shards : List Shard) (v w : BookView FiledEntry) → AreShardsClosed firsts i shards v w → HasKey j v.own → HasKey j w.own
+  keys_stay i [] v w is h = subst (λ (u : BookView FiledEntry). HasKey j u.own) (sym is) h
+  keys_stay i (s ∷ ss) v w (m, c, rest) h = keys_stay (suc i) ss m w rest (key_stays ShardDoes (i + 1) j (shard_at firsts i) s v m c h)
+
+  keys_back : (i : ℕ) (shards : List Shard) (v w : BookView FiledEntry) → AreShardsClosed firsts i shards v w → i + length shards < j → HasKey j w.own → HasKey j v.own
+  keys_back i [] v w is lt h = subst (λ (u : BookView FiledEntry). HasKey j u.own) is h
+  keys_back i (s ∷ ss) v w (m, c, rest) lt h = key_back ShardDoes (i + 1) j (shard_at firsts i) s v m c (λ e. absurd (omega (arith, e, lt))) (keys_back (suc i) ss m w rest (omega (arith, lt)) h)
 
 -- ---- the threads
 
@@ -123,6 +142,34 @@ module _ (first_job : ℕ) where
       (λ e k. any_log e.who logs (all_among 9 first_job (threads_of logs) e.who (between logs own) single (omega (arith, count, length-map logs (λ (log : TrackedLog). log.who))) k.who.0 k.who.1))
       calls (all_keyed first_job calls keyed)
 
+  -- ---- the tracks of jobs
+
+  on_each : (calls : List FiledEntry) (logs : List TrackedLog) → AreOn entry_keys calls (tracks_in logs) → All (λ (log : TrackedLog). AreOn entry_keys calls log.tracks.own) logs
+  on_each calls [] on = All-nil (λ (log : TrackedLog). AreOn entry_keys calls log.tracks.own)
+  on_each calls (l ∷ ls) on =
+      let both = on_both entry_keys calls l.tracks.own (tracks_in ls) on in
+      All-cons (λ (log : TrackedLog). AreOn entry_keys calls log.tracks.own) l ls both.0 (on_each calls ls both.1)
+
+  none_in : (k : ℕ) (logs : List TrackedLog) → All (λ (log : TrackedLog). HasKey k log.tracks.own → ⊥) logs → HasKey k (tracks_in logs) → ⊥
+  none_in k [] none h = h
+  none_in k (l ∷ ls) none h = ⊎_elim
+      (λ (x : HasKey k l.tracks.own). All-head (λ (log : TrackedLog). HasKey k log.tracks.own → ⊥) l ls none x)
+      (λ (x : HasKey k (tracks_in ls)). none_in k ls (All-tail (λ (log : TrackedLog). HasKey k log.tracks.own → ⊥) l ls none) x)
+      (has-append k l.tracks.own (tracks_in ls) h)
+
+  lost_right : (logs : List TrackedLog) (v m w : BookView FiledEntry) (closed : ClosedServer) (x y : FrontState) (firsts : List Shard) → HasTracksOf first_job logs v → AreApart (threads_of logs) → 9 + length logs ≡ first_job
+      → IsPartClosed FrontDoes 0 x y v m → AreShardsClosed firsts 0 closed.shards m w → length closed.shards ≡ 8 → (h : HasServerHistory first_job w)
+      → (k : ℕ) → first_job ≤ k → All (λ (log : TrackedLog). HasKey k log.tracks.own → ⊥) logs → IsRightForJob first_job (on entry_keys k h.log)
+  lost_right logs v m w closed x y firsts has single count front shards eight h k le none = h.sent threads k le lacks
+    where
+      threads : (t : ℕ) → 9 ≤ t → t < first_job → HasKey t w.own
+      threads t low high = keys_stay firsts t 0 closed.shards m w shards (key_stays FrontDoes 0 t x y v m front
+          (subst (λ (ts : List (Track FiledEntry)). HasKey t ts) (sym has.tracks) (key_in t logs has.threads (all_among 9 first_job (threads_of logs) t (between logs has.threads) single (omega (arith, count, length-map logs (λ (log : TrackedLog). log.who))) low high))))
+
+      lacks : HasKey k w.own → ⊥
+      lacks has_it = none_in k logs none (subst (λ (ts : List (Track FiledEntry)). HasKey k ts) has.tracks
+          (key_back FrontDoes 0 k x y v m front (λ e. absurd (omega (arith, e, le, count))) (keys_back firsts k 0 closed.shards m w shards (omega (arith, le, count, eight)) has_it)))
+
   pub one_order : (begin : Begin) (logs : List TrackedLog) (v m w : BookView FiledEntry) (closed : ClosedServer) → HasTracksOf first_job logs v → 9 + length logs ≡ first_job
       → IsPartClosed FrontDoes 0 (first_server begin).front closed.front v m → AreShardsClosed (first_server begin).shards 0 closed.shards m w → length closed.shards ≡ 8
       → HasServerHistory first_job w → HaveOneOrder begin logs closed
@@ -140,6 +187,10 @@ module _ (first_job : ℕ) where
         own = own_calls h.log logs h.keyed has.threads on_logs;
         apart = apart_at logs threads;
         callers = by_threads h.log logs h.keyed has.threads threads count;
+        keyed = subst (λ (n : ℕ). AreKeyed n h.log) (sym count) h.keyed;
+        tracks_on = on_each h.log logs on_logs;
+        lost = λ k le none. subst (λ (n : ℕ). IsRightForJob n (on entry_keys k h.log)) (sym count)
+            (lost_right logs v m w closed (first_server begin).front closed.front firsts has threads count front shards eight h k (omega (arith, le, count)) none);
         front_led = subst (λ (es : List FiledEntry). OperationsLead FrontDoes es (first_server begin).front closed.front) (front_track first_job h.log h.keyed) first.0;
         words = h.words;
         heads_led = h.heads;

@@ -36,6 +36,7 @@ use Rattle.fc_core.specs.Stage.{ToMatch, ToTake, ToCommit, ToInstall, ToRemove, 
 use Rattle.fc_core.specs.Contents.{Content, IsOf, Listed, Unavailable}
 use Rattle.fc_core.specs.Heads.{head_word, is_match}
 use Rattle.fc_core.specs.Ends.{refused, refused_by}
+use Rattle.fc_core.specs.Fits.{IsSafe}
 use Rattle.fc_core.specs.Stages.{asked_stage, first_by, image_of, listed, matched, matched_by, run_content, removed, receipt_content, took, after_commit, made, snapshots}
 use Rattle.fc_core.specs.Steps.{Call, Takes, Commits, Installs, Lists, Matches, Rejects, Refuses, Removes, Describes, Raises}
 use Rattle.fc_workers.specs.Workers.{Share}
@@ -43,7 +44,9 @@ use Rattle.fc_workers.specs.Answers.{AreTallied, commit_overtakings, ended_by, s
 use Rattle.fc_calls.specs.Kept.{commit_changes, install_changes, removal_changes}
 use Rattle.fc_workers.specs.Logs.{TrackedLog}
 use Rattle.fc_calls.specs.Logged.{InstallsProgram, LoggedCall, LooksAt, RaisesWord, RemovesProgram, TellsReceipt}
+use Rattle.fc_linear.specs.Operations.{LacksMemory, RejectsImage}
 use Rattle.fc_workers.specs.Called.{WorkerView}
+use Rattle.fc_workers.specs.Filed.{HasFiled}
 use Rattle.fc_workers.specs.Steps.{AreSeen, AsksRun, Follows, IsReady, IsStep, IsUntaken, ListsOn, Walked, taken_at}
 use Rattle.fc_workers.specs.Work.{AreCalls, IsCallAt, IsCommitted, IsWorkedOff, HasCounted, stage_after, change_by, overtaking_by, refusal_by, snapshots_made, total}
 
@@ -204,12 +207,12 @@ module _ {T : Type 0} (worker_view : WorkerView T) (number : ℕ) (job : Job) wh
     };
   })
 
-  pub install_step : (program : Program) (x : Made) (p : Share T) (tallies : T) (log : TrackedLog) {next : Stage} → judged (image_of job.ask) ≡ Accepts program
+  pub install_step : (program : Program) (x : Made) (p : Share T) (tallies : T) (log : TrackedLog) {next : Stage} → judged (image_of job.ask) ≡ Accepts program → IsSafe program
       → worker_view.logged (InstallsProgram job program x) p.log log → IsSomeInstall (initial_vars_of job.ask) program x → AreTallied (worker_view.changes p.tallies) (worker_view.changes tallies) job.origin.slot (install_changes x)
       → next ≡ made (receipt_of program 0) x → IsStep worker_view number job ToInstall next p (record p { tallies = tallies; log = log })
-  install_step program x p tallies log accepted installs is rises e = is_step ToInstall e refl (record {
+  install_step program x p tallies log accepted safe installs is rises e = is_step ToInstall e refl (record {
     call = Installs program (initial_vars_of job.ask) x;
-    is = (refl, (accepted, refl, installs, is));
+    is = (refl, (accepted, safe, refl, installs, is));
     next = refl;
     follows = made_follows job (receipt_of program 0) x;
     counted = record {
@@ -285,11 +288,11 @@ module _ {T : Type 0} (worker_view : WorkerView T) (number : ℕ) (job : Job) wh
 
   -- if the job's image breaks a rule, its rejection is a step to the answer with this fault, and
   -- counts nothing.
-  pub reject_step : (f : Fault) (p : Share T) {next : Stage} → IsRefusal (image_of job.ask) (Broken f) → next ≡ ToAnswer (refused (Broken f))
-      → IsStep worker_view number job ToInstall next p p
-  reject_step f p is e = is_step ToInstall e refl (record {
+  pub reject_step : (f : Fault) (p : Share T) (log : TrackedLog) {next : Stage} → IsRefusal (image_of job.ask) (Broken f) → HasFiled (RejectsImage job (refused (Broken f))) p.log log → next ≡ ToAnswer (refused (Broken f))
+      → IsStep worker_view number job ToInstall next p (record p { log = log })
+  reject_step f p log is filed e = is_step ToInstall e refl (record {
     call = Rejects (refused (Broken f));
-    is = (refl, ((f, is, refl), refl));
+    is = (refl, ((f, is, refl), filed));
     next = refl;
     follows = rejected_follows job f (nat_lt (number_of f.rule) 20);
     counted = record {
@@ -304,11 +307,11 @@ module _ {T : Type 0} (worker_view : WorkerView T) (number : ℕ) (job : Job) wh
 
   -- if memory for the job's image is refused, this is a step to the answer `Unavailable`, and is
   -- counted.
-  pub refuse_step : (p : Share T) {next : Stage} {after : Share T} → IsRefusal (image_of job.ask) NoMemory → next ≡ ToAnswer Unavailable
-      → after ≡ record p { refusals = saturated (p.refusals + 1) } → IsStep worker_view number job ToInstall next p after
-  refuse_step p is e c = is_step ToInstall e c (record {
+  pub refuse_step : (p : Share T) (log : TrackedLog) {next : Stage} {after : Share T} → IsRefusal (image_of job.ask) NoMemory → HasFiled (LacksMemory job) p.log log → next ≡ ToAnswer Unavailable
+      → after ≡ record p { log = log; refusals = saturated (p.refusals + 1) } → IsStep worker_view number job ToInstall next p after
+  refuse_step p log is filed e c = is_step ToInstall e c (record {
     call = Refuses;
-    is = (refl, (is, refl));
+    is = (refl, (is, filed));
     next = refl;
     follows = record { ready = tt; fewer = omega arith; few = omega arith };
     counted = record {

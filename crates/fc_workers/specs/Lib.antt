@@ -13,3 +13,6 @@ pub mod Shares
 pub mod Dispatch
 pub mod Naming
 pub mod OneOrder
+pub mod Filed
+pub mod LegalOrder
+pub mod Received

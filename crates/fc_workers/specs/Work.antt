@@ -18,13 +18,16 @@ use Rattle.fc_core.specs.Stage.{Stage}
 use Rattle.fc_core.specs.Stage.{ToAnswer}
 use Rattle.fc_core.specs.Contents.{Content, IsOf}
 use Rattle.fc_core.specs.Ends.{refused}
+use Rattle.fc_core.specs.Fits.{IsSafe}
 use Rattle.fc_core.specs.Stages.{asked_stage, image_of, snapshots}
 use Rattle.fc_core.specs.Steps.{Call, Matches, Lists, Takes, Commits, Installs, Rejects, Refuses, Removes, Describes, Raises, called_at, next_stage}
 use Rattle.fc_workers.specs.Answers.{IsSnapshotWith, IsSomeCommit, IsSomeInstall, IsSomeReceipt, IsSomeRemoval, AreTallied, HasRisen, commit_overtakings, snapshot_refusals}
 use Rattle.fc_calls.specs.Kept.{commit_changes, install_changes, removal_changes}
 use Rattle.fc_workers.specs.Logs.{TrackedLog}
 use Rattle.fc_calls.specs.Logged.{CommitsRun, InstallsProgram, LooksAt, RaisesWord, RemovesProgram, TellsReceipt}
+use Rattle.fc_linear.specs.Operations.{LacksMemory, RejectsImage}
 use Rattle.fc_workers.specs.Called.{EndsJob, WorkerView}
+use Rattle.fc_workers.specs.Filed.{HasFiled}
 use Rattle.fc_workers.specs.Outgoing.{GivesAnswer, IsSent, IsTurnReply}
 use Rattle.fc_workers.specs.Workers.{Share}
 
@@ -77,19 +80,19 @@ module _ {T : Type 0} (s : WorkerView T) where
 
   -- a call for the job with this number leads from the log `before` to the log `after`. A match
   -- reads the head word of the job's slot, for the request's ETags. A list reads the head word of
-  -- the next slot. A raise publishes the head word of the job's slot. A rejection and a refused
-  -- allocation are those of the job's image. The result of any other call is that of some slot.
-  -- Answers, losses and the calls of a lease are no such calls.
+  -- the next slot. A raise publishes the head word of the job's slot. An installed program is safe. A
+  -- rejection and a refused allocation are those of the job's image, and are filed. The result of any
+  -- other call is that of some slot. Answers, losses and the calls of a lease are no such calls.
   abbrev pub IsCallOf : ℕ → Job → Call → TrackedLog → TrackedLog → Type 0
   IsCallOf number job (Matches serials word) before after = (serials ≡ job.etags.items) × s.logged (LooksAt job.origin.slot word) before after
   IsCallOf number job (Lists seen word) before after = s.logged (LooksAt (length seen.items) word) before after
   IsCallOf number job (Takes count taken) before after = IsSnapshotWith s.logged job taken before after
   IsCallOf number job (Commits count t committed) before after = IsCommitted number t committed before after
   IsCallOf number job (Installs p initial answer) before after =
-      (judged (image_of job.ask) ≡ Accepts p) × (initial ≡ initial_vars_of job.ask) × s.logged (InstallsProgram job p answer) before after × IsSomeInstall initial p answer
+      (judged (image_of job.ask) ≡ Accepts p) × IsSafe p × (initial ≡ initial_vars_of job.ask) × s.logged (InstallsProgram job p answer) before after × IsSomeInstall initial p answer
   IsCallOf number job (Rejects content) before after =
-      ((f : Fault) × IsRefusal (image_of job.ask) (Broken f) × (content ≡ refused (Broken f))) × (after ≡ before)
-  IsCallOf number job Refuses before after = IsRefusal (image_of job.ask) NoMemory × (after ≡ before)
+      ((f : Fault) × IsRefusal (image_of job.ask) (Broken f) × (content ≡ refused (Broken f))) × HasFiled (RejectsImage job content) before after
+  IsCallOf number job Refuses before after = IsRefusal (image_of job.ask) NoMemory × HasFiled (LacksMemory job) before after
   IsCallOf number job (Removes removal) before after = s.logged (RemovesProgram job removal) before after × IsSomeRemoval removal
   IsCallOf number job (Describes receipt) before after = s.logged (TellsReceipt job receipt) before after × IsSomeReceipt receipt
   IsCallOf number job (Raises word content) before after = s.logged (RaisesWord job.origin.slot word) before after

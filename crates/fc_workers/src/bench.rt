@@ -13,6 +13,8 @@ ghost use Rattle.fc_calls.specs.Logged.{AdvancesFront, AdvancesIdle, FiresTimer,
 ghost use Rattle.fc_calls.specs.Logged.{AdvancesShard, AnswersRequest, CommitsRun, DrawsId, GivesTurn, GivesUpTurn, HandlesDatagram};
 ghost use Rattle.fc_calls.specs.Logged.{InstallsProgram};
 ghost use Rattle.fc_calls.specs.Logged.{LoggedCall, NotesTurn, RaisesWord, RemovesProgram, TakesForJob, TellsReceipt};
+ghost use Rattle.fc_linear.specs.Operations.{LacksMemory, RejectsImage};
+ghost use Rattle.fc_workers.specs.Filed.{FilesEach, HasFiled};
 ghost use Rattle.fc_workers.specs.Logs.{TrackedLog as Log};
 ghost use Rattle.fc_workers.specs.Answers.{AreTallied, IsSomeAnswer, IsSomeCommit, IsSomeDelivery, IsSomeDraw, IsSomeInstall, IsSomeNote};
 ghost use Rattle.fc_workers.specs.Answers.{IsSomeIdle, IsSomeReceipt, IsSomeRemoval, IsSomeSnapshot, IsSomeTick, IsSomeTurn};
@@ -64,7 +66,10 @@ pub trait Bench {
 
     // The other calls that were made, each with its arguments, its result, and the log's states
     // before and after.
-    ghost logged: { LoggedCall → Log → Log → Type 0 } = { λ call before after. ⊤ };
+    ghost logged: { LoggedCall → Log → Log → Type 0 };
+
+    // Each of these calls but that for readings is filed on the worker's tracks.
+    ghost files: { FilesEach logged };
 
     /// Handles a datagram, at a time in milliseconds.
     ///
@@ -333,6 +338,18 @@ pub trait Bench {
     fn raise(&self, job: &Job, word: u64, log: &mut TrackLog<Self::Book>)
         ensures knows { known_word job.now.origin.slot log.new.tracks.own ≡ max (known_word job.now.origin.slot log.old.tracks.own) word }
         ensures logged { logged (RaisesWord job.now.origin.slot word) log.old log.new };
+
+    /// Files that the image of an install's `job` breaks a rule.
+    ///
+    /// `answer` is the job's answer. No part of the server is called.
+    fn reject_image(&self, job: &Job, answer: &Answer, log: &mut TrackLog<Self::Book>)
+        ensures { HasFiled (RejectsImage job.now answer.now) log.old log.new };
+
+    /// Files that memory for the program of an install's `job` is refused.
+    ///
+    /// No part of the server is called.
+    fn lack_memory(&self, job: &Job, log: &mut TrackLog<Self::Book>)
+        ensures { HasFiled (LacksMemory job.now) log.old log.new };
 
     /// Answers a job, at a time in milliseconds, and ends it.
     ///

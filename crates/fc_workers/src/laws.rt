@@ -22,11 +22,22 @@ ghost use Rattle.fc_registry.specs.declared.note.Notification.{Notification};
 ghost use Rattle.fc_server.specs.declared.server.Begin.{Begin};
 ghost use Rattle.fc_workers.specs.Asked.{IsLoggedCall};
 ghost use Rattle.fc_workers.specs.Fronts.{beginning};
+ghost use Rattle.fc_core.specs.Stage.{Gone};
+ghost use Rattle.fc_core.specs.Stages.{first_stage};
+ghost use Rattle.fc_filed.specs.JobTracks.{HasJobAt};
+ghost use Rattle.fc_filed.specs.Threads.{HasOwnTrack};
 ghost use Rattle.fc_workers.specs.Called.{worker_view};
+ghost use Rattle.fc_workers.specs.Filed.{HasFiledFor, HasRightJobs};
+ghost use Rattle.fc_workers.specs.Received.{AreReceivedWorked, KeepsRightJobs, ReceivedJob};
+ghost use Rattle.fc_workers.specs.Work.{IsReplied};
 ghost use Rattle.fc_workers.specs.Dispatch.{IsDone};
+ghost use Rattle.fc_filed.specs.Entries.{log_of};
+ghost use Rattle.fc_linear.specs.Parts.{IsHistoryOf, history_on};
+ghost use Rattle.fc_server.specs.States.{begin_of};
+ghost use Rattle.fc_workers.specs.LegalOrder.{HaveRightTracks, server_with};
 ghost use Rattle.fc_workers.specs.Logs.{TrackedLog as Log};
 ghost use Rattle.fc_workers.specs.OneOrder.{HaveOneOrder, filed_in};
-ghost use Rattle.fc_workers.specs.Workers.{Dispatched};
+ghost use Rattle.fc_workers.specs.Workers.{Dispatched, Share as Done};
 ghost use Rattle.fc_workers.specs.declared.closed.ClosedServer.{ClosedServer};
 ghost use Rattle.fc_workers.specs.declared.dispatcher.Offload.{Offload};
 
@@ -82,6 +93,41 @@ pub fn two_threads_install_at_two_serials()
         → shard_entries 5 (filed_in one) ≡ record { who = one.who; job = j; operation = Logged (InstallsProgram job p (Raised a c)) } ∷ []
         → shard_entries 5 (filed_in other) ≡ record { who = other.who; job = k; operation = Logged (InstallsProgram also q (Raised b d)) } ∷ []
         → ((a ≡ 8) × (b ≡ 9)) ⊎ ((a ≡ 9) × (b ≡ 8)) }
+{}
+
+/// The operations that a worker files for a job leave each job's track right.
+///
+/// It holds for a worker that has its own track, if the job's track is first, and at the job's first
+/// stage. After the job it is at its end, `Gone`: the job's operations, from the call that produced
+/// it, are those that its stages need. The worker's operations for the job are also the last entries
+/// on its own track. The tracks of its other jobs are unchanged.
+pub fn worked_jobs_have_right_tracks<B: Bench, G: Gate, W: Wire, M: TimeSource>()
+    ensures { (first_job number : ℕ) (job : Job) (before after : Done B.Tallies)
+        → HasOwnTrack first_job before.log.who before.log.tracks → HasJobAt first_job job (first_stage job) before.log.tracks → HasRightJobs first_job before.log.tracks
+        → IsReplied (worker_view B.changes B.ended B.called B.logged M.is_time M.is_random G.passed W.called) number job before after
+        → HasFiledFor first_job job (first_stage job) Gone before.log after.log × HasJobAt first_job job Gone after.log.tracks × HasRightJobs first_job after.log.tracks }
+{}
+
+/// A worker that receives jobs with right tracks, and runs each to its end, keeps its tracks right.
+///
+/// It holds for a worker that has its own track. Each job comes with its track, which is at the job's
+/// first stage. After any number of jobs each job's track that the worker has is right for its job.
+/// None of the worker's own entries since then produces a job.
+pub fn received_jobs_have_right_tracks<B: Bench, G: Gate, W: Wire, M: TimeSource>()
+    ensures { (first_job : ℕ) (jobs : List ReceivedJob) (before after : Done B.Tallies)
+        → HasOwnTrack first_job before.log.who before.log.tracks → HasRightJobs first_job before.log.tracks
+        → AreReceivedWorked first_job (worker_view B.changes B.ended B.called B.logged M.is_time M.is_random G.passed W.called) jobs before after
+        → KeepsRightJobs first_job before.log after.log }
+{}
+
+/// The one order of a closed server's calls is a legal history if the tracks of its jobs are right.
+///
+/// The history is that of the calls as events. Each snapshot in it that found a program has a
+/// meaning. The history's server is the closed one: its front, the slots, times and observers of its
+/// shards, and the head words at the end of the order.
+pub fn right_tracks_make_a_legal_order()
+    ensures { (begin : Begin) (logs : List Log) (closed : ClosedServer) (first : ℕ) (order : HaveOneOrder begin logs closed) → HaveRightTracks first logs
+        → IsHistoryOf (history_on (begin_of begin) (log_of first order.calls)) (server_with closed order.words) }
 {}
 
 /// A worker of a server with locks still knows each head word that it knew before a logged call.

@@ -112,7 +112,8 @@
 //!   or first shard of the index, to the one under the lock. So two calls of a part are of one
 //!   part, the server's own, in one order.
 //! - Each look at a head word and each raise is filed too, by the step that reads or raises the
-//!   word. No other call is filed.
+//!   word. A worker also files that an image breaks a rule, or that memory for its program is
+//!   refused. No other call is filed.
 //! - **One order**: at the end of a server there is one list of all filed calls. Each thread has
 //!   filed exactly the calls in the list with its key, in that order, and no call is of another
 //!   thread. The calls of the front lead from the server's first front to its last, and those of
@@ -120,6 +121,12 @@
 //!   and the raises lead the words from 64 zeros (`HaveOneOrder`). So two threads that draw a
 //!   message ID each draw two, and two that install a program each in one slot get two serials. A
 //!   look finds the word that the raises before it left (`laws`).
+//! - **Tracks of jobs**: a job's track is right if its first entry produces the job, and the others
+//!   are the operations that its stages need. What a worker files for a job leads the job from its
+//!   first stage to its end. So a worker that receives jobs with right tracks keeps them right. The
+//!   one order is a legal history, and its server is the closed one, under two conditions: the
+//!   tracks of all jobs are right, and one thread produced the jobs in the order of their keys
+//!   (`laws`).
 //! - The gauges that a server returns are those of a front that began so, at the given time, and
 //!   the numbers of observers are those of a shard with the given index. Neither read changes
 //!   anything or is filed. A dispatcher returns how many jobs it sent.
@@ -128,7 +135,8 @@
 //! - A head word that a worker reads is no less than a word of that slot that it knows: that it
 //!   read before, or to which it raised the word. Neither call takes a lock.
 //! - Not claimed: that a call holds one lock; which readings a server returns; that the entries of
-//!   one job have a track of their own; and that a call returns.
+//!   one job have a track of their own, and so that the one order is a legal history; and that a
+//!   call returns.
 //!
 //! By the contracts of `Context::work_off`, `Context::work`, `worker`, `run_workers`,
 //! `drive_workers`, `Dispatcher::handle`, `notify`, `offloaded`, the clauses of `Bench`,

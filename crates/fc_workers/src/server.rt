@@ -30,6 +30,7 @@ ghost use Rattle.fc_registry.specs.Slots.{IsOwned, Shard as Seen, last_serial};
 ghost use Rattle.fc_registry.specs.Turns.{written_if};
 ghost use Rattle.fc_registry.specs.Views.{HasSize, taken_with};
 ghost use Rattle.fc_workers.specs.Asked.{IsAsked, IsLoggedCall, IsServerCall, shard_called};
+ghost use Rattle.fc_workers.specs.Filed.{locked_files};
 ghost use Rattle.fc_workers.specs.Fronts.{beginning};
 ghost use Rattle.fc_workers.specs.Logs.{TrackedLog, with_filed_if};
 ghost use Rattle.fc_workers.specs.Naming.{AreNamed};
@@ -440,6 +441,8 @@ impl<'a, B: Books, D: Device> Bench for Locked<'a, B, D> {
 
     ghost logged = { IsLoggedCall B.first D.are_readings };
 
+    ghost files = { locked_files B.first D.are_readings };
+
     type Tallies = Tallies<B>;
 
     type Book = ServerOf<B>;
@@ -654,6 +657,14 @@ impl<'a, B: Books, D: Device> Bench for Locked<'a, B, D> {
 
     fn raise(&self, job: &Job, word: u64, log: &mut TrackLog<ServerOf<B>>) {
         log.raise(&self.book, job.origin.slot, word);
+    }
+
+    fn reject_image(&self, job: &Job, answer: &Answer, log: &mut TrackLog<ServerOf<B>>) {
+        log.tracks.reject_image(&self.book, log.who, job, answer);
+    }
+
+    fn lack_memory(&self, job: &Job, log: &mut TrackLog<ServerOf<B>>) {
+        log.tracks.lack_memory(&self.book, log.who, job);
     }
 
     fn respond<R: Wait>(

@@ -1,9 +1,16 @@
 //! Requests' jobs, run by a worker or the dispatcher with the calls of a backend.
-ghost use Rattle.std.specs.Prelude.{◌≡◌, ◌<◌, ℕ, None, length};
+ghost use Rattle.std.specs.Prelude.{◌≡◌, ◌+◌, ◌<◌, ℕ, None, length};
 ghost use Rattle.fc_verify.specs.Judged.{judged};
 ghost use Rattle.fc_verify.specs.Accepted.{Accepts, IsAccepted};
+ghost use Rattle.fc_verify.specs.declared.refusal.Refusal.TheVariants.{Broken};
+ghost use Rattle.fc_kinds.specs.Runnable.{IsRunnable};
+ghost use Rattle.fc_core.specs.Contents.{Unavailable};
+ghost use Rattle.fc_core.specs.Ends.{refused};
 ghost use Rattle.fc_core.specs.Stages.{image_of};
-ghost use Rattle.fc_core.specs.Stage.{ToInstall, ToRemove};
+ghost use Rattle.fc_core.specs.Stage.{ToAnswer, ToInstall, ToRemove};
+ghost use Rattle.fc_linear.specs.Operations.{LacksMemory, RejectsImage};
+ghost use Rattle.fc_workers.specs.Answers.{saturated};
+ghost use Rattle.fc_workers.specs.Filed.{HasFiled};
 ghost use Rattle.fc_workers.specs.Called.{worker_view};
 ghost use Rattle.fc_workers.specs.Work.{IsWorkedTo};
 ghost use Rattle.fc_workers.specs.Steps.{AsksRun, HasTaken, IsLookedUp, IsReady, IsStep, IsToAnswer, IsToCommit, IsToTake, IsUntaken, ListsOn, Walked};
@@ -18,6 +25,7 @@ use fc_core::answer::Words;
 use fc_core::heads::WORDS;
 use fc_core::task::image;
 use fc_core::{Stage, Step};
+use fc_isa::Fault;
 use fc_machine::{Frame, run};
 use fc_registry::{Job, Receipt, SlotNumber, Ticket};
 use fc_verify::{Refusal, Verified, verify};
@@ -280,11 +288,8 @@ impl<'a, B: Bench, G: Gate, W: Wire, M: TimeSource> Context<'a, B, G, W, M> {
     {
         match verify(self.alloc, image(&job.ask)) {
             Ok(program) => self.install_program(rt, job, program, stage, share),
-            Err(Refusal::Broken(fault)) => stage.rejected(fault),
-            Err(Refusal::NoMemory) => {
-                share.count_refusal();
-                stage.unavailable();
-            }
+            Err(Refusal::Broken(fault)) => self.reject(job, fault, stage, &mut share.log),
+            Err(Refusal::NoMemory) => self.lack_memory(job, stage, share),
         }
     }
 
@@ -300,6 +305,7 @@ impl<'a, B: Bench, G: Gate, W: Wire, M: TimeSource> Context<'a, B, G, W, M> {
         share: &mut Share<B::Tallies, TrackLog<B::Book>>,
     )
         requires accepted { IsAccepted (image_of job.now.ask) program }
+        requires runs { IsRunnable program }
         requires judged { judged (image_of job.now.ask) ≡ Accepts program }
         ensures step { (number : ℕ) → IsStep (worker_view B.changes B.ended B.called B.logged M.is_time M.is_random G.passed W.called)
             number job.now ToInstall stage.new share.old share.new }
@@ -314,10 +320,36 @@ impl<'a, B: Bench, G: Gate, W: Wire, M: TimeSource> Context<'a, B, G, W, M> {
                     .install(rt, job, program, &mut share.tallies, log);
                 stage.made(receipt, made);
             }
-            Err(_) => {
-                share.count_refusal();
-                stage.unavailable();
-            }
+            Err(_) => self.lack_memory(job, stage, share),
         }
+    }
+
+    // Answers an install whose image breaks a rule with the rule and the slot, and files that.
+    fn reject(&self, job: &Job, fault: Fault, stage: &mut Stage, log: &mut TrackLog<B::Book>)
+        ensures answer { stage.new ≡ ToAnswer (refused (Broken fault)) }
+        ensures filed { HasFiled (RejectsImage job.now (refused (Broken fault))) log.old log.new }
+    {
+        stage.rejected(fault);
+        let Some(answer) = stage.content() else {
+            unreachable!()
+        };
+        self.bench.reject_image(job, answer, log);
+    }
+
+    // Answers an install for whose program memory is refused with `Unavailable`. Counts that, and
+    // files it.
+    fn lack_memory(
+        &self,
+        job: &Job,
+        stage: &mut Stage,
+        share: &mut Share<B::Tallies, TrackLog<B::Book>>,
+    )
+        ensures answer { stage.new ≡ ToAnswer Unavailable }
+        ensures filed { HasFiled (LacksMemory job.now) share.old.log share.new.log }
+        ensures counted { share.new ≡ record share.old { log = share.new.log; refusals = saturated (share.old.refusals + 1) } }
+    {
+        self.bench.lack_memory(job, &mut share.log);
+        share.count_refusal();
+        stage.unavailable();
     }
 }
