@@ -35,7 +35,7 @@ fed_as s Drives Told begin offload workers driver given other told replies close
 -- lines that a driver played with workers, if it played them to the end.
 pub played_beside : {F E : Type 0} (begin : Begin) (workers : ℕ) (lines : F → Option (List ℕ)) (driver : F) (r : Result (Unit {0}) E) (has_workers : Bool) (replies : Replies) (closed : ClosedServer)
     → IsFedBeside (locked_view (beginning begin.policy begin.id) (λ readings before after. ⊤) (λ now before after. ⊤) (λ random. ⊤) (λ call before after. ⊤) (λ change before after. after ≡ before))
-    (λ calls f first last given. OnOk given (IsFedByLines calls (lines f) first)) begin (offload_where has_workers Every) workers driver r replies closed
+    (λ calls f first last given. OnOk given (IsFedByLines calls (lines f) first last)) begin (offload_where has_workers Every) workers driver r replies closed
     → OnOk r ((workers_begun : Bool) × (counted : Replies) × IsPlayedBeside begin (offload_where workers_begun Every) workers (lines driver) counted)
 played_beside begin workers lines driver (Ok x) has_workers replies closed w = (has_workers, replies, (closed, fed_as _ _ _ begin _ workers driver (Ok x) (lines driver) (tt {0}) replies closed (λ first last fed. fed) w))
 played_beside begin workers lines driver (Err e) has_workers replies closed w = tt

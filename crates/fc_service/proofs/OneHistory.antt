@@ -33,7 +33,7 @@ use Rattle.fc_workers.specs.declared.call_log.CallLog.{CallLog}
 use Rattle.fc_server.specs.SingleThread.{HandlesAlone, PassesAlone, alone_calls}
 use Rattle.fc_service.specs.Histories.{Arrival, Datagram, IsOneHistory, Silence, arrival_at, arrivals_in, arrivals_in_lines, arrived_by, datagram_in, sent_in_lines}
 use Rattle.fc_service.specs.Ingresses.{IsHandledBy}
-use Rattle.fc_server.specs.Ingresses.{is_reply}
+use Rattle.fc_server.specs.Ingresses.{IngressCalls, is_reply}
 use Rattle.fc_service.specs.Playing.{ArePlayedBy, IsCarriedOutBy, IsHandedBy, IsPlayedBy, IsPlayedOut, PlayedLine, time_of, output_by, printed_lines, printed_steps}
 use Rattle.fc_service.specs.Rounds.{AreRoundsBy, HasServed, IsReceivedBy, IsRoundBy, Round, RoundCalls, sendings_in}
 use Rattle.fc_server.specs.Flushing.{AreStepsBy, Asked, IsStepBy, Passed, Resent, FlushingStep, sent_in_step, sent_in_steps}
@@ -229,6 +229,16 @@ passed_goes_on now old new sent h tasks passes none v =
 
 -- ---- rounds
 
+-- rounds one after the other, the newest first, whatever they waited.
+module _ {S : Type 0} (IsRound : Round → S → S → Type 0) where
+  abbrev pub AreChained : List Round → S → S → Type 0
+  AreChained [] old new = new ≡ old
+  AreChained (r ∷ rs) old new = (mid : S) × AreChained rs old mid × IsRound r mid new
+
+pub any_wait : {S : Type 0} (Readies : ℕ → S → S → Type 0) (calls : IngressCalls S) (rounds : List Round) (old new : S) → AreRoundsBy Readies calls rounds old new → AreChained (IsRoundBy Readies calls) rounds old new
+any_wait Readies calls [] old new is = is
+any_wait Readies calls (r ∷ rounds) old new w = (w.0, any_wait Readies calls rounds old w.0 w.1, w.3)
+
 module _ (sensors : List ℕ → Type 0) where
   received_goes_on : (now : ℕ) (received : Option Incoming) (old new : SingleThread) (sent : Option Emission) (h : History) (tasks : List Task)
       → IsReceivedBy (ReadiesAlone sensors) alone_calls now received old sent new → Leaves h old tasks
@@ -295,14 +305,14 @@ module _ (sensors : List ℕ → Type 0) (Recorded : Requested → CallLog → C
     sent = w.sent;
   }
 
-  recorded_go_on : (rounds : List Round) (old new : Recording) (h : History) (tasks : List Task)
-      → AreRoundsBy (ReadiesRecorded sensors) (recorded_calls Recorded) rounds old new → Leaves h old.alone tasks
+  pub recorded_go_on : (rounds : List Round) (old new : Recording) (h : History) (tasks : List Task)
+      → AreChained (IsRoundBy (ReadiesRecorded sensors) (recorded_calls Recorded)) rounds old new → Leaves h old.alone tasks
       → GoesOn h (arrivals_in rounds) (map (λ s. s.emission) (sendings_in rounds)) new.alone.engine
   recorded_go_on [] old new h tasks is v =
       record { later = h; follows = none_follows h; tasks = tasks; serves = subst (λ (r : Recording). Leaves h r.alone tasks) (sym is) v }
   recorded_go_on (r ∷ rounds) old new h tasks w v =
       let before = recorded_go_on rounds old w.0 h tasks w.1 v in
-      round_goes_after sensors r rounds w.0.alone new.alone h before (unrecorded_round r w.0 new w.3)
+      round_goes_after sensors r rounds w.0.alone new.alone h before (unrecorded_round r w.0 new w.2)
 
 pub rounds_are_one_history : (sensors : List ℕ → Type 0) (e : RoundCalls) (Recorded : Requested → CallLog → CallLog → Type 0) (limit : ℕ) (begin : Begin)
     (before after : Option (List Receive)) (replies : Replies)
@@ -310,7 +320,7 @@ pub rounds_are_one_history : (sensors : List ℕ → Type 0) (e : RoundCalls) (R
     → IsOneHistory begin (arrivals_in w.run.rounds) (map (λ s. s.emission) (sendings_in w.run.rounds)) w.last.alone.engine
 rounds_are_one_history sensors e Recorded limit begin before after replies w =
     one_history begin (arrivals_in w.run.rounds) (map (λ s. s.emission) (sendings_in w.run.rounds)) w.last.alone.engine
-    (recorded_go_on sensors Recorded w.run.rounds w.first w.last (begin_of begin) [] w.run.has.are_rounds w.begins)
+    (recorded_go_on sensors Recorded w.run.rounds w.first w.last (begin_of begin) [] (any_wait _ _ w.run.rounds w.first w.last w.run.has.are_rounds) w.begins)
 
 -- ---- lines
 

@@ -140,7 +140,7 @@ bad_line (Memory error) status told is (inr failed) bad = absurd (cc (failed, ba
 -- if lines were played on the holder of a server, they were played on the server.
 pub fed_by_lines : {A E H S : Type 0} (held : H → S) (HandsIt : List ℕ → H → H → Type 0) → ((readings : List ℕ) (old new : H) → HandsIt readings old new → held new ≡ held old) → (calls : IngressCalls S)
     → (old new : H) (had before after : Option (List ℕ)) (r : Result A E)
-    → OnOk r ((left : Option (List ℕ)) × HasPlayed HandsIt (calls_through held (waited_calls calls)) old new had left before after × IsAtEnd left) → OnOk r (IsFedByLines calls had (held old))
+    → OnOk r ((left : Option (List ℕ)) × HasPlayed HandsIt (calls_through held (waited_calls calls)) old new had left before after × IsAtEnd left) → OnOk r (IsFedByLines calls had (held old) (held new))
 fed_by_lines held HandsIt hands calls old new had before after (Ok x) w =
-    record { last = held new; left = w.0; before = before; after = after; played = played_through held HandsIt (λ readings old new. new ≡ old) hands (waited_calls calls) old new had w.0 before after w.1; end = w.2 }
+    record { left = w.0; before = before; after = after; played = played_through held HandsIt (λ readings old new. new ≡ old) hands (waited_calls calls) old new had w.0 before after w.1; end = w.2 }
 fed_by_lines held HandsIt hands calls old new had before after (Err e) w = tt

@@ -71,13 +71,13 @@ pub served_by : (timers : List Timer) (every : Option ℕ) (Reported : Report �
     → HasReceivedWith timers every Reported (ReadiesRecorded sensors) (recorded_calls Recorded) e limit before after first last replies
     → HasServedBy timers every Reported sensors e Recorded limit begin before after replies
 served_by [] None Reported sensors e Recorded limit begin before after first last replies begins run = record { first = first; last = last; begins = begins; run = run }
-served_by [] (Some every) Reported sensors e Recorded limit begin before after first last replies begins run = record { first = first; begins = begins; run = run }
-served_by (t ∷ ts) every Reported sensors e Recorded limit begin before after first last replies begins run = record { first = first; begins = begins; run = run }
+served_by [] (Some every) Reported sensors e Recorded limit begin before after first last replies begins run = record { first = first; last = last; begins = begins; run = run }
+served_by (t ∷ ts) every Reported sensors e Recorded limit begin before after first last replies begins run = record { first = first; last = last; begins = begins; run = run }
 
 -- a server has run with timers, if there are some.
 pub run_with : {S : Type 0} (timers : List Timer) (every : Option ℕ) (Reported : Report → CallLog → CallLog → Type 0) (Readies : ℕ → S → S → Type 0) (calls : IngressCalls S) (e : RoundCalls)
     (limit : ℕ) (before after : Option (List Receive)) (first last : S) (replies : Replies) → (length timers == 0) ≡ false
-    → HasRunTimed timers every Reported Readies calls e limit before after first replies → HasReceivedWith timers every Reported Readies calls e limit before after first last replies
+    → HasRunTimed timers every Reported Readies calls e limit before after first last replies → HasReceivedWith timers every Reported Readies calls e limit before after first last replies
 run_with [] every Reported Readies calls e limit before after first last replies some run = absurd (cc some)
 run_with (t ∷ ts) every Reported Readies calls e limit before after first last replies some run = run
 

@@ -30,14 +30,14 @@ use Rattle.fc_service.specs.Rounds.{AreRoundsBy, HasServedTimed, IsReceivedBy, I
 use Rattle.fc_service.specs.SingleThread.{ReadiesRecorded}
 use Rattle.fc_service.specs.Traffic.{Sending}
 use Rattle.fc_service.specs.declared.replies.Replies.{Replies}
-use Rattle.fc_service.proofs.OneHistory.{GoesOn, Leaves, both_go_on, datagram_goes_on, goes_on_as, none_follows, one_follows, one_history, passed_goes_on, run_follows, steps_go_on}
+use Rattle.fc_service.proofs.OneHistory.{AreChained, any_wait, GoesOn, Leaves, both_go_on, datagram_goes_on, goes_on_as, none_follows, one_follows, one_history, passed_goes_on, run_follows, steps_go_on}
 
 -- no timer has a job at a worker.
 abbrev AreFree : List Timer → Type 0
 AreFree [] = Unit {0}
 AreFree (t ∷ ts) = (t.offloaded ≡ false) × AreFree ts
 
-each_free : (ts : List Timer) → All (λ t. t.offloaded ≡ false) ts → AreFree ts
+pub each_free : (ts : List Timer) → All (λ t. t.offloaded ≡ false) ts → AreFree ts
 each_free [] h = tt
 each_free (t ∷ ts) h = (h 0 t (omega arith), each_free ts (λ k d lt. h (suc k) d (omega (arith, lt))))
 
@@ -150,7 +150,7 @@ module _ (Recorded : Requested → CallLog → CallLog → Type 0) where
           steps.1 ∙ (received.1 ∙ ap (map (after_beat r.now)) same),
         )
 
-    rounds_go_on : (rounds : List Round) (old new : Firing Recording) (h : History) (tasks : List Task) → AreFree old.timers → AreRoundsBy Readies (fired_calls Calls) rounds old new → Leaves h old.ingress.alone tasks
+    pub rounds_go_on : (rounds : List Round) (old new : Firing Recording) (h : History) (tasks : List Task) → AreFree old.timers → AreChained (IsRoundBy Readies (fired_calls Calls)) rounds old new → Leaves h old.ingress.alone tasks
         → GoesOn h (timed_arrivals_in rounds old.timers) (map (λ s. s.emission) (sendings_in rounds)) new.ingress.alone.engine
         × (new.timers ≡ timers_after rounds old.timers) × AreFree new.timers
     rounds_go_on [] old new h tasks free is v = (
@@ -160,7 +160,7 @@ module _ (Recorded : Requested → CallLog → CallLog → Type 0) where
     )
     rounds_go_on (r ∷ rounds) old new h tasks free w v =
         let before = rounds_go_on rounds old w.0 h tasks free w.1 v in
-        let round = round_goes_on r w.0 new before.0.later before.0.tasks before.2 w.3 before.0.serves in
+        let round = round_goes_on r w.0 new before.0.later before.0.tasks before.2 w.2 before.0.serves in
         let came = beats r.now r.received w.0.timers in
         let all = both_go_on h (timed_arrivals_in rounds old.timers) came (map (λ s. s.emission) (sendings_in rounds)) (map (λ s. s.emission) r.sendings) w.0.ingress.alone.engine new.ingress.alone.engine before.0 round.0 in (
           goes_on_as _ _ _ (map (λ s. s.emission) (sendings_in rounds ++ r.sendings)) (ap (λ (ts : List Timer). timed_arrivals_in rounds old.timers ++ beats r.now r.received ts) before.1)
@@ -172,7 +172,10 @@ module _ (Recorded : Requested → CallLog → CallLog → Type 0) where
 pub timed_rounds_are_one_history : (sensors : List ℕ → Type 0) (e : RoundCalls) (Reported : Report → CallLog → CallLog → Type 0) (Recorded : Requested → CallLog → CallLog → Type 0) (timers : List Timer) (limit : ℕ) (begin : Begin)
     (before after : Option (List Receive)) (replies : Replies) → All (λ t. t.offloaded ≡ false) timers
     → (w : HasServedTimed timers None Reported sensors e Recorded limit begin before after replies)
-    → IsOneHistory begin (timed_arrivals_in w.run.run.rounds timers) (map (λ s. s.emission) (sendings_in w.run.run.rounds)) w.run.last.ingress.alone.engine
+    → IsOneHistory begin (timed_arrivals_in w.run.run.rounds timers) (map (λ s. s.emission) (sendings_in w.run.run.rounds)) w.last.alone.engine
 timed_rounds_are_one_history sensors e Reported Recorded timers limit begin before after replies free w =
-    one_history begin (timed_arrivals_in w.run.run.rounds timers) (map (λ s. s.emission) (sendings_in w.run.run.rounds)) w.run.last.ingress.alone.engine
-    (rounds_go_on Recorded sensors w.run.run.rounds (record { ingress = w.first; timers = timers }) w.run.last (begin_of begin) [] (each_free timers free) w.run.run.has.are_rounds w.begins).0
+    let arrived = timed_arrivals_in w.run.run.rounds timers in
+    let emitted = map (λ s. s.emission) (sendings_in w.run.run.rounds) in
+    subst (λ (s : Recording). IsOneHistory begin arrived emitted s.alone.engine) (sym w.run.last_is)
+    (one_history begin arrived emitted w.run.firing.ingress.alone.engine
+    (rounds_go_on Recorded sensors w.run.run.rounds (record { ingress = w.first; timers = timers }) w.run.firing (begin_of begin) [] (each_free timers free) (any_wait _ _ w.run.run.rounds _ w.run.firing w.run.run.has.are_rounds) w.begins).0)

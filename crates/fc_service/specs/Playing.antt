@@ -134,10 +134,9 @@ pub record IsPlayedUpTo (number : ℕ) (begin : Begin) (had before after : Optio
 
 -- ---- a server with workers
 
--- all lines of a reader were played, from this state of a server. Its workers are waited for after
--- each line.
-pub record IsFedByLines {S : Type 0} (calls : IngressCalls S) (had : Option (List ℕ)) (first : S) : Type 0 where
-  pub last : S
+-- all lines of a reader were played, from one state of a server to another. Its workers are waited
+-- for after each line.
+pub record IsFedByLines {S : Type 0} (calls : IngressCalls S) (had : Option (List ℕ)) (first last : S) : Type 0 where
   pub left : Option (List ℕ)
   pub before : Option (List ℕ)
   pub after : Option (List ℕ)
@@ -150,4 +149,4 @@ pub record IsFedByLines {S : Type 0} (calls : IngressCalls S) (had : Option (Lis
 abbrev pub IsPlayedBeside : Begin → Offload → ℕ → Option (List ℕ) → Replies → Type 0
 IsPlayedBeside begin offload workers had replies =
     (closed : ClosedServer) × IsFedBeside (locked_view (beginning begin.policy begin.id) (λ readings before after. ⊤) (λ now before after. ⊤) (λ random. ⊤) (λ call before after. ⊤) (λ change before after. after ≡ before))
-    (λ calls lines first last given. IsFedByLines calls lines first) begin offload workers had (tt {0}) replies closed
+    (λ calls lines first last given. IsFedByLines calls lines first last) begin offload workers had (tt {0}) replies closed

@@ -77,14 +77,15 @@ abbrev pub EndsInTime : (ℕ → ℕ → Type 0) → ℕ → Bool → Option ℕ
 EndsInTime StaysIdle now false wait = wait ≡ Some 100
 EndsInTime StaysIdle now true wait = (time : ℕ) × AreIdleUntil StaysIdle time × (wait ≡ wait_until now time)
 
+-- a wait, shortened to this number of milliseconds if it is longer. `None` is without limit.
+abbrev pub no_longer_than : ℕ → Option ℕ → Option ℕ
+no_longer_than ms None = Some ms
+no_longer_than ms (Some wait) = Some (min wait ms)
+
 -- a wait that begins at a time, shortened to end when a timer is due, and to at least 1 ms. If
 -- there is no timer, the wait isn't shortened.
-abbrev pub at_most : ℕ → Option ℕ → Option ℕ
-at_most ms None = Some ms
-at_most ms (Some wait) = Some (min wait ms)
-
 abbrev pub until_due : (now due : ℕ) → Option ℕ → Option ℕ
-until_due now due wait = if nat_lt due never then at_most (max (due - now) 1) wait else wait
+until_due now due wait = if nat_lt due never then no_longer_than (max (due - now) 1) wait else wait
 
 -- a wait is shortened from the time at which its round ended, and the clock is read then. If there
 -- is no timer, the clock isn't read, and the wait isn't shortened.
@@ -182,30 +183,32 @@ module _ {S : Type 0} (Readies : ℕ → S → S → Type 0) (calls : IngressCal
 
 -- ---- with reports, or without
 
--- a server has run in this way from a state, and its counts were reported with this period, in
--- milliseconds. The state after that isn't stated.
-pub record HasRunReported {S : Type 0} (every : ℕ) (Reported : Report → CallLog → CallLog → Type 0) (Readies : ℕ → S → S → Type 0) (calls : IngressCalls S) (e : RoundCalls) (limit : ℕ) (before after : Option (List Receive)) (first : S) (replies : Replies) : Type 0 where
+-- a server has run in this way from one state to another, and its counts were reported with this
+-- period, in milliseconds.
+pub record HasRunReported {S : Type 0} (every : ℕ) (Reported : Report → CallLog → CallLog → Type 0) (Readies : ℕ → S → S → Type 0) (calls : IngressCalls S) (e : RoundCalls) (limit : ℕ) (before after : Option (List Receive)) (first last : S) (replies : Replies) : Type 0 where
   pub log : CallLog
-  pub last : Reporting S
-  pub run : HasRun (readies_through Readies) (reported_calls Reported calls) e limit before after (reporting_from every log first) last replies
+  pub reporting : Reporting S
+  pub run : HasRun (readies_through Readies) (reported_calls Reported calls) e limit before after (reporting_from every log first) reporting replies
+  pub last_is : last ≡ reporting.ingress
 
 -- with a period of reports, in milliseconds, the counts were reported; without a period nothing was
 -- reported.
 abbrev pub HasReceivedBy : {S : Type 0} → Option ℕ → (Report → CallLog → CallLog → Type 0) → (ℕ → S → S → Type 0) → IngressCalls S → RoundCalls → ℕ → Option (List Receive) → Option (List Receive) → S → S → Replies → Type 0
 HasReceivedBy None Reported Readies c e limit before after first last replies = HasRun Readies c e limit before after first last replies
-HasReceivedBy (Some every) Reported Readies c e limit before after first last replies = HasRunReported every Reported Readies c e limit before after first replies
+HasReceivedBy (Some every) Reported Readies c e limit before after first last replies = HasRunReported every Reported Readies c e limit before after first last replies
 
 -- ---- with timers, or without
 
--- a server has run in this way from a state, with these timers. The state after that isn't stated.
-pub record HasRunTimed {S : Type 0} (timers : List Timer) (every : Option ℕ) (Reported : Report → CallLog → CallLog → Type 0) (Readies : ℕ → S → S → Type 0) (calls : IngressCalls S) (e : RoundCalls) (limit : ℕ) (before after : Option (List Receive)) (first : S) (replies : Replies) : Type 0 where
-  pub last : Firing S
-  pub run : HasReceivedBy every Reported (readies_firing Readies) (fired_calls calls) e limit before after (firing_from timers first) last replies
+-- a server has run in this way from one state to another, with these timers.
+pub record HasRunTimed {S : Type 0} (timers : List Timer) (every : Option ℕ) (Reported : Report → CallLog → CallLog → Type 0) (Readies : ℕ → S → S → Type 0) (calls : IngressCalls S) (e : RoundCalls) (limit : ℕ) (before after : Option (List Receive)) (first last : S) (replies : Replies) : Type 0 where
+  pub firing : Firing S
+  pub run : HasReceivedBy every Reported (readies_firing Readies) (fired_calls calls) e limit before after (firing_from timers first) firing replies
+  pub last_is : last ≡ firing.ingress
 
 -- with timers, they fired; without timers, the server was called directly.
 abbrev pub HasReceivedWith : {S : Type 0} → List Timer → Option ℕ → (Report → CallLog → CallLog → Type 0) → (ℕ → S → S → Type 0) → IngressCalls S → RoundCalls → ℕ → Option (List Receive) → Option (List Receive) → S → S → Replies → Type 0
 HasReceivedWith [] every Reported Readies c e limit before after first last replies = HasReceivedBy every Reported Readies c e limit before after first last replies
-HasReceivedWith (t ∷ ts) every Reported Readies c e limit before after first last replies = HasRunTimed (t ∷ ts) every Reported Readies c e limit before after first replies
+HasReceivedWith (t ∷ ts) every Reported Readies c e limit before after first last replies = HasRunTimed (t ∷ ts) every Reported Readies c e limit before after first last replies
 
 -- ---- a server on one thread
 
@@ -221,14 +224,16 @@ pub record HasServed (sensors : List ℕ → Type 0) (e : RoundCalls) (Recorded 
 -- the same, and its counts were reported with this period, in milliseconds.
 pub record HasServedReported (every : ℕ) (Reported : Report → CallLog → CallLog → Type 0) (sensors : List ℕ → Type 0) (e : RoundCalls) (Recorded : Requested → CallLog → CallLog → Type 0) (limit : ℕ) (begin : Begin) (before after : Option (List Receive)) (replies : Replies) : Type 0 where
   pub first : Recording
+  pub last : Recording
   pub begins : Serves (begin_of begin) first.alone.engine []
-  pub run : HasRunReported every Reported (ReadiesRecorded sensors) (recorded_calls Recorded) e limit before after first replies
+  pub run : HasRunReported every Reported (ReadiesRecorded sensors) (recorded_calls Recorded) e limit before after first last replies
 
 -- the same with these timers, and with a period of reports or without one.
 pub record HasServedTimed (timers : List Timer) (every : Option ℕ) (Reported : Report → CallLog → CallLog → Type 0) (sensors : List ℕ → Type 0) (e : RoundCalls) (Recorded : Requested → CallLog → CallLog → Type 0) (limit : ℕ) (begin : Begin) (before after : Option (List Receive)) (replies : Replies) : Type 0 where
   pub first : Recording
+  pub last : Recording
   pub begins : Serves (begin_of begin) first.alone.engine []
-  pub run : HasRunTimed timers every Reported (ReadiesRecorded sensors) (recorded_calls Recorded) e limit before after first replies
+  pub run : HasRunTimed timers every Reported (ReadiesRecorded sensors) (recorded_calls Recorded) e limit before after first last replies
 
 -- the same with timers or without, and with a period of reports, in milliseconds, or without one.
 abbrev pub HasServedBy : List Timer → Option ℕ → (Report → CallLog → CallLog → Type 0) → (List ℕ → Type 0) → RoundCalls → (Requested → CallLog → CallLog → Type 0) → ℕ → Begin → Option (List Receive) → Option (List Receive) → Replies → Type 0

@@ -20,9 +20,8 @@ use std::sync::Wait;
 /// The timers that are due fire before a datagram is handled, or before time passes, in their
 /// order. A timer whose last job is at a worker skips the beat. Contracts see the server and its
 /// timers.
-#[derive(Drop)]
 pub(crate) struct Firing<'a, N: Ingress> {
-    ingress: &'a mut N,
+    ingress: N,
     timers: Vec<Timer>,
     jobs: &'a TimerJobs,
 }
@@ -32,15 +31,15 @@ impl<'a, N: Ingress> Model for Firing<'a, N> {
 
     ghost Value = { Seen N };
 
-    ghost view = { λ f. record { ingress = f.ingress.now; timers = f.timers.items } };
+    ghost view = { λ f. record { ingress = f.ingress; timers = f.timers.items } };
 }
 
 impl<'a, N: Ingress> Firing<'a, N> {
     /// Gives a server its timers.
     ///
     /// `jobs` has an element for each of them, and gets those of their jobs that workers have.
-    pub(crate) fn new(ingress: &'a mut N, timers: Vec<Timer>, jobs: &'a TimerJobs) -> Firing<'a, N>
-        ensures { result ≡ firing_from timers.items ingress.old }
+    pub(crate) fn new(ingress: N, timers: Vec<Timer>, jobs: &'a TimerJobs) -> Firing<'a, N>
+        ensures { result ≡ firing_from timers.items ingress }
     {
         Firing {
             ingress,
@@ -48,18 +47,30 @@ impl<'a, N: Ingress> Firing<'a, N> {
             jobs,
         }
     }
+
+    /// Returns the server, as the last call left it.
+    pub(crate) fn into_inner(self) -> N
+        ensures { result ≡ self.entry.ingress }
+    {
+        let Firing {
+            ingress,
+            timers: _,
+            jobs: _,
+        } = self;
+        ingress
+    }
 }
 
 impl<'a, N: Ingress> Ingress for Firing<'a, N> {
     ghost calls = { fired_calls N.calls };
 
     fn handle(&mut self, now: u64, from: Endpoint, bytes: &[u8], reply: &mut Emission) -> Handled {
-        fire_due(self.ingress, &mut self.timers, self.jobs, now);
+        fire_due(&mut self.ingress, &mut self.timers, self.jobs, now);
         self.ingress.handle(now, from, bytes, reply)
     }
 
     fn tick(&mut self, now: u64) {
-        fire_due(self.ingress, &mut self.timers, self.jobs, now);
+        fire_due(&mut self.ingress, &mut self.timers, self.jobs, now);
         self.ingress.tick(now);
     }
 
@@ -156,6 +167,6 @@ impl<'a, 'b, N: Ingress, P: Preparation<N>> Preparation<Firing<'b, N>> for Throu
     ghost readies = { readies_firing P.readies };
 
     fn ready<R: Wait>(&self, rt: &R, ingress: &mut Firing<'b, N>, now: u64) {
-        self.preparation.ready(rt, ingress.ingress, now);
+        self.preparation.ready(rt, &mut ingress.ingress, now);
     }
 }

@@ -32,8 +32,12 @@ ghost use Rattle.fc_record.specs.Reports.{nothing_counted};
 ghost use Rattle.fc_record.specs.declared.gauges.Gauges.{Gauges};
 ghost use Rattle.fc_service.specs.Logs.{ArePeriods, IsReportText};
 ghost use Rattle.fc_service.specs.Reporting.{AreGaugesOf, Reporting, ReportsIfDue, reported_calls, reporting_from};
+ghost use Rattle.fc_workers.specs.Counts.{Tallies};
+ghost use Rattle.fc_workers.specs.Fronts.{Beginning};
+ghost use Rattle.fc_workers.specs.OneOrder.{HaveOneOrder, logs_of};
 ghost use Rattle.fc_workers.specs.declared.call_log.CallLog.{CallLog};
-ghost use Rattle.fc_service.specs.Rounds.{EndsInTime, HasServed, HasServedTimed, Round, WaitsAfter, round_calls, sendings_in, until_due};
+ghost use Rattle.fc_service.specs.Pooled.{PooledIngress, pooled_calls};
+ghost use Rattle.fc_service.specs.Rounds.{EndsInTime, HasServed, HasServedPooled, HasServedReported, HasServedTimed, Round, WaitsAfter, round_calls, sendings_in, served_view, until_due};
 ghost use Rattle.fc_server.specs.Flushing.{most_steps};
 ghost use Rattle.fc_service.specs.Serials.{IsNewerNumber, serial_of_start};
 ghost use Rattle.fc_server.specs.declared.alone.SingleThread.{SingleThread};
@@ -107,11 +111,26 @@ pub fn shards_tell_what_is_so()
 
 /// The first receive waits 100 ms, or until a timer is due before that.
 ///
-/// With a timer of 20 ms it waits 20 ms.
-pub fn first_wait_is_100_ms<N: Ingress>()
+/// A server without timers waits 100 ms: on one thread or with workers, with reports or without.
+/// With a timer of 20 ms a server waits 20 ms.
+pub fn first_wait_is_100_ms<
+    N: Ingress,
+    Z: Sensors,
+    S: Source,
+    M: TimeSource,
+    K: Sink,
+    C: Recorder,
+    Q: Reporter,
+>()
     ensures without { (left : N) (wait : Option ℕ) → ((due : ℕ) → N.calls.is_first_due left due → due ≡ 18446744073709551615) → WaitsAfter N.calls [] left wait → wait ≡ Some 100 }
     ensures timer { (left : N) (wait : Option ℕ) → ((due : ℕ) → N.calls.is_first_due left due → due ≡ 20) → WaitsAfter N.calls [] left wait → wait ≡ Some 20 }
     ensures later { (left : N) (wait : Option ℕ) → ((due : ℕ) → N.calls.is_first_due left due → due ≡ 1000) → WaitsAfter N.calls [] left wait → wait ≡ Some 100 }
+    ensures alone { (left : Recording) (wait : Option ℕ) → WaitsAfter (recorded_calls C.recorded) [] left wait → wait ≡ Some 100 }
+    ensures alone_reported { (left : Reporting Recording) (wait : Option ℕ) → WaitsAfter (reported_calls Q.reported (recorded_calls C.recorded)) [] left wait → wait ≡ Some 100 }
+    ensures pooled { (first : Beginning) (left : PooledIngress Tallies) (wait : Option ℕ)
+        → WaitsAfter (pooled_calls (served_view Z.are_sensed (round_calls S.received M.is_time K.went) C.recorded first)) [] left wait → wait ≡ Some 100 }
+    ensures pooled_reported { (first : Beginning) (left : Reporting (PooledIngress Tallies)) (wait : Option ℕ)
+        → WaitsAfter (reported_calls Q.reported (pooled_calls (served_view Z.are_sensed (round_calls S.received M.is_time K.went) C.recorded first))) [] left wait → wait ≡ Some 100 }
 {}
 
 /// A played line ends before a line feed, the byte 10.
@@ -167,7 +186,27 @@ pub fn timed_rounds_are_one_history<
 >()
     ensures { (timers : List Timer) (limit : ℕ) (begin : Begin) (before after : Option (List Receive)) (replies : Replies) → All (λ t. t.offloaded ≡ false) timers
         → (w : HasServedTimed timers None Q.reported Z.are_sensed (round_calls S.received M.is_time K.went) C.recorded limit begin before after replies)
-        → IsOneHistory begin (timed_arrivals_in w.run.run.rounds timers) (map (λ s. s.emission) (sendings_in w.run.run.rounds)) w.run.last.ingress.alone.engine }
+        → IsOneHistory begin (timed_arrivals_in w.run.run.rounds timers) (map (λ s. s.emission) (sendings_in w.run.run.rounds)) w.last.alone.engine }
+{}
+
+/// All rounds of a server on one thread with reports are one history of events.
+///
+/// A report is no event: the arrivals and emissions are those of a server without reports, with
+/// timers and without.
+pub fn reported_rounds_are_one_history<
+    Z: Sensors,
+    S: Source,
+    M: TimeSource,
+    K: Sink,
+    C: Recorder,
+    Q: Reporter,
+>()
+    ensures untimed { (every limit : ℕ) (begin : Begin) (before after : Option (List Receive)) (replies : Replies)
+        (w : HasServedReported every Q.reported Z.are_sensed (round_calls S.received M.is_time K.went) C.recorded limit begin before after replies)
+        → IsOneHistory begin (arrivals_in w.run.run.rounds) (map (λ s. s.emission) (sendings_in w.run.run.rounds)) w.last.alone.engine }
+    ensures timed { (timers : List Timer) (every limit : ℕ) (begin : Begin) (before after : Option (List Receive)) (replies : Replies) → All (λ t. t.offloaded ≡ false) timers
+        → (w : HasServedTimed timers (Some every) Q.reported Z.are_sensed (round_calls S.received M.is_time K.went) C.recorded limit begin before after replies)
+        → IsOneHistory begin (timed_arrivals_in w.run.run.run.rounds timers) (map (λ s. s.emission) (sendings_in w.run.run.run.rounds)) w.last.alone.engine }
 {}
 
 /// A timer fires at its first round at or after a beat.
@@ -321,6 +360,29 @@ pub fn reports_come_in_time<N: Ingress, Q: Reporter>()
         × (after : CallLog) × Q.reported (record nothing_counted { gauges = gauges }) log after
         × (new ≡ record { ingress = s; report = record nothing_counted { gauges = gauges }; every = 60000; due = 121500; log = after }) }
     ensures awake { (shard until : ℕ) (now : Reporting N) → (reported_calls Q.reported N.calls).stays_idle shard now until → until ≤ now.due }
+{}
+
+/// The one order of a server with workers has its dispatcher's calls, with timers and reports too.
+///
+/// The dispatcher's log is the one that the last round left: of a server that reports its counts, of
+/// one that has timers, and of one that does both.
+pub fn the_order_has_the_dispatchers_calls<
+    Z: Sensors,
+    S: Source,
+    M: TimeSource,
+    K: Sink,
+    C: Recorder,
+    Q: Reporter,
+>()
+    ensures reported { (first : Beginning) (every workers limit : ℕ) (begin : Begin) (before after : Option (List Receive)) (replies : Replies)
+        → (w : HasServedPooled (served_view Z.are_sensed (round_calls S.received M.is_time K.went) C.recorded first) [] (Some every) Q.reported (round_calls S.received M.is_time K.went) workers limit begin before after replies)
+        → HaveOneOrder begin (logs_of w.shares w.run.reporting.ingress.done.share) w.closed }
+    ensures timed { (first : Beginning) (t : Timer) (ts : List Timer) (workers limit : ℕ) (begin : Begin) (before after : Option (List Receive)) (replies : Replies)
+        → (w : HasServedPooled (served_view Z.are_sensed (round_calls S.received M.is_time K.went) C.recorded first) (t ∷ ts) None Q.reported (round_calls S.received M.is_time K.went) workers limit begin before after replies)
+        → HaveOneOrder begin (logs_of w.shares w.run.firing.ingress.done.share) w.closed }
+    ensures both { (first : Beginning) (t : Timer) (ts : List Timer) (every workers limit : ℕ) (begin : Begin) (before after : Option (List Receive)) (replies : Replies)
+        → (w : HasServedPooled (served_view Z.are_sensed (round_calls S.received M.is_time K.went) C.recorded first) (t ∷ ts) (Some every) Q.reported (round_calls S.received M.is_time K.went) workers limit begin before after replies)
+        → HaveOneOrder begin (logs_of w.shares w.run.run.reporting.ingress.ingress.done.share) w.closed }
 {}
 
 /// The gauges of a server on one thread are its own.

@@ -170,16 +170,22 @@ impl<'a, 'b, R: Wait, B: Bench, G: Gate, W: Wire, M: TimeSource> Ingress
     }
 }
 
+/// The result of a driver, and its ingress as the last call left it.
+pub struct Driven<N: Ingress, X: Drop> {
+    pub ingress: N,
+    pub given: X,
+}
+
 /// A driver that passes datagrams to a server.
-pub trait Driver<X> {
+pub trait Driver<X: Drop> {
     // The driver fed an ingress with these calls, and returned this: the ingress before and after.
     ghost drives: { (S : Type 0) → IngressCalls S → Self → S → S → X → Type 0 } = { λ S calls self first last given. ⊤ };
 
-    /// Passes datagrams to `ingress`, and returns the driver's result at its end.
+    /// Passes datagrams to `ingress`, and returns it with the driver's result at its end.
     ///
     /// The pool's workers end after that.
-    fn drive<N: Ingress, R: Wait>(self, rt: &R, ingress: &mut N) -> X
-        ensures { drives N N.calls self ingress.old ingress.new result };
+    fn drive<N: Ingress, R: Wait>(self, rt: &R, ingress: N) -> Driven<N, X>
+        ensures { drives N N.calls self ingress result.ingress result.given };
 }
 
 /// The result of a pool.
@@ -480,13 +486,13 @@ where
                 tell_alone(err);
             }
             let offload = offload_where(has_workers, offload);
-            let mut ingress = PooledIngress {
+            let ingress = PooledIngress {
                 rt,
                 dispatcher: Dispatcher::new(context, channel, sent, own, offload),
                 begun: 0,
                 ended,
             };
-            let given = driver.drive(rt, &mut ingress);
+            let Driven { ingress, given } = driver.drive(rt, ingress);
             (given, has_workers, ingress.close())
         },
     );

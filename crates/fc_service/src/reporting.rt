@@ -18,9 +18,8 @@ use std::sync::Wait;
 ///
 /// A due report is made before a datagram is handled, or before time passes. Contracts see the
 /// server, its counts, their period, when the next report is due, and the log of the reports.
-#[derive(Drop)]
 pub(crate) struct Reporting<'a, N: Ingress, Q: Reporter> {
-    ingress: &'a mut N,
+    ingress: N,
     report: Report,
     every: u64,
     due: u64,
@@ -33,15 +32,15 @@ impl<'a, N: Ingress, Q: Reporter> Model for Reporting<'a, N, Q> {
 
     ghost Value = { Seen N };
 
-    ghost view = { λ r. record { ingress = r.ingress.now; report = r.report; every = r.every; due = r.due; log = r.log } };
+    ghost view = { λ r. record { ingress = r.ingress; report = r.report; every = r.every; due = r.due; log = r.log } };
 }
 
 impl<'a, N: Ingress, Q: Reporter> Reporting<'a, N, Q> {
     /// Begins to report the counts of a server, with a period of `every` milliseconds.
     ///
     /// The first report is due at `every` milliseconds.
-    pub(crate) fn new(ingress: &'a mut N, every: u64, reporter: &'a Q) -> Reporting<'a, N, Q>
-        ensures { result ≡ reporting_from every result.log ingress.old }
+    pub(crate) fn new(ingress: N, every: u64, reporter: &'a Q) -> Reporting<'a, N, Q>
+        ensures { result ≡ reporting_from every result.log ingress }
     {
         Reporting {
             ingress,
@@ -53,6 +52,21 @@ impl<'a, N: Ingress, Q: Reporter> Reporting<'a, N, Q> {
         }
     }
 
+    /// Returns the server, as the last call left it.
+    pub(crate) fn into_inner(self) -> N
+        ensures { result ≡ self.entry.ingress }
+    {
+        let Reporting {
+            ingress,
+            report: _,
+            every: _,
+            due: _,
+            log: _,
+            reporter: _,
+        } = self;
+        ingress
+    }
+
     // Makes the report that is due at `now`, in milliseconds; the next is due one period after
     // `now`. Nothing changes if none is due.
     fn report_if_due(&mut self, now: u64)
@@ -61,7 +75,7 @@ impl<'a, N: Ingress, Q: Reporter> Reporting<'a, N, Q> {
         if now < self.due {
             return;
         }
-        self.report.gauges = gauges_of(self.ingress, now);
+        self.report.gauges = gauges_of(&self.ingress, now);
         self.reporter.report(&self.report, &mut self.log);
         self.due = now.saturating_add(self.every);
     }
@@ -157,6 +171,6 @@ impl<'a, 'b, N: Ingress, Q: Reporter, P: Preparation<N>> Preparation<Reporting<'
     ghost readies = { readies_through P.readies };
 
     fn ready<R: Wait>(&self, rt: &R, ingress: &mut Reporting<'b, N, Q>, now: u64) {
-        self.preparation.ready(rt, ingress.ingress, now);
+        self.preparation.ready(rt, &mut ingress.ingress, now);
     }
 }

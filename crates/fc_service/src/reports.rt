@@ -38,11 +38,17 @@ impl<'a, K: Sink, Q: Reporter> Sink for CountedSink<'a, K, Q> {
     }
 }
 
+/// A server after its rounds, and the counts of the replies.
+pub(crate) struct AfterRun<N: Ingress> {
+    pub(crate) ingress: N,
+    pub(crate) replies: Replies,
+}
+
 /// Receives datagrams as [`run_rounds`] does, and reports the counts.
 ///
 /// Without a period in `reports`, nothing is reported. A due report is made in the next round. Each
-/// receive ends at the latest when a report is due, or up to 100 ms later. Returns the counts of
-/// the replies that were sent and that failed, as `run_rounds` does.
+/// receive ends at the latest when a report is due, or up to 100 ms later. Returns the server as
+/// the last round left it, and the counts of the replies that were sent and that failed.
 pub(crate) fn run_reported<
     R: Wait,
     N: Ingress,
@@ -53,21 +59,26 @@ pub(crate) fn run_reported<
     Q: Reporter,
 >(
     rt: &R,
-    ingress: &mut N,
+    mut ingress: N,
     preparation: &P,
     source: &mut S,
     sink: &K,
     times: &M,
     limit: u32,
     reports: &Reports<'_, Q>,
-) -> Replies
+) -> AfterRun<N>
     ensures { HasReceivedBy reports.now.every Q.reported P.readies N.calls (round_calls S.received M.is_time K.went) limit
-        (S.came source.old) (S.came source.new) ingress.old ingress.new result }
+        (S.came source.old) (S.came source.new) ingress result.ingress result.replies }
 {
     let Some(every) = reports.every else {
-        return run_rounds(rt, ingress, preparation, source, sink, times, limit);
+        let replies = run_rounds(rt, &mut ingress, preparation, source, sink, times, limit);
+        return AfterRun { ingress, replies };
     };
     let mut reporting = Reporting::new(ingress, every, reports.reporter);
     let preparation = Through { preparation };
-    run_rounds(rt, &mut reporting, &preparation, source, sink, times, limit)
+    let replies = run_rounds(rt, &mut reporting, &preparation, source, sink, times, limit);
+    AfterRun {
+        ingress: reporting.into_inner(),
+        replies,
+    }
 }

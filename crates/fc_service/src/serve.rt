@@ -11,9 +11,9 @@ ghost use Rattle.fc_service.specs.declared.replies.Replies.{Replies as Counts};
 ghost use Rattle.fc_cli.specs.declared.status.Status.TheVariants.{Done, Failed};
 
 use crate::alone::Sensed;
-use crate::pool::{Driver, Ingress, Pool, run_pool};
+use crate::pool::{Driven, Driver, Ingress, Pool, run_pool};
 use crate::replies::Replies;
-use crate::reports::{CountedSink, Reports};
+use crate::reports::{AfterRun, CountedSink, Reports};
 use crate::rounds::Unprepared;
 use crate::serials::serial_of_start;
 use crate::timed::{TimersOf, run_timed};
@@ -352,9 +352,9 @@ impl<'a, 'b, S: Source + Drop, K: Sink, M: TimeSource, Q: Reporter> Driver<Recei
     ghost drives = { λ T calls self first last given. HasReceivedWith self.timers.timers.items self.reports.now.every Q.reported (λ now old new. new ≡ old)
         calls (round_calls S.received M.is_time K.went) self.limit (S.came self.source) (S.came given.source) first last given.replies };
 
-    // Receives datagrams up to the limit, as `run_timed` does, and returns the source and the
-    // numbers of replies.
-    fn drive<N: Ingress, R: Wait>(self, rt: &R, ingress: &mut N) -> Received<S> {
+    // Receives datagrams up to the limit, as `run_timed` does, and returns the ingress, the source
+    // and the numbers of replies.
+    fn drive<N: Ingress, R: Wait>(self, rt: &R, ingress: N) -> Driven<N, Received<S>> {
         let Receiver {
             mut source,
             sink,
@@ -363,7 +363,7 @@ impl<'a, 'b, S: Source + Drop, K: Sink, M: TimeSource, Q: Reporter> Driver<Recei
             reports,
             timers,
         } = self;
-        let replies = run_timed(
+        let AfterRun { ingress, replies } = run_timed(
             rt,
             ingress,
             &Unprepared,
@@ -374,7 +374,8 @@ impl<'a, 'b, S: Source + Drop, K: Sink, M: TimeSource, Q: Reporter> Driver<Recei
             reports,
             timers,
         );
-        Received { source, replies }
+        let given = Received { source, replies };
+        Driven { ingress, given }
     }
 }
 
@@ -460,11 +461,14 @@ fn serve_alone<
         (S.came source) (S.came r.source) r.replies) }
 {
     let begin = begin_by(extent);
-    let mut alone = RecordedAlone::new(SingleThread::new(alloc, &begin)?, records.changes);
+    let alone = RecordedAlone::new(SingleThread::new(alloc, &begin)?, records.changes);
     let sensed = Sensed { sensors };
-    let replies = run_timed(
+    let AfterRun {
+        ingress: _last,
+        replies,
+    } = run_timed(
         rt,
-        &mut alone,
+        alone,
         &sensed,
         &mut source,
         sink,

@@ -3,8 +3,7 @@ ghost use Rattle.std.specs.Prelude.{◌≡◌};
 ghost use Rattle.fc_service.specs.Rounds.{HasReceivedWith, round_calls};
 
 use crate::firing::{Firing, ThroughTimers};
-use crate::replies::Replies;
-use crate::reports::{Reports, run_reported};
+use crate::reports::{AfterRun, Reports, run_reported};
 use crate::rounds::Preparation;
 use crate::timer_jobs::TimerJobs;
 use fc_host::socket::{Sink, Source};
@@ -24,8 +23,8 @@ pub(crate) struct TimersOf<'a> {
 /// Receives datagrams as [`run_reported`] does, and fires the timers when they are due.
 ///
 /// A timer fires in the first round at or after its due time. Each receive ends when the first
-/// timer is due. Without timers the server is called directly. Returns the numbers of replies, as
-/// `run_reported` does.
+/// timer is due. Without timers the server is called directly. Returns the server as the last round
+/// left it, and the numbers of replies, as `run_reported` does.
 pub(crate) fn run_timed<
     R: Wait,
     N: Ingress,
@@ -36,7 +35,7 @@ pub(crate) fn run_timed<
     Q: Reporter,
 >(
     rt: &R,
-    ingress: &mut N,
+    ingress: N,
     preparation: &P,
     source: &mut S,
     sink: &K,
@@ -44,9 +43,9 @@ pub(crate) fn run_timed<
     limit: u32,
     reports: &Reports<'_, Q>,
     timers: TimersOf<'_>,
-) -> Replies
+) -> AfterRun<N>
     ensures { HasReceivedWith timers.entry.timers.items reports.now.every Q.reported P.readies N.calls (round_calls S.received M.is_time K.went) limit
-        (S.came source.old) (S.came source.new) ingress.old ingress.new result }
+        (S.came source.old) (S.came source.new) ingress result.ingress result.replies }
 {
     let TimersOf { timers, jobs } = timers;
     if timers.as_slice().is_empty() {
@@ -61,16 +60,20 @@ pub(crate) fn run_timed<
             reports,
         );
     }
-    let mut firing = Firing::new(ingress, timers, jobs);
+    let firing = Firing::new(ingress, timers, jobs);
     let preparation = ThroughTimers { preparation };
-    run_reported(
+    let AfterRun { ingress, replies } = run_reported(
         rt,
-        &mut firing,
+        firing,
         &preparation,
         source,
         sink,
         times,
         limit,
         reports,
-    )
+    );
+    AfterRun {
+        ingress: ingress.into_inner(),
+        replies,
+    }
 }

@@ -14,15 +14,14 @@ use fc_server::engine::{FireOutcome, NotifyOutcome};
 use std::sync::Wait;
 
 // An ingress that waits at a scripted host for each job and each lease until it was run.
-#[derive(Drop)]
-pub(crate) struct LockStep<'a, 'b, R: Wait, N: Ingress> {
+pub(crate) struct LockStep<'a, R: Wait, N: Ingress> {
     pub(crate) rt: &'a R,
-    pub(crate) ingress: &'b mut N,
+    pub(crate) ingress: N,
     pub(crate) scripted: &'a ScriptedHost,
 }
 
-impl<'a, 'b, R: Wait, N: Ingress> Ingress for LockStep<'a, 'b, R, N> {
-    ghost calls = { calls_through (λ waiting. waiting.ingress.now) (waited_calls N.calls) };
+impl<'a, R: Wait, N: Ingress> Ingress for LockStep<'a, R, N> {
+    ghost calls = { calls_through (λ waiting. waiting.ingress) (waited_calls N.calls) };
 
     // Waits for the worker of the datagram's job, and returns its response as an immediate one.
     fn handle(&mut self, now: u64, from: Endpoint, bytes: &[u8], reply: &mut Emission) -> Handled {
@@ -100,8 +99,8 @@ impl<'a, 'b, R: Wait, N: Ingress> Ingress for LockStep<'a, 'b, R, N> {
     }
 }
 
-impl<'a, 'b, R: Wait, N: Ingress> LineIngress for LockStep<'a, 'b, R, N> {
-    ghost hands = { λ readings old new. new.ingress.now ≡ old.ingress.now };
+impl<'a, R: Wait, N: Ingress> LineIngress for LockStep<'a, R, N> {
+    ghost hands = { λ readings old new. new.ingress ≡ old.ingress };
 
     // The workers' snapshots get the readings, from the scripted host.
     fn hand(&mut self, readings: &Readings) {

@@ -8,7 +8,7 @@ ghost use Rattle.fc_service.specs.declared.replies.Replies.{Replies as Counts};
 ghost use Rattle.fc_workers.specs.declared.dispatcher.Offload.TheVariants.{Every};
 
 use crate::lines::play_lines;
-use crate::pool::{Driver, Ingress, Pool, run_pool};
+use crate::pool::{Driven, Driver, Ingress, Pool, run_pool};
 use crate::waiting::LockStep;
 use fc_cli::status::{Status, tell};
 use fc_cli::stop::Stop;
@@ -31,12 +31,12 @@ struct Player<'a, I: BufRead + Drop, W: Write> {
 }
 
 impl<'a, I: BufRead + Drop, W: Write> Driver<Result<(), Stop>> for Player<'a, I, W> {
-    ghost drives = { λ S calls self first last given. OnOk given (IsFedByLines calls (I.remaining self.input) first) };
+    ghost drives = { λ S calls self first last given. OnOk given (IsFedByLines calls (I.remaining self.input) first last) };
 
     // Plays all lines, and waits after each line for the worker that runs its job. The contract
     // says which lines were played, and how. It doesn't say what was written to `out`, and says
     // nothing if the result is an error.
-    fn drive<N: Ingress, R: Wait>(self, rt: &R, ingress: &mut N) -> Result<(), Stop> {
+    fn drive<N: Ingress, R: Wait>(self, rt: &R, ingress: N) -> Driven<N, Result<(), Stop>> {
         let Player {
             alloc,
             input,
@@ -48,7 +48,13 @@ impl<'a, I: BufRead + Drop, W: Write> Driver<Result<(), Stop>> for Player<'a, I,
             ingress,
             scripted,
         };
-        play_lines(alloc, &mut waiting, input, out)
+        let given = play_lines(alloc, &mut waiting, input, out);
+        let LockStep {
+            rt: _,
+            ingress,
+            scripted: _,
+        } = waiting;
+        Driven { ingress, given }
     }
 }
 

@@ -6,7 +6,7 @@ use fc_core::front::blank_emission;
 use fc_record::NoChanges;
 use fc_registry::SlotNumber;
 use fc_server::Begin;
-use fc_service::pool::{Driver, Ingress, Pool, run_pool};
+use fc_service::pool::{Driven, Driver, Ingress, Pool, run_pool};
 use fc_workers::Offload;
 use std::alloc::{AllocError, Global};
 use std::sync::Wait;
@@ -20,8 +20,20 @@ struct Installs {
 }
 
 impl Driver<Result<(), AllocError>> for Installs {
-    fn drive<N: Ingress, R: Wait>(self, rt: &R, ingress: &mut N) -> Result<(), AllocError> {
+    fn drive<N: Ingress, R: Wait>(
+        self,
+        rt: &R,
+        mut ingress: N,
+    ) -> Driven<N, Result<(), AllocError>> {
         let _ = rt;
+        let given = self.install(&mut ingress);
+        Driven { ingress, given }
+    }
+}
+
+impl Installs {
+    // Passes the datagrams to `ingress`. Returns `AllocError` if memory for one can't be allocated.
+    fn install<N: Ingress>(&self, ingress: &mut N) -> Result<(), AllocError> {
         let mut reply = blank_emission();
         for (id, slot) in [(0, 1), (1, 9), (2, 2), (3, 9)] {
             let slot = SlotNumber::new(slot);

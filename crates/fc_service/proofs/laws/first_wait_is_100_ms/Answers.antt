@@ -10,3 +10,15 @@ returns-clause-timer g c = λ left wait first w. w.2 ∙ ap (λ (n : ℕ). until
 
 pub returns-clause-later : goal.returns-clause-later
 returns-clause-later g c = λ left wait first w. w.2 ∙ ap (λ (n : ℕ). until_due 0 n (Some 100)) (first w.0 w.1)
+
+pub returns-clause-alone : goal.returns-clause-alone
+returns-clause-alone g c = λ left wait w. w.2 ∙ ap (λ (n : ℕ). until_due 0 n (Some 100)) w.1
+
+pub returns-clause-alone_reported : goal.returns-clause-alone_reported
+returns-clause-alone_reported g c = λ left wait w. w.2 ∙ ap (λ (n : ℕ). until_due 0 n (Some 100)) w.1
+
+pub returns-clause-pooled : goal.returns-clause-pooled
+returns-clause-pooled g c = λ first left wait w. w.2 ∙ ap (λ (n : ℕ). until_due 0 n (Some 100)) w.1
+
+pub returns-clause-pooled_reported : goal.returns-clause-pooled_reported
+returns-clause-pooled_reported g c = λ first left wait w. w.2 ∙ ap (λ (n : ℕ). until_due 0 n (Some 100)) w.1

@@ -13,6 +13,6 @@ returns g c = record {
     new_log = c.requires.new_log;
     done = c.new.ensures.done ∙ (λ i. record { sent = c.requires.sent i; share = new_share (c.requires.got i) c.captures.own.tallies c.captures.own.log });
   };
-  drives = c.drive-given.ensures;
+  drives = c.drive-ingress.ensures;
   own_is = c.close.ensures;
 }
