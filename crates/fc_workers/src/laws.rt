@@ -130,12 +130,12 @@ pub fn right_tracks_make_a_legal_order()
         → IsHistoryOf (history_on (begin_of begin) (log_of first order.calls)) (server_with closed order.words) }
 {}
 
-/// A worker of a server with locks still knows each head word that it knew before a logged call.
+/// A worker still knows each head word that it knew before a logged call.
 ///
 /// So a later look of the worker returns no less than the earlier one, whatever calls it made in
 /// between.
-pub fn workers_forget_no_head_word<B: Books, D: Device>()
-    ensures { (call : LoggedCall) (slot : ℕ) (before after : Log) → IsLoggedCall B.first D.are_readings call before after
+pub fn workers_forget_no_head_word<B: Bench>()
+    ensures { (call : LoggedCall) (slot : ℕ) (before after : Log) → B.logged call before after
         → known_word slot before.tracks.own ≤ known_word slot after.tracks.own }
 {}
 
