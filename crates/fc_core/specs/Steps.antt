@@ -38,7 +38,7 @@ pub data Call : Type 0 where
   Refuses : Call
   Removes : (removal : Removal) → Call
   -- no change of the job's slot at this stage, since the change wasn't saved.
-  RefusesChange : (needs : Stage) → Call
+  RefusesChange : (at : Stage) → Call
   Describes : (receipt : Option Receipt) → Call
   -- raise the head word of the job's slot; `content` is the answer that the job gives then.
   Raises : (word : ℕ) (content : Content) → Call
@@ -63,7 +63,7 @@ called_at (Installs program initial answer) = ToInstall
 called_at (Rejects content) = ToInstall
 called_at Refuses = ToInstall
 called_at (Removes removal) = ToRemove
-called_at (RefusesChange needs) = needs
+called_at (RefusesChange at) = at
 called_at (Describes receipt) = ToDescribe
 called_at (Raises word content) = ToRaise word content
 called_at (Answers content) = ToAnswer content
@@ -83,7 +83,7 @@ next_stage (Installs program initial answer) = made (receipt_of program 0) answe
 next_stage (Rejects content) = ToAnswer content
 next_stage Refuses = ToAnswer Unavailable
 next_stage (Removes removal) = removed removal
-next_stage (RefusesChange needs) = ToAnswer Unavailable
+next_stage (RefusesChange at) = ToAnswer Unavailable
 next_stage (Describes receipt) = ToAnswer (receipt_content receipt)
 next_stage (Raises word content) = ToAnswer content
 next_stage (TakesTurn turn taken) = turn_took turn taken

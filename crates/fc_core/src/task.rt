@@ -199,7 +199,7 @@ impl Task {
         match &stage.step {
             Step::ToCommit(_, program) => {
                 let ticket = Ticket::of(program, &stage.found);
-                if wants(frame, &ticket) {
+                if run_wants_to_write(frame, &ticket) {
                     stage.unavailable();
                 }
             }
@@ -419,7 +419,7 @@ fn run_and_commit(
 }
 
 // Runs the ticket's program, and returns whether the run wants to write.
-fn wants(frame: &mut Frame, ticket: &Ticket<'_>) -> bool
+fn run_wants_to_write(frame: &mut Frame, ticket: &Ticket<'_>) -> bool
     ensures { result ≡ wants ticket.now }
 {
     let outcome = run(

@@ -12,7 +12,7 @@ use Rattle.fc_calls.specs.Logged.{HandlesDatagram, AdvancesFront, FiresTimer, Dr
 use Rattle.fc_calls.specs.Logged.{TakesForJob, CommitsRun, InstallsProgram, RemovesProgram, HandsSignal, AdvancesIdle, AdvancesShard, GivesTurn, NotesTurn, GivesUpTurn}
 use Rattle.fc_core.specs.Stage.{Stage}
 use Rattle.fc_core.specs.Stages.{first_stage}
-use Rattle.fc_linear.specs.Operations.{Operation, Logged, RejectsImage, LacksMemory, LacksStorage, IsEvent, StageMoves, is_for_job, job_brought, part_of}
+use Rattle.fc_linear.specs.Operations.{Operation, Logged, RejectsImage, LacksMemory, FailsToSave, IsEvent, StageMoves, is_for_job, job_brought, part_of}
 use Rattle.fc_linear.specs.Parts.{FollowsStages}
 use Rattle.fc_filed.specs.declared.entry.FiledEntry.{FiledEntry}
 use Rattle.fc_filed.specs.Books.{IsRightForJob}
@@ -51,7 +51,7 @@ of_old_job (Logged (GivesUpTurn turn now)) job s t m = record { for = refl; even
 of_old_job (Logged (RaisesWord slot word)) job s t m = record { for = refl; event = tt; none = refl }
 of_old_job (RejectsImage j content) job s t m = record { for = refl; event = tt; none = refl }
 of_old_job (LacksMemory j) job s t m = record { for = refl; event = tt; none = refl }
-of_old_job (LacksStorage j) job s t m = record { for = refl; event = tt; none = refl }
+of_old_job (FailsToSave j) job s t m = record { for = refl; event = tt; none = refl }
 
 -- ---- the entries on a track, after an entry is filed
 
@@ -134,7 +134,7 @@ module _ (first_job who : ℕ) (job : Job) where
       track = first_grows filed before.own who own.own on_job;
       thread = at_with entry_keys who true filed before.own on_own own.own;
       others = λ k le other. at_off entry_keys k filed before.own (off k le other);
-      lost = λ k h. has-with entry_keys k filed before.own h;
+      none_gained = λ k h. has-with entry_keys k filed before.own h;
       kept = λ k h. keeps-key entry_keys k filed before.own h;
       begins = (refl, refl);
     }
@@ -152,7 +152,7 @@ module _ (first_job who : ℕ) (job : Job) where
     track = sym (append-nil (entries_of before.own));
     thread = sym (append-nil (entries_at who before.own));
     others = λ k le other. refl;
-    lost = λ k h. h;
+    none_gained = λ k h. h;
     kept = λ k h. h;
     begins = (refl, refl);
   })
@@ -172,7 +172,7 @@ module _ (first_job who : ℕ) (job : Job) where
     track = grown (entries_of u.own) (entries_of v.own) (entries_of w.own) a.entries b.entries a.track b.track;
     thread = grown (entries_at who u.own) (entries_at who v.own) (entries_at who w.own) a.entries b.entries a.thread b.thread;
     others = λ k le other. b.others k le (λ e. other (e ∙ a.first)) ∙ a.others k le other;
-    lost = λ k h. a.lost k (b.lost k h);
+    none_gained = λ k h. a.none_gained k (b.none_gained k h);
     kept = λ k h. b.kept k (a.kept k h);
     begins = (b.begins.0 ∙ a.begins.0, b.begins.1 ∙ a.begins.1);
   }

@@ -6,7 +6,7 @@ use Rattle.fc_book.specs.declared.view.BookView.{BookView}
 use Rattle.fc_book.specs.Tracks.{HasKey}
 use Rattle.fc_calls.specs.Logged.{HandlesDatagram, AdvancesFront, FiresTimer, DrawsId, AnswersRequest, TellsReceipt, GivesReadings, LooksAt, RaisesWord}
 use Rattle.fc_calls.specs.Logged.{TakesForJob, CommitsRun, InstallsProgram, RemovesProgram, HandsSignal, AdvancesIdle, AdvancesShard, GivesTurn, NotesTurn, GivesUpTurn}
-use Rattle.fc_linear.specs.Operations.{Operation, Logged, RejectsImage, LacksMemory, LacksStorage, ServerPart, FrontPart, ShardPart, WordsPart, NoPart, IsEvent, part_of}
+use Rattle.fc_linear.specs.Operations.{Operation, Logged, RejectsImage, LacksMemory, FailsToSave, ServerPart, FrontPart, ShardPart, WordsPart, NoPart, IsEvent, part_of}
 use Rattle.fc_filed.specs.declared.entry.FiledEntry.{FiledEntry}
 use Rattle.fc_filed.specs.Entries.{AreKeyed, IsKeyed, is_of_job, part_key}
 use Rattle.fc_filed.specs.Threads.{MayFile, entry_by, key_of_first}
@@ -38,7 +38,7 @@ low_of (Logged (GivesUpTurn turn now)) p = omega arith
 low_of (Logged (RaisesWord slot word)) p = tt
 low_of (RejectsImage job content) p = tt
 low_of (LacksMemory job) p = tt
-low_of (LacksStorage job) p = tt
+low_of (FailsToSave job) p = tt
 
 -- the key of a part's or a thread's track is less than the key of the first job's track.
 pub part_below : (p : ServerPart) (who first_job : ℕ) → IsLow p → 9 ≤ who → who < first_job → part_key who p < first_job

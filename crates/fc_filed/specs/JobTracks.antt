@@ -1,10 +1,9 @@
 -- The track of a job: the operations that led the job from the call that produced it to a stage.
-use Rattle.std.specs.Prelude.{◌≡◌, ◌≢◌, ℕ, ◌+◌, ◌-◌, ◌≤◌, Bool, true, false, List, [], ◌∷◌, ◌++◌, Some}
+use Rattle.std.specs.Prelude.{◌≡◌, ◌≢◌, ℕ, ◌≤◌, List, [], ◌∷◌, ◌++◌, Some}
 use Rattle.fc_registry.specs.declared.job.Job.{Job}
 use Rattle.fc_book.specs.declared.view.BookView.{BookView}
 use Rattle.fc_book.specs.Tracks.{HasKey, entries_at, entries_of}
 use Rattle.fc_core.specs.Stage.{Stage}
-use Rattle.fc_core.specs.Stage.{ToTake}
 use Rattle.fc_core.specs.Stages.{first_stage}
 use Rattle.fc_linear.specs.Operations.{StageMoves, job_brought}
 use Rattle.fc_filed.specs.declared.entry.FiledEntry.{FiledEntry}
@@ -36,19 +35,6 @@ pub record FilesForJob (first_job who : ℕ) (job : Job) (s t : Stage) (before a
   pub track : entries_of after.own ≡ entries_of before.own ++ entries
   pub thread : entries_at who after.own ≡ entries_at who before.own ++ entries
   pub others : (k : ℕ) → first_job ≤ k → k ≢ key_of_first before.own → entries_at k after.own ≡ entries_at k before.own
-  pub lost : (k : ℕ) → HasKey k after.own → HasKey k before.own
+  pub none_gained : (k : ℕ) → HasKey k after.own → HasKey k before.own
   pub kept : (k : ℕ) → HasKey k before.own → HasKey k after.own
   pub begins : (after.may_begin ≡ before.may_begin) × (after.next ≡ before.next)
-
--- ---- a job that goes to a worker
-
--- the key of the track of the first job that a call produces. From the first key of jobs' tracks on,
--- each thread has one empty track.
-abbrev pub first_brought : ℕ → ℕ
-first_brought first_job = first_job + (first_job - 9)
-
--- the stage at which a job goes to a worker: that of its first snapshot if its slot's head word was
--- read before, and else its first one.
-abbrev pub sent_stage : Bool → Job → Stage
-sent_stage true job = ToTake 0
-sent_stage false job = first_stage job

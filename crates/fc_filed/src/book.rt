@@ -4,7 +4,7 @@ ghost use Rattle.atomic_table.specs.Seated.{TableId};
 ghost use Rattle.fc_book.specs.Tracks.{first_own, first_view, merged_with, own_view, part_view, with_begun, with_next, with_part, without_first};
 ghost use Rattle.fc_server.specs.declared.server.Begin.{Begin};
 ghost use Rattle.fc_calls.specs.Logged.{LooksAt, RaisesWord};
-ghost use Rattle.fc_linear.specs.Operations.{LacksMemory, LacksStorage, Logged, NoPart, RejectsImage, is_words, part_of};
+ghost use Rattle.fc_linear.specs.Operations.{LacksMemory, Logged, NoPart, RejectsImage, is_words, part_of};
 ghost use Rattle.fc_filed.specs.Books.{HasServerHistory, IsFirstSent};
 ghost use Rattle.fc_filed.specs.Entries.{part_key};
 ghost use Rattle.fc_filed.specs.Threads.{HasJobFirst, HasOwnTrack, MayFile, did_by, entry_by, known_word};
@@ -309,17 +309,6 @@ impl<J: ServerName> ServerTracks<J> {
     {
         lack_as::<Brand, J>(book, self, who, job);
     }
-
-    /// Files that the change of `job`'s slot can't be saved, so that it is refused.
-    ///
-    /// The entry is filed for thread `who` and for the job whose track is first.
-    pub fn lack_storage(&mut self, book: &ServerBook<J>, who: u64, job: &Job)
-        requires thread { HasOwnTrack J.first_job who self.old }
-        requires job { HasJobFirst J.first_job self.old }
-        ensures filed { self.new ≡ did_by who (LacksStorage job.now) self.old }
-    {
-        lack_storage_as::<Brand, J>(book, self, who, job);
-    }
 }
 
 /// Files the operation that `X` names, which belongs to no part.
@@ -373,24 +362,6 @@ fn lack_as<X: FiledName, J: ServerName>(
     requires entry { X.entry ≡ entry_by who tracks.old (LacksMemory job.now) }
     requires may { MayFile J.first_job who tracks.old (LacksMemory job.now) }
     ensures filed { tracks.new ≡ did_by who (LacksMemory job.now) tracks.old }
-{
-    let _ = job;
-    file_alone_as::<X, J>(book, tracks, who);
-}
-
-/// Files that the change of `job`'s slot can't be saved, so that it is refused.
-///
-/// `X` names the entry. It becomes the last one on the tracks of thread `who` and of the job. See
-/// [`ServerTracks::lack_storage`].
-fn lack_storage_as<X: FiledName, J: ServerName>(
-    book: &ServerBook<J>,
-    tracks: &mut ServerTracks<J>,
-    who: u64,
-    job: &Job,
-)
-    requires entry { X.entry ≡ entry_by who tracks.old (LacksStorage job.now) }
-    requires may { MayFile J.first_job who tracks.old (LacksStorage job.now) }
-    ensures filed { tracks.new ≡ did_by who (LacksStorage job.now) tracks.old }
 {
     let _ = job;
     file_alone_as::<X, J>(book, tracks, who);

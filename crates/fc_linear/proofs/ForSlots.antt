@@ -48,7 +48,7 @@ use Rattle.fc_calls.specs.Doings.{SaysFound}
 use Rattle.fc_server.specs.Serving.{Serves}
 use Rattle.fc_server.specs.States.{AtWork, Does, ServerState, inputs_in, shards_moved}
 use Rattle.fc_server.proofs.Others.{does_quietly}
-use Rattle.fc_linear.specs.Operations.{Operation, Logged, LogEntry, LacksMemory, LacksStorage, ReceiptMoves, RejectsImage}
+use Rattle.fc_linear.specs.Operations.{Operation, Logged, LogEntry, LacksMemory, FailsToSave, ReceiptMoves, RejectsImage}
 use Rattle.fc_linear.specs.Parts.{RightByParts}
 use Rattle.fc_linear.proofs.Afters.{After, eight}
 use Rattle.fc_linear.proofs.Firsts.{entry_for, named, on_shard}
@@ -393,9 +393,9 @@ module _ (k : ℕ) (es : List LogEntry) (h : History) (end s : ServerState) (tas
         rest = record { front = st.front; shards = st.shards; words = st.words; jobs = n.jobs; to_come = n.to_come; numbered = n.numbered; events = st.events.1 };
       }
 
-  pub after_refuse : (j : Job) → RightByParts end s tasks (entry_for k (LacksStorage j) ∷ es) → After k (LacksStorage j) es h end
+  pub after_refuse : (j : Job) → RightByParts end s tasks (entry_for k (FailsToSave j) ∷ es) → After k (FailsToSave j) es h end
   after_refuse j st =
-      let op : Operation = LacksStorage j in
+      let op : Operation = FailsToSave j in
       let task = task_at tasks k in
       let n = named k op end s tasks es st refl refl in
       let later : Task = record { job = task.job; stage = n.stage } in

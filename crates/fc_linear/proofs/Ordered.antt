@@ -9,7 +9,7 @@ use Rattle.fc_server.specs.declared.server.Begin.{Begin}
 use Rattle.fc_server.specs.Serving.{Serves, next}
 use Rattle.fc_server.specs.States.{ServerState, begin_of}
 use Rattle.fc_server.proofs.Beginning.{begins}
-use Rattle.fc_linear.specs.Operations.{Operation, Logged, LogEntry, LacksMemory, LacksStorage, RejectsImage, emitted_of, event_of}
+use Rattle.fc_linear.specs.Operations.{Operation, Logged, LogEntry, LacksMemory, FailsToSave, RejectsImage, emitted_of, event_of}
 use Rattle.fc_linear.specs.Parts.{IsHistoryOf, LeavesServer, RightByParts, first_server, history_on}
 use Rattle.fc_linear.proofs.Afters.{After}
 use Rattle.fc_linear.proofs.Firsts.{entry_for}
@@ -41,7 +41,7 @@ module _ (k : ℕ) (es : List LogEntry) (h : History) (end s : ServerState) (tas
   after_first (Logged (TellsReceipt job receipt)) st = after_receipt k es h end s tasks v job receipt st
   after_first (RejectsImage job content) st = after_reject k es h end s tasks v job content st
   after_first (LacksMemory job) st = after_lack k es h end s tasks v job st
-  after_first (LacksStorage job) st = after_refuse k es h end s tasks v job st
+  after_first (FailsToSave job) st = after_refuse k es h end s tasks v job st
 
 -- if a log is right from a server that a history leaves, the history continued by the log leaves
 -- the server `end`.

@@ -43,7 +43,7 @@ pub data Operation : Type 0 where
   Logged : (call : LoggedCall) → Operation
   RejectsImage : (job : Job) (content : Content) → Operation
   LacksMemory : (job : Job) → Operation
-  LacksStorage : (job : Job) → Operation
+  FailsToSave : (job : Job) → Operation
 
 -- an operation, with the number of its job; the number has no meaning if the operation is for no
 -- job.
@@ -84,7 +84,7 @@ abbrev pub part_of : Operation → ServerPart
 part_of (Logged call) = part_by call
 part_of (RejectsImage job content) = NoPart
 part_of (LacksMemory job) = NoPart
-part_of (LacksStorage job) = NoPart
+part_of (FailsToSave job) = NoPart
 
 abbrev pub is_front : ServerPart → Bool
 is_front FrontPart = true
@@ -191,7 +191,7 @@ StageMoves (Logged (RaisesWord slot word)) job s t = (slot ≡ job.origin.slot) 
 StageMoves (RejectsImage j content) job s t =
     (j ≡ job) × ((f : Fault) × IsRefusal (image_of job.ask) (Broken f) × (content ≡ refused (Broken f))) × (s ≡ ToInstall) × (t ≡ ToAnswer content)
 StageMoves (LacksMemory j) job s t = (j ≡ job) × (s ≡ ToInstall) × (t ≡ ToAnswer Unavailable)
-StageMoves (LacksStorage j) job s t = (j ≡ job) × (is_refusable s ≡ true) × (t ≡ ToAnswer Unavailable)
+StageMoves (FailsToSave j) job s t = (j ≡ job) × (is_refusable s ≡ true) × (t ≡ ToAnswer Unavailable)
 StageMoves other job s t = ⊥
 
 -- ---- its event, and what that emits
@@ -224,7 +224,7 @@ abbrev pub event_for : ℕ → Operation → Event
 event_for k (Logged call) = event_by k call
 event_for k (RejectsImage j content) = Install k true
 event_for k (LacksMemory j) = Install k false
-event_for k (LacksStorage j) = Refuse k
+event_for k (FailsToSave j) = Refuse k
 
 abbrev pub event_of : LogEntry → Event
 event_of e = event_for e.job e.operation

@@ -2,6 +2,7 @@
 ghost use Rattle.std.specs.Prelude.{◌≡◌};
 ghost use Rattle.fc_service.specs.Rounds.{HasReceivedBy, round_calls};
 
+use crate::pool::Driven;
 use crate::replies::Replies;
 use crate::reporting::{Reporting, Through};
 use crate::rounds::{Preparation, run_rounds};
@@ -38,12 +39,6 @@ impl<'a, K: Sink, Q: Reporter> Sink for CountedSink<'a, K, Q> {
     }
 }
 
-/// A server after its rounds, and the counts of the replies.
-pub(crate) struct AfterRun<N: Ingress> {
-    pub(crate) ingress: N,
-    pub(crate) replies: Replies,
-}
-
 /// Receives datagrams as [`run_rounds`] does, and reports the counts.
 ///
 /// Without a period in `reports`, nothing is reported. A due report is made in the next round. Each
@@ -66,19 +61,19 @@ pub(crate) fn run_reported<
     times: &M,
     limit: u32,
     reports: &Reports<'_, Q>,
-) -> AfterRun<N>
+) -> Driven<N, Replies>
     ensures { HasReceivedBy reports.now.every Q.reported P.readies N.calls (round_calls S.received M.is_time K.went) limit
-        (S.came source.old) (S.came source.new) ingress result.ingress result.replies }
+        (S.came source.old) (S.came source.new) ingress result.ingress result.given }
 {
     let Some(every) = reports.every else {
-        let replies = run_rounds(rt, &mut ingress, preparation, source, sink, times, limit);
-        return AfterRun { ingress, replies };
+        let given = run_rounds(rt, &mut ingress, preparation, source, sink, times, limit);
+        return Driven { ingress, given };
     };
     let mut reporting = Reporting::new(ingress, every, reports.reporter);
     let preparation = Through { preparation };
-    let replies = run_rounds(rt, &mut reporting, &preparation, source, sink, times, limit);
-    AfterRun {
+    let given = run_rounds(rt, &mut reporting, &preparation, source, sink, times, limit);
+    Driven {
         ingress: reporting.into_inner(),
-        replies,
+        given,
     }
 }

@@ -13,7 +13,7 @@ ghost use Rattle.fc_cli.specs.declared.status.Status.TheVariants.{Done, Failed};
 use crate::alone::Sensed;
 use crate::pool::{Driven, Driver, Ingress, Pool, run_pool};
 use crate::replies::Replies;
-use crate::reports::{AfterRun, CountedSink, Reports};
+use crate::reports::{CountedSink, Reports};
 use crate::rounds::Unprepared;
 use crate::serials::serial_of_start;
 use crate::timed::{TimersOf, run_timed};
@@ -363,7 +363,10 @@ impl<'a, 'b, S: Source + Drop, K: Sink, M: TimeSource, Q: Reporter> Driver<Recei
             reports,
             timers,
         } = self;
-        let AfterRun { ingress, replies } = run_timed(
+        let Driven {
+            ingress,
+            given: replies,
+        } = run_timed(
             rt,
             ingress,
             &Unprepared,
@@ -463,9 +466,9 @@ fn serve_alone<
     let begin = begin_by(extent);
     let alone = RecordedAlone::new(SingleThread::new(alloc, &begin)?, records.changes);
     let sensed = Sensed { sensors };
-    let AfterRun {
+    let Driven {
         ingress: _last,
-        replies,
+        given: replies,
     } = run_timed(
         rt,
         alone,

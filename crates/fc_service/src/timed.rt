@@ -3,7 +3,9 @@ ghost use Rattle.std.specs.Prelude.{◌≡◌};
 ghost use Rattle.fc_service.specs.Rounds.{HasReceivedWith, round_calls};
 
 use crate::firing::{Firing, ThroughTimers};
-use crate::reports::{AfterRun, Reports, run_reported};
+use crate::pool::Driven;
+use crate::replies::Replies;
+use crate::reports::{Reports, run_reported};
 use crate::rounds::Preparation;
 use crate::timer_jobs::TimerJobs;
 use fc_host::socket::{Sink, Source};
@@ -43,9 +45,9 @@ pub(crate) fn run_timed<
     limit: u32,
     reports: &Reports<'_, Q>,
     timers: TimersOf<'_>,
-) -> AfterRun<N>
+) -> Driven<N, Replies>
     ensures { HasReceivedWith timers.entry.timers.items reports.now.every Q.reported P.readies N.calls (round_calls S.received M.is_time K.went) limit
-        (S.came source.old) (S.came source.new) ingress result.ingress result.replies }
+        (S.came source.old) (S.came source.new) ingress result.ingress result.given }
 {
     let TimersOf { timers, jobs } = timers;
     if timers.as_slice().is_empty() {
@@ -62,7 +64,7 @@ pub(crate) fn run_timed<
     }
     let firing = Firing::new(ingress, timers, jobs);
     let preparation = ThroughTimers { preparation };
-    let AfterRun { ingress, replies } = run_reported(
+    let Driven { ingress, given } = run_reported(
         rt,
         firing,
         &preparation,
@@ -72,8 +74,8 @@ pub(crate) fn run_timed<
         limit,
         reports,
     );
-    AfterRun {
+    Driven {
         ingress: ingress.into_inner(),
-        replies,
+        given,
     }
 }

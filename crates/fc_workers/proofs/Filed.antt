@@ -207,7 +207,7 @@ module _ (first_job : ℕ) (job : Job) where
   still_right s t before after f at right k le has = ⊎_elim
       (λ (e : k ≡ key_of_first before.tracks.own). subst (λ (j : ℕ). IsRightForJob first_job (entries_at j after.tracks.own)) (f.files.first ∙ sym e)
       (subst (λ (es : List FiledEntry). IsRightForJob first_job es) (sym (at_first after.tracks.own)) (led_right first_job before.who job (entries_of after.tracks.own) t (at_next first_job before.who job s t before.tracks after.tracks f.files at).led)))
-      (λ (other : k ≡ key_of_first before.tracks.own → ⊥). subst (λ (es : List FiledEntry). IsRightForJob first_job es) (sym (f.files.others k le other)) (right k le (f.files.lost k has)))
+      (λ (other : k ≡ key_of_first before.tracks.own → ⊥). subst (λ (es : List FiledEntry). IsRightForJob first_job es) (sym (f.files.others k le other)) (right k le (f.files.none_gained k has)))
       (same_or_not k (key_of_first before.tracks.own))
     where
       same : (n : ℕ) → (n == n) ≡ true

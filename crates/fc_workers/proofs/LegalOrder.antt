@@ -173,7 +173,7 @@ module _ (begin : Begin) (logs : List TrackedLog) (closed : ClosedServer) (first
 
   numbered : HaveNextNumbers 0 (bringing (log_of first o.calls))
   numbered =
-      let a = r.known in
+      let a = r.has_log in
       let own : HaveNextNumbers 0 (brought_in first a.1) = (found (λ (log : TrackedLog). log.who ≡ r.dispatcher) (BringsInOrder first r.dispatcher) logs r.brought a).own a.4 in
       let filed : filed_in a.1 ≡ entries_by r.dispatcher o.calls = found (λ (log : TrackedLog). log.who ≡ r.dispatcher) (λ (log : TrackedLog). filed_in log ≡ entries_by log.who o.calls) logs o.own a ∙ ap (λ (n : ℕ). entries_by n o.calls) a.4 in
       subst (λ (xs : List LogEntry). HaveNextNumbers 0 xs) (same_bringing first r.dispatcher o.calls (all_by first r.dispatcher logs o.calls o.callers by_thread))

@@ -36,5 +36,5 @@ pub record HaveRightTracks (first : ℕ) (logs : List TrackedLog) : Type 0 where
   pub jobs : All (λ (log : TrackedLog). HasRightJobs (9 + length logs) log.tracks) logs
   pub empty : (k : ℕ) → 9 + length logs ≤ k → k < first → HaveEmptyTrack k logs
   pub dispatcher : ℕ
-  pub known : Any (λ (log : TrackedLog). log.who ≡ dispatcher) logs
+  pub has_log : Any (λ (log : TrackedLog). log.who ≡ dispatcher) logs
   pub brought : All (BringsInOrder first dispatcher) logs

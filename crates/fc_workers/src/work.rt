@@ -288,8 +288,13 @@ impl<'a, B: Bench, G: Gate, W: Wire, M: TimeSource> Context<'a, B, G, W, M> {
     {
         match verify(self.alloc, image(&job.ask)) {
             Ok(program) => self.install_program(rt, job, program, stage, share),
-            Err(Refusal::Broken(fault)) => self.reject(job, fault, stage, &mut share.log),
-            Err(Refusal::NoMemory) => self.lack_memory(job, stage, share),
+            Err(Refusal::Broken(fault)) => self.answer_rejected_image(
+                job,
+                fault,
+                stage,
+                &mut share.log,
+            ),
+            Err(Refusal::NoMemory) => self.answer_without_memory(job, stage, share),
         }
     }
 
@@ -320,12 +325,18 @@ impl<'a, B: Bench, G: Gate, W: Wire, M: TimeSource> Context<'a, B, G, W, M> {
                     .install(rt, job, program, &mut share.tallies, log);
                 stage.made(receipt, made);
             }
-            Err(_) => self.lack_memory(job, stage, share),
+            Err(_) => self.answer_without_memory(job, stage, share),
         }
     }
 
     // Answers an install whose image breaks a rule with the rule and the slot, and files that.
-    fn reject(&self, job: &Job, fault: Fault, stage: &mut Stage, log: &mut TrackLog<B::Book>)
+    fn answer_rejected_image(
+        &self,
+        job: &Job,
+        fault: Fault,
+        stage: &mut Stage,
+        log: &mut TrackLog<B::Book>,
+    )
         ensures answer { stage.new ≡ ToAnswer (refused (Broken fault)) }
         ensures filed { HasFiled (RejectsImage job.now (refused (Broken fault))) log.old log.new }
     {
@@ -338,7 +349,7 @@ impl<'a, B: Bench, G: Gate, W: Wire, M: TimeSource> Context<'a, B, G, W, M> {
 
     // Answers an install for whose program memory is refused with `Unavailable`. Counts that, and
     // files it.
-    fn lack_memory(
+    fn answer_without_memory(
         &self,
         job: &Job,
         stage: &mut Stage,

@@ -14,8 +14,8 @@ returns g c =
     let after = g.S.Source.came c.run_timed-last.new.source in
     let timers = c.args.timers.timers.items in
     let every = c.args.records.now.reports.every in
-    let P : Begin → Type 0 = λ b. HasServedBy timers every g.Q.Reporter.reported g.Z.Sensors.are_sensed e g.C.Recorder.recorded c.args.extent.limit b before after c.run_timed-last.result.replies in
+    let P : Begin → Type 0 = λ b. HasServedBy timers every g.Q.Reporter.reported g.Z.Sensors.are_sensed e g.C.Recorder.recorded c.args.extent.limit b before after c.run_timed-last.result.given in
     subst P c.begin_by-begin.ensures.begin
-    (served_by timers every g.Q.Reporter.reported g.Z.Sensors.are_sensed e g.C.Recorder.recorded c.args.extent.limit c.begin_by-begin.result before after c.new-alone.result _ c.run_timed-last.result.replies
+    (served_by timers every g.Q.Reporter.reported g.Z.Sensors.are_sensed e g.C.Recorder.recorded c.args.extent.limit c.begin_by-begin.result before after c.new-alone.result _ c.run_timed-last.result.given
     (subst (λ (a : SingleThread). Serves (begin_of c.begin_by-begin.result) a.engine []) (sym c.new-alone.ensures) c.in_ok-new.ensures.begins)
     c.run_timed-last.ensures)

@@ -10,11 +10,11 @@ pub returns : goal.returns
 returns g c =
     let e = round_calls g.S.Source.received g.M.TimeSource.is_time g.K.Sink.went in
     run_with c.args.timers.timers.items c.args.reports.now.every g.Q.Reporter.reported g.P.Preparation.readies g.N.Ingress.calls e c.args.limit
-    (g.S.Source.came c.args.source.now) (g.S.Source.came c.run_reported-ingress.new.source) c.args.ingress c.into_inner.result c.run_reported-ingress.result.replies
+    (g.S.Source.came c.args.source.now) (g.S.Source.came c.run_reported-ingress.new.source) c.args.ingress c.into_inner.result c.run_reported-ingress.result.given
     (subst (λ (ts : List Timer). (length ts == 0) ≡ false) c.as_slice.ensures.value (sym c.is_empty.ensures ∙ c.if-is_empty.false))
     (record {
       firing = c.run_reported-ingress.result.ingress;
       run = subst (λ (f : Firing _). HasReceivedBy c.args.reports.now.every g.Q.Reporter.reported (readies_firing g.P.Preparation.readies) (fired_calls g.N.Ingress.calls) e c.args.limit
-          (g.S.Source.came c.args.source.now) (g.S.Source.came c.run_reported-ingress.new.source) f c.run_reported-ingress.result.ingress c.run_reported-ingress.result.replies) c.new-firing.ensures c.run_reported-ingress.ensures;
+          (g.S.Source.came c.args.source.now) (g.S.Source.came c.run_reported-ingress.new.source) f c.run_reported-ingress.result.ingress c.run_reported-ingress.result.given) c.new-firing.ensures c.run_reported-ingress.ensures;
       last_is = c.into_inner.ensures;
     })

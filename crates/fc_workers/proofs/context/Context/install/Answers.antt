@@ -12,7 +12,7 @@ returns-in-Err-Broken-clause-step g c number =
     let is = subst (λ (r : Refusal). IsRefusal (image_of c.args.job.now.ask) r) c.in-Err-Broken.field-0-is here in
     reject_step (worker_view g.B.Bench.changes g.B.Bench.ended g.B.Bench.called g.B.Bench.logged
     g.M.TimeSource.is_time g.M.TimeSource.is_random g.G.Gate.passed g.W.Wire.called) number c.args.job.now
-    c.in-Err-Broken.fault c.args.share.now c.reject.new.log is c.reject.ensures.filed c.reject.ensures.answer
+    c.in-Err-Broken.fault c.args.share.now c.answer_rejected_image.new.log is c.answer_rejected_image.ensures.filed c.answer_rejected_image.ensures.answer
 
 pub returns-in-Err-NoMemory-clause-step : goal.returns-in-Err-NoMemory-clause-step
 returns-in-Err-NoMemory-clause-step g c number =
@@ -20,4 +20,4 @@ returns-in-Err-NoMemory-clause-step g c number =
     let is = subst (λ (r : Refusal). IsRefusal (image_of c.args.job.now.ask) r) c.in-Err-NoMemory.field-0-is here in
     refuse_step (worker_view g.B.Bench.changes g.B.Bench.ended g.B.Bench.called g.B.Bench.logged
     g.M.TimeSource.is_time g.M.TimeSource.is_random g.G.Gate.passed g.W.Wire.called) number c.args.job.now
-    c.args.share.now c.lack_memory.new.share.log is c.lack_memory.ensures.filed c.lack_memory.ensures.answer c.lack_memory.ensures.counted
+    c.args.share.now c.answer_without_memory.new.share.log is c.answer_without_memory.ensures.filed c.answer_without_memory.ensures.answer c.answer_without_memory.ensures.counted

@@ -25,4 +25,4 @@ returns-in-Ok-clause-step g c number =
 pub returns-clause-step : goal.returns-clause-step
 returns-clause-step g c number = refuse_step (worker_view g.B.Bench.changes g.B.Bench.ended g.B.Bench.called g.B.Bench.logged
     g.M.TimeSource.is_time g.M.TimeSource.is_random g.G.Gate.passed g.W.Wire.called)
-    number c.args.job.now c.args.share.now c.lack_memory.new.share.log c.requires.accepted.shapely.program.head c.lack_memory.ensures.filed c.lack_memory.ensures.answer c.lack_memory.ensures.counted
+    number c.args.job.now c.args.share.now c.answer_without_memory.new.share.log c.requires.accepted.shapely.program.head c.answer_without_memory.ensures.filed c.answer_without_memory.ensures.answer c.answer_without_memory.ensures.counted
