@@ -52,8 +52,8 @@
 //!   isn't idle, and a call by `FiledShard::inspect`.
 //! - A look at a head word and a raise are entries too, made in the step itself. The history's
 //!   looks and raises lead the head words from 0 to those of the table. A look returns no less than
-//!   a word of its slot in the entries on the owner's tracks. A rejected image and
-//!   refused memory are also entries; they belong to no part.
+//!   a word of its slot in the entries on the owner's tracks, whichever track it is on. A rejected
+//!   image and refused memory are also entries; they belong to no part.
 //! - Under every schedule there is one history, and each track has exactly the entries with its
 //!   key. No track has two owners. The keys of each entry are of their kind.
 //! - A job's track that no thread has, such as that of a lost message, is right for its job.

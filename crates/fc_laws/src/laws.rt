@@ -2,17 +2,19 @@
 ghost use Rattle.coap_msg.specs.declared.types.Emission.{Emission};
 ghost use Rattle.fc_core.specs.Contents.{Content, Ran, RunAnswer, Unavailable};
 ghost use Rattle.fc_core.specs.declared.event.Event.TheVariants.{Take, Commit, Install, Refuse, Raise, Answer, Lose};
-ghost use Rattle.fc_core.specs.Stage.{ToTake, ToCommit, ToInstall, ToRaise, ToAnswer, ToTell, Gone};
+ghost use Rattle.fc_core.specs.Stage.{ToTake, ToCommit, ToInstall, ToRemove, ToRaise, ToAnswer, ToTell, Gone};
 ghost use Rattle.fc_core.specs.TurnStage.{ToDraw, ToNote};
 ghost use Rattle.fc_core.specs.History.{Entry, History, Then, Seen, seen, and_then, did, job, slot_at, stage};
 ghost use Rattle.fc_core.specs.Laws.{HasCome, IsOfNewest, IsOvertaken, TakesAgain, answer_at, answers_of, is_noop, followed_by, slot_of, snapshots_of};
+ghost use Rattle.fc_help.specs.declared.request.Method.TheVariants.{Get, Post};
 ghost use Rattle.fc_observe.specs.declared.entry.Turn.{Turn};
-ghost use Rattle.fc_registry.specs.Calls.{commit_of, run_of};
+ghost use Rattle.fc_registry.specs.Calls.{commit_of, meaning_at, run_of};
+ghost use Rattle.fc_registry.specs.Record.{code_class};
 ghost use Rattle.fc_registry.specs.Slots.{Present, Ticket};
 ghost use Rattle.fc_core.specs.Legal.{AllMean, Emits, IsMeant};
 ghost use Rattle.fc_core.specs.Stages.{is_refusable};
 ghost use Rattle.fc_core.specs.Transitions.{names};
-ghost use Rattle.std.specs.Prelude.{ℕ, ◌+◌, ◌<◌, ◌≤◌, List, None, Option, Some, false, length, slice_set, true, ◌≡◌};
+ghost use Rattle.std.specs.Prelude.{ℕ, ◌+◌, ◌<◌, ◌≤◌, ◌⊎◌, List, None, Option, Some, false, length, slice_set, true, ◌≡◌};
 
 /// An event at the wrong stage of its job changes nothing and emits nothing.
 ///
@@ -118,14 +120,29 @@ pub fn raises_keep_the_answer()
 /// A change that can't be saved isn't made, and its job is answered 5.03.
 ///
 /// 5.03 is Service Unavailable. The change is a removal, or the commit of a run that wants to
-/// write. Its refusal changes the stage of its job and nothing else: no slot, no observer, no head
-/// word and no time. It emits nothing. So the next snapshot finds each slot as it was.
+/// write: a POST whose code is of class 2. Its refusal changes the stage of its job and nothing
+/// else: no slot, no observer, no head word and no time. It emits nothing. So the next snapshot
+/// finds each slot as it was.
+///
+/// No other job is refused. The commit of a GET, or of a POST whose code isn't of class 2, isn't. A
+/// job whose change was made still publishes its head word. An install is refused as one without
+/// memory.
 pub fn unsaved_changes_are_refused()
     ensures alone { (s : Seen) (k : ℕ) (o : Option Emission) → is_refusable (stage s k) ≡ true
         → and_then (did (Refuse k) o) s
         ≡ record s { tasks = slice_set s.tasks k (record { job = job s k; stage = ToAnswer Unavailable }) } }
     ensures finds { (s : Seen) (k n : ℕ) (o : Option Emission) → slot_at (and_then (did (Refuse k) o) s) n ≡ slot_at s n }
     ensures emitted { (s : Seen) (k : ℕ) (o : Option Emission) → Emits s (Refuse k) o → o ≡ None }
+    ensures removal { (s : Seen) (k : ℕ) (o : Option Emission) → stage s k ≡ ToRemove
+        → stage (and_then (did (Refuse k) o) s) k ≡ ToAnswer Unavailable }
+    ensures writes { (s : Seen) (k count : ℕ) (t : Ticket) (o : Option Emission) → stage s k ≡ ToCommit count t
+        → t.request.method ≡ Post → code_class (meaning_at t).code ≡ 2
+        → stage (and_then (did (Refuse k) o) s) k ≡ ToAnswer Unavailable }
+    ensures reads { (s : Seen) (k count : ℕ) (t : Ticket) (o : Option Emission) → stage s k ≡ ToCommit count t
+        → (t.request.method ≡ Get) ⊎ (code_class (meaning_at t).code ≡ 2 → ⊥) → and_then (did (Refuse k) o) s ≡ s }
+    ensures made { (s : Seen) (k word : ℕ) (content : Content) (o : Option Emission) → stage s k ≡ ToRaise word content
+        → and_then (did (Refuse k) o) s ≡ s }
+    ensures install { (s : Seen) (k : ℕ) (o : Option Emission) → stage s k ≡ ToInstall → and_then (did (Refuse k) o) s ≡ s }
 {}
 
 /// A job without memory for a ticket or an install is answered 5.03.

@@ -14,6 +14,9 @@
 //!   head words are those of the history.
 //! - A log that is right from a server that a history leaves continues this history. The longer
 //!   history leaves the server to which the log leads.
+//! - An image that isn't installed, or a change that isn't saved, is one of the job that it names.
+//!   It isn't a call of a part of the server. An install, or a change that was made, can't fail to
+//!   be saved.
 //!
 //! No contract guarantees yet that a server's threads make such a log. That requires one order of
 //! all calls, which [fc_book](../../fc_book/src/lib.rt) is to provide.

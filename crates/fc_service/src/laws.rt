@@ -35,6 +35,7 @@ ghost use Rattle.fc_service.specs.Reporting.{AreGaugesOf, Reporting, ReportsIfDu
 ghost use Rattle.fc_workers.specs.Counts.{Tallies};
 ghost use Rattle.fc_workers.specs.Fronts.{Beginning};
 ghost use Rattle.fc_workers.specs.OneOrder.{HaveOneOrder, logs_of};
+ghost use Rattle.fc_workers.specs.Workers.{Share};
 ghost use Rattle.fc_workers.specs.declared.call_log.CallLog.{CallLog};
 ghost use Rattle.fc_service.specs.Pooled.{PooledIngress, pooled_calls};
 ghost use Rattle.fc_service.specs.Rounds.{EndsInTime, HasServed, HasServedPooled, HasServedReported, HasServedTimed, Round, WaitsAfter, round_calls, sendings_in, served_view, until_due};
@@ -360,6 +361,24 @@ pub fn reports_come_in_time<N: Ingress, Q: Reporter>()
         × (after : CallLog) × Q.reported (record nothing_counted { gauges = gauges }) log after
         × (new ≡ record { ingress = s; report = record nothing_counted { gauges = gauges }; every = 60000; due = 121500; log = after }) }
     ensures awake { (shard until : ℕ) (now : Reporting N) → (reported_calls Q.reported N.calls).stays_idle shard now until → until ≤ now.due }
+{}
+
+/// A server with one worker counts the replies of its rounds, of the worker and of the dispatcher.
+///
+/// The rounds sent one reply at once. The worker sent two and failed to send eight, and the
+/// dispatcher's jobs sent four and failed to send sixteen.
+pub fn replies_of_all_threads_are_counted<
+    Z: Sensors,
+    S: Source,
+    M: TimeSource,
+    K: Sink,
+    C: Recorder,
+    Q: Reporter,
+>()
+    ensures { (first : Beginning) (timers : List Timer) (every : Option ℕ) (limit : ℕ) (begin : Begin) (before after : Option (List Receive)) (replies : Replies) (one : Share Tallies)
+        → (w : HasServedPooled (served_view Z.are_sensed (round_calls S.received M.is_time K.went) C.recorded first) timers every Q.reported (round_calls S.received M.is_time K.went) 1 limit begin before after replies)
+        → w.shares ≡ one ∷ [] → w.at_once ≡ record { sent = 1; failed = 0 } → one.sent ≡ 2 → one.failed ≡ 8
+        → w.last.done.share.sent ≡ 4 → w.last.done.share.failed ≡ 16 → replies ≡ record { sent = 7; failed = 24 } }
 {}
 
 /// The one order of a server with workers has its dispatcher's calls, with timers and reports too.

@@ -5,6 +5,8 @@ use Rattle.std.proofs.lemmas.Bool.Decides.{nat_tests}
 use Rattle.fc_book.specs.declared.view.Track.{Track}
 use Rattle.fc_book.specs.declared.view.BookView.{BookView}
 use Rattle.fc_book.specs.Tracks.{HasKey, entries_at, entries_of, merged_with, other_tracks}
+use Rattle.std.specs.List.{All}
+use Rattle.std.proofs.lemmas.List.Elements.{All-cons, All-head, All-nil, All-tail}
 use Rattle.fc_book.proofs.Owners.{has_right}
 use Rattle.fc_registry.specs.declared.job.Job.{Job}
 use Rattle.fc_core.specs.Stage.{Stage}
@@ -78,6 +80,22 @@ module _ (first_job : ℕ) (job : Job) (stage : Stage) where
 -- ---- one job, and many
 
 module _ {T : Type 0} (first_job : ℕ) (w : WorkerView T) (files : FilesCalls w) where
+  first_has : (r : ReceivedJob) (us : List (Track FiledEntry)) (ts : List (Track FiledEntry)) → HasLedJob r.job (first_stage r.job) (entries_of ts) → HasKey (key_of_first ts) (ts ++ us)
+  first_has r us [] led = absurd led
+  first_has r us (t ∷ ts) led = inl refl
+
+  -- the worker has the track of the job that it received.
+  one_has : (r : ReceivedJob) (before after : Share T) → IsReceivedWorked first_job w r before after → HasOwnTrack first_job before.log.who before.log.tracks → HasRightJobs first_job before.log.tracks
+      → HasKey (key_of_first r.tracks.own) after.log.tracks.own
+  one_has r before after is own right =
+      let stage = first_stage r.job in
+      let mid : Share T = record before { log = with_tracks r.tracks before.log } in
+      let owned : HasOwnTrack first_job mid.log.who mid.log.tracks = record { key = own.key; own = has_right before.log.who r.tracks.own before.log.tracks.own own.own } in
+      let at = moved_at first_job r.job stage before.log.tracks r.tracks is.at in
+      let moved = moved_right first_job r.job stage before.log.who before.log.tracks r.tracks is.at is.one right in
+      let f = (right_after first_job r.job w files r.number mid after owned at moved is.worked).0 in
+      f.files.kept (key_of_first r.tracks.own) (first_has r before.log.tracks.own r.tracks.own is.at.led)
+
   one_kept : (r : ReceivedJob) (before after : Share T) → IsReceivedWorked first_job w r before after → HasOwnTrack first_job before.log.who before.log.tracks → HasRightJobs first_job before.log.tracks → KeepsRightJobs first_job before.log after.log
   one_kept r before after is own right =
       let stage = first_stage r.job in
@@ -88,6 +106,9 @@ module _ {T : Type 0} (first_job : ℕ) (w : WorkerView T) (files : FilesCalls w
       let done = right_after first_job r.job w files r.number mid after owned at moved is.worked in
       let f = done.0 in
       record {
+        who = f.who;
+        kept = λ k has. f.files.kept k (has_right k r.tracks.own before.log.tracks.own has);
+        may_begin = f.files.begins.0;
         own = record { key = subst (λ (n : ℕ). (9 ≤ n) × (n < first_job)) (sym f.who) own.key; own = subst (λ (n : ℕ). HasKey n after.log.tracks.own) (sym f.who) (f.files.kept before.log.who owned.own) };
         right = done.2;
         none = λ first. ap (λ (n : ℕ). bringing (log_of first (entries_at n after.log.tracks.own))) f.who
@@ -98,8 +119,32 @@ module _ {T : Type 0} (first_job : ℕ) (w : WorkerView T) (files : FilesCalls w
 
   pub received_kept : (rs : List ReceivedJob) (before after : Share T) → AreReceivedWorked first_job w rs before after → HasOwnTrack first_job before.log.who before.log.tracks → HasRightJobs first_job before.log.tracks → KeepsRightJobs first_job before.log after.log
   unfolding AreReceivedWorked
-  received_kept [] before after is own right = subst (λ (p : Share T). KeepsRightJobs first_job before.log p.log) (sym is) (record { own = own; right = right; none = λ first. refl })
+  received_kept [] before after is own right = subst (λ (p : Share T). KeepsRightJobs first_job before.log p.log) (sym is) (record { who = refl; own = own; kept = λ k has. has; may_begin = refl; right = right; none = λ first. refl })
   received_kept (r ∷ rs) before after is own right =
       let earlier = received_kept rs before is.0 is.1.0 own right in
       let last = one_kept r is.0 after is.1.1 earlier.own earlier.right in
-      record { own = last.own; right = last.right; none = λ first. last.none first ∙ earlier.none first }
+      record {
+        who = last.who ∙ earlier.who;
+        own = last.own;
+        kept = λ k has. last.kept k (earlier.kept k has);
+        may_begin = last.may_begin ∙ earlier.may_begin;
+        right = last.right;
+        none = λ first. last.none first ∙ earlier.none first;
+      }
+
+  more : (xs ys : List (Track FiledEntry)) (rs : List ReceivedJob) → ((k : ℕ) → HasKey k xs → HasKey k ys) → All (λ (r : ReceivedJob). HasKey (key_of_first r.tracks.own) xs) rs → All (λ (r : ReceivedJob). HasKey (key_of_first r.tracks.own) ys) rs
+  more xs ys [] kept all = All-nil (λ (r : ReceivedJob). HasKey (key_of_first r.tracks.own) ys)
+  more xs ys (r ∷ rs) kept all = All-cons (λ (x : ReceivedJob). HasKey (key_of_first x.tracks.own) ys) r rs
+      (kept (key_of_first r.tracks.own) (All-head (λ (x : ReceivedJob). HasKey (key_of_first x.tracks.own) xs) r rs all))
+      (more xs ys rs kept (All-tail (λ (x : ReceivedJob). HasKey (key_of_first x.tracks.own) xs) r rs all))
+
+  pub received_all : (rs : List ReceivedJob) (before after : Share T) → AreReceivedWorked first_job w rs before after → HasOwnTrack first_job before.log.who before.log.tracks → HasRightJobs first_job before.log.tracks
+      → All (λ (r : ReceivedJob). HasKey (key_of_first r.tracks.own) after.log.tracks.own) rs
+  unfolding AreReceivedWorked
+  received_all [] before after is own right = All-nil (λ (r : ReceivedJob). HasKey (key_of_first r.tracks.own) after.log.tracks.own)
+  received_all (r ∷ rs) before after is own right =
+      let earlier = received_kept rs before is.0 is.1.0 own right in
+      let last = one_kept r is.0 after is.1.1 earlier.own earlier.right in
+      All-cons (λ (x : ReceivedJob). HasKey (key_of_first x.tracks.own) after.log.tracks.own) r rs
+      (one_has r is.0 after is.1.1 earlier.own earlier.right)
+      (more is.0.log.tracks.own after.log.tracks.own rs last.kept (received_all rs before is.0 is.1.0 own right))

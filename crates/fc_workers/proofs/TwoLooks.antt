@@ -74,3 +74,41 @@ found_after begin logs closed order j k who by a earlier between later is =
     let raised : max 7 (greatest_word 5 between) ≤ word_at cut.0 5 = (kept_by 5 (x ∷ between) start.0 cut.0 has start.2).knows in
     let found : a ≡ word_at cut.0 5 = cut.2.1.0 in
     omega (arith, raised, found)
+
+-- ---- a look after exactly these calls of the head words
+
+module _ (begin : Begin) (logs : List TrackedLog) (closed : ClosedServer) (order : HaveOneOrder begin logs closed) where
+  -- the look finds slot 5's word of some head words, to which the calls of the head words led.
+  found_in : (k by a : ℕ) (earlier later : List FiledEntry) → order.calls ≡ earlier ++ record { who = by; job = k; operation = Logged (LooksAt 5 a) } ∷ later
+      → (ws : List ℕ) × OperationsLead ChangesWords (word_entries earlier) no_words ws × (a ≡ word_at ws 5)
+  found_in k by a earlier later is =
+      let y : FiledEntry = record { who = by; job = k; operation = Logged (LooksAt 5 a) } in
+      let leads : OperationsLead ChangesWords (earlier ++ y ∷ later) no_words order.words = subst (λ (es : List FiledEntry). OperationsLead ChangesWords es no_words order.words) is order.heads_led in
+      let cut = split earlier (y ∷ later) no_words order.words leads in
+      (cut.0, alone earlier no_words cut.0 cut.1, cut.2.1.0)
+
+  pub found_before : (k by a : ℕ) (earlier later : List FiledEntry) → order.calls ≡ earlier ++ record { who = by; job = k; operation = Logged (LooksAt 5 a) } ∷ later → word_entries earlier ≡ [] → a ≡ 0
+  found_before k by a earlier later is none =
+      let f = found_in k by a earlier later is in
+      let same : f.0 ≡ no_words = subst (λ (es : List FiledEntry). OperationsLead ChangesWords es no_words f.0) none f.1 in
+      f.2 ∙ ap (λ (ws : List ℕ). word_at ws 5) same
+
+  pub found_other : (j k who by a : ℕ) (earlier later : List FiledEntry) → order.calls ≡ earlier ++ record { who = by; job = k; operation = Logged (LooksAt 5 a) } ∷ later
+      → word_entries earlier ≡ record { who = who; job = j; operation = Logged (RaisesWord 6 7) } ∷ [] → a ≡ 0
+  found_other j k who by a earlier later is only =
+      let f = found_in k by a earlier later is in
+      let x : FiledEntry = record { who = who; job = j; operation = Logged (RaisesWord 6 7) } in
+      let led : OperationsLead ChangesWords (x ∷ []) no_words f.0 = subst (λ (es : List FiledEntry). OperationsLead ChangesWords es no_words f.0) only f.1 in
+      let raised : led.0 ≡ word_raised 6 7 no_words = led.1 in
+      f.2 ∙ ap (λ (ws : List ℕ). word_at ws 5) (led.2 ∙ raised)
+
+  pub found_greatest : (i j k one other by a : ℕ) (earlier later : List FiledEntry) → order.calls ≡ earlier ++ record { who = by; job = k; operation = Logged (LooksAt 5 a) } ∷ later
+      → word_entries earlier ≡ record { who = one; job = i; operation = Logged (RaisesWord 5 7) } ∷ record { who = other; job = j; operation = Logged (RaisesWord 5 4) } ∷ [] → a ≡ 7
+  found_greatest i j k one other by a earlier later is only =
+      let f = found_in k by a earlier later is in
+      let x : FiledEntry = record { who = one; job = i; operation = Logged (RaisesWord 5 7) } in
+      let y : FiledEntry = record { who = other; job = j; operation = Logged (RaisesWord 5 4) } in
+      let led : OperationsLead ChangesWords (x ∷ y ∷ []) no_words f.0 = subst (λ (es : List FiledEntry). OperationsLead ChangesWords es no_words f.0) only f.1 in
+      let first : led.0 ≡ word_raised 5 7 no_words = led.1 in
+      let last : led.2.0 ≡ word_raised 5 4 led.0 = led.2.1 in
+      f.2 ∙ ap (λ (ws : List ℕ). word_at ws 5) (led.2.2 ∙ (last ∙ ap (λ (ws : List ℕ). word_raised 5 4 ws) first))

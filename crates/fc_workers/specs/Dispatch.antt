@@ -48,9 +48,10 @@ module _ {T : Type 0} (s : WorkerView T) where
     pub told : s.logged (TellsReceipt job (Some receipt)) before after
     pub cost : least ≤ receipt.cost
 
-  -- the receipt of a job's slot was returned, or it wasn't requested. The log has no other call.
+  -- the receipt of a job's slot was returned for a job of a run, or it wasn't requested. The log has
+  -- no other call.
   abbrev pub IsPriced : Job → TrackedLog → TrackedLog → Type 0
-  IsPriced job before after = (after ≡ before) ⊎ ((receipt : Option Receipt) × s.logged (TellsReceipt job receipt) before after)
+  IsPriced job before after = (after ≡ before) ⊎ (AsksRun job.ask × ((receipt : Option Receipt) × s.logged (TellsReceipt job receipt) before after))
 
   -- a request's job of a run took one snapshot here, after a look-up or without one. The snapshot's
   -- program has this cost or more. The log has no other call.

@@ -3,8 +3,10 @@ use Rattle.std.specs.Prelude.{◌≡◌, ◌≢◌, ℕ, ◌+◌, ◌<◌, ◌�
 use Rattle.std.specs.List.{All, Any}
 use Rattle.fc_book.specs.Tracks.{HasKey, entries_at}
 use Rattle.fc_server.specs.States.{ServerState}
-use Rattle.fc_linear.specs.Operations.{LogEntry}
+use Rattle.fc_calls.specs.Logged.{FiresTimer}
+use Rattle.fc_linear.specs.Operations.{LogEntry, Logged}
 use Rattle.fc_linear.specs.Parts.{HaveNextNumbers, bringing}
+use Rattle.fc_filed.specs.declared.entry.FiledEntry.{FiledEntry}
 use Rattle.fc_filed.specs.Entries.{log_of}
 use Rattle.fc_workers.specs.declared.closed.ClosedServer.{ClosedServer}
 use Rattle.fc_workers.specs.Filed.{HasRightJobs}
@@ -38,3 +40,7 @@ pub record HaveRightTracks (first : ℕ) (logs : List TrackedLog) : Type 0 where
   pub dispatcher : ℕ
   pub has_log : Any (λ (log : TrackedLog). log.who ≡ dispatcher) logs
   pub brought : All (BringsInOrder first dispatcher) logs
+
+-- the entry of a timer that fired at time 0: the call is by thread 9, and the job has this key.
+abbrev pub timer_entry : ℕ → ℕ → FiledEntry
+timer_entry job slot = record { who = 9; job = job; operation = Logged (FiresTimer slot 0) }

@@ -1,7 +1,7 @@
 -- Jobs that a worker receives with their tracks, and runs one after the other.
 use Rattle.std.specs.Prelude.{◌≡◌, ℕ, List, [], ◌∷◌}
 use Rattle.fc_book.specs.declared.view.BookView.{BookView}
-use Rattle.fc_book.specs.Tracks.{merged_with, other_tracks}
+use Rattle.fc_book.specs.Tracks.{HasKey, merged_with, other_tracks}
 use Rattle.fc_registry.specs.declared.job.Job.{Job}
 use Rattle.fc_core.specs.Stages.{first_stage}
 use Rattle.fc_filed.specs.declared.entry.FiledEntry.{FiledEntry}
@@ -37,9 +37,12 @@ module _ {T : Type 0} (first_job : ℕ) (s : WorkerView T) where
   AreReceivedWorked [] before after = after ≡ before
   AreReceivedWorked (r ∷ rs) before after = (now : Share T) × (AreReceivedWorked rs before now × IsReceivedWorked r now after)
 
--- the worker still has its own track, each job's track that it has is right for its job, and it has
--- produced no further job.
+-- the worker still has its own track and each track that it had, and may begin tracks as before. Each
+-- job's track that it has is right for its job. It has produced no further job.
 pub record KeepsRightJobs (first_job : ℕ) (before after : TrackedLog) : Type 0 where
+  pub who : after.who ≡ before.who
   pub own : HasOwnTrack first_job after.who after.tracks
+  pub kept : (k : ℕ) → HasKey k before.tracks.own → HasKey k after.tracks.own
+  pub may_begin : after.tracks.may_begin ≡ before.tracks.may_begin
   pub right : HasRightJobs first_job after.tracks
   pub none : (first : ℕ) → brought_in first after ≡ brought_in first before

@@ -1,7 +1,7 @@
 //! Laws about workers and their server.
 //!
 //! Each law is the contract of an empty function.
-ghost use Rattle.std.specs.Prelude.{◌≡◌, ◌<◌, ◌≤◌, ◌⊎◌, ℕ, Bool, Some, List, [], ◌∷◌, ◌++◌};
+ghost use Rattle.std.specs.Prelude.{◌≡◌, ◌<◌, ◌≤◌, ◌⊎◌, ℕ, Bool, false, Some, List, [], ◌∷◌, ◌++◌};
 ghost use Rattle.coap_msg.specs.declared.types.Endpoint.{Endpoint};
 ghost use Rattle.fc_core.specs.declared.front.Delivered.TheVariants.{Signal};
 ghost use Rattle.fc_calls.specs.Logged.{DrawsId, HandsSignal, InstallsProgram, LoggedCall, LooksAt, NotesTurn, RaisesWord};
@@ -22,19 +22,24 @@ ghost use Rattle.fc_registry.specs.declared.note.Notification.{Notification};
 ghost use Rattle.fc_server.specs.declared.server.Begin.{Begin};
 ghost use Rattle.fc_workers.specs.Asked.{IsLoggedCall};
 ghost use Rattle.fc_workers.specs.Fronts.{beginning};
-ghost use Rattle.fc_core.specs.Stage.{Gone};
+ghost use Rattle.fc_core.specs.Stage.{Gone, ToTake};
 ghost use Rattle.fc_core.specs.Stages.{first_stage};
+ghost use Rattle.fc_core.specs.Timers.{timer_job};
+ghost use Rattle.std.specs.List.{All};
+ghost use Rattle.fc_book.specs.Tracks.{HasKey, other_tracks, own_view, track};
+ghost use Rattle.fc_filed.specs.Books.{IsRightForJob};
+ghost use Rattle.fc_workers.specs.declared.call_log.CallLog.{CallLog};
 ghost use Rattle.fc_filed.specs.JobTracks.{HasJobAt};
-ghost use Rattle.fc_filed.specs.Threads.{HasOwnTrack};
+ghost use Rattle.fc_filed.specs.Threads.{HasOwnTrack, key_of_first};
 ghost use Rattle.fc_workers.specs.Called.{worker_view};
 ghost use Rattle.fc_workers.specs.Filed.{HasFiledFor, HasRightJobs};
 ghost use Rattle.fc_workers.specs.Received.{AreReceivedWorked, KeepsRightJobs, ReceivedJob};
 ghost use Rattle.fc_workers.specs.Work.{IsReplied};
 ghost use Rattle.fc_workers.specs.Dispatch.{IsDone};
 ghost use Rattle.fc_filed.specs.Entries.{log_of};
-ghost use Rattle.fc_linear.specs.Parts.{IsHistoryOf, history_on};
+ghost use Rattle.fc_linear.specs.Parts.{HaveNextNumbers, IsHistoryOf, bringing, history_on};
 ghost use Rattle.fc_server.specs.States.{begin_of};
-ghost use Rattle.fc_workers.specs.LegalOrder.{HaveRightTracks, server_with};
+ghost use Rattle.fc_workers.specs.LegalOrder.{HaveRightTracks, server_with, timer_entry};
 ghost use Rattle.fc_workers.specs.Logs.{TrackedLog as Log};
 ghost use Rattle.fc_workers.specs.OneOrder.{HaveOneOrder, filed_in};
 ghost use Rattle.fc_workers.specs.Workers.{Dispatched, Share as Done};
@@ -112,12 +117,17 @@ pub fn worked_jobs_have_right_tracks<B: Bench, G: Gate, W: Wire, M: TimeSource>(
 ///
 /// It holds for a worker that has its own track. Each job comes with its track, which is at the job's
 /// first stage. After any number of jobs each job's track that the worker has is right for its job.
-/// None of the worker's own entries since then produces a job.
+/// None of the worker's own entries since then produces a job. The worker has the track of each job
+/// that it received.
 pub fn received_jobs_have_right_tracks<B: Bench, G: Gate, W: Wire, M: TimeSource>()
-    ensures { (first_job : ℕ) (jobs : List ReceivedJob) (before after : Done B.Tallies)
+    ensures kept { (first_job : ℕ) (jobs : List ReceivedJob) (before after : Done B.Tallies)
         → HasOwnTrack first_job before.log.who before.log.tracks → HasRightJobs first_job before.log.tracks
         → AreReceivedWorked first_job (worker_view B.changes B.ended B.called B.logged M.is_time M.is_random G.passed W.called) jobs before after
         → KeepsRightJobs first_job before.log after.log }
+    ensures received { (first_job : ℕ) (jobs : List ReceivedJob) (before after : Done B.Tallies)
+        → HasOwnTrack first_job before.log.who before.log.tracks → HasRightJobs first_job before.log.tracks
+        → AreReceivedWorked first_job (worker_view B.changes B.ended B.called B.logged M.is_time M.is_random G.passed W.called) jobs before after
+        → All (λ (r : ReceivedJob). HasKey (key_of_first r.tracks.own) after.log.tracks.own) jobs }
 {}
 
 /// The one order of a closed server's calls is a legal history if the tracks of its jobs are right.
@@ -128,6 +138,28 @@ pub fn received_jobs_have_right_tracks<B: Bench, G: Gate, W: Wire, M: TimeSource
 pub fn right_tracks_make_a_legal_order()
     ensures { (begin : Begin) (logs : List Log) (closed : ClosedServer) (first : ℕ) (order : HaveOneOrder begin logs closed) → HaveRightTracks first logs
         → IsHistoryOf (history_on (begin_of begin) (log_of first order.calls)) (server_with closed order.words) }
+{}
+
+/// The timers of slots 5 and 6 fired in the one thread of a server, and each job has a right track.
+///
+/// The thread's own track has both calls. The track of the second job may be received by a worker:
+/// the job is at its first stage, and the track is the only one. One track of both jobs is right for
+/// no job. In the other order the jobs don't have the next numbers.
+pub fn two_timers_have_right_tracks()
+    ensures right { (calls : CallLog) → HaveRightTracks 10 (record {
+      calls = calls;
+      who = 9;
+      tracks = record {
+        locked = [];
+        may_begin = false;
+        next = 0;
+        own = track 11 (timer_entry 11 6 ∷ []) ∷ track 10 (timer_entry 10 5 ∷ []) ∷ track 9 (timer_entry 10 5 ∷ timer_entry 11 6 ∷ []) ∷ [];
+      };
+    } ∷ []) }
+    ensures first { HasJobAt 10 (timer_job 6) (ToTake 0) (own_view 11 (timer_entry 11 6 ∷ [])) }
+    ensures one { other_tracks (own_view 11 (timer_entry 11 6 ∷ [])).own ≡ [] }
+    ensures shared { IsRightForJob 10 (timer_entry 10 5 ∷ timer_entry 10 6 ∷ []) → ⊥ }
+    ensures turned { HaveNextNumbers 0 (bringing (log_of 10 (timer_entry 11 6 ∷ timer_entry 10 5 ∷ []))) → ⊥ }
 {}
 
 /// A worker still knows each head word that it knew before a logged call.
@@ -153,9 +185,18 @@ pub fn two_threads_raise_and_look()
 /// A look at the head word of slot 5 that follows a raise to 7 finds 7 or more.
 ///
 /// It follows the raise in the order of a server's filed calls. The two may be by any threads, and
-/// other calls may be between them.
+/// other calls may be between them. A look before all raises finds 0, and so does one that follows
+/// only a raise of slot 6. A look that follows raises to 7 and then to 4, and no other, finds 7.
 pub fn a_look_finds_the_raises_before_it()
-    ensures { (begin : Begin) (logs : List Log) (closed : ClosedServer) (order : HaveOneOrder begin logs closed) (j k who by a : ℕ) (earlier between later : List FiledEntry)
+    ensures least { (begin : Begin) (logs : List Log) (closed : ClosedServer) (order : HaveOneOrder begin logs closed) (j k who by a : ℕ) (earlier between later : List FiledEntry)
         → order.calls ≡ earlier ++ record { who = who; job = j; operation = Logged (RaisesWord 5 7) } ∷ between ++ record { who = by; job = k; operation = Logged (LooksAt 5 a) } ∷ later
         → 7 ≤ a }
+    ensures before { (begin : Begin) (logs : List Log) (closed : ClosedServer) (order : HaveOneOrder begin logs closed) (k by a : ℕ) (earlier later : List FiledEntry)
+        → order.calls ≡ earlier ++ record { who = by; job = k; operation = Logged (LooksAt 5 a) } ∷ later → word_entries earlier ≡ [] → a ≡ 0 }
+    ensures other { (begin : Begin) (logs : List Log) (closed : ClosedServer) (order : HaveOneOrder begin logs closed) (j k who by a : ℕ) (earlier later : List FiledEntry)
+        → order.calls ≡ earlier ++ record { who = by; job = k; operation = Logged (LooksAt 5 a) } ∷ later
+        → word_entries earlier ≡ record { who = who; job = j; operation = Logged (RaisesWord 6 7) } ∷ [] → a ≡ 0 }
+    ensures greatest { (begin : Begin) (logs : List Log) (closed : ClosedServer) (order : HaveOneOrder begin logs closed) (i j k one other by a : ℕ) (earlier later : List FiledEntry)
+        → order.calls ≡ earlier ++ record { who = by; job = k; operation = Logged (LooksAt 5 a) } ∷ later
+        → word_entries earlier ≡ record { who = one; job = i; operation = Logged (RaisesWord 5 7) } ∷ record { who = other; job = j; operation = Logged (RaisesWord 5 4) } ∷ [] → a ≡ 7 }
 {}

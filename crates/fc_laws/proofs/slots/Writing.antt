@@ -143,10 +143,13 @@ post_wants : (m : Method) (b : Bool) → m ≡ Post → b ≡ true → (is_post 
 post_wants Get b p e = absurd (cc)
 post_wants Post b p e = e
 
+pub wanted : (t : Ticket) → t.request.method ≡ Post → code_class (meaning_at t).code ≡ 2 → wants t ≡ true
+wanted t post class = post_wants t.request.method (code_class (meaning_at t).code == 2) post (eq-eqb (code_class (meaning_at t).code) 2 class)
+
 written_outcome : (h : History) (k n : ℕ) (t : Ticket) → stage (seen h) k ≡ ToCommit n t → IsWritten h k t → outcome t (slot_at (seen h) (slot_of (seen h) k)) ≡ Writes
 written_outcome h k n t is w =
     let slot = slot_at (seen h) (slot_of (seen h) k) in
-    ap (λ (b : Bool). outcome_by b (slot.serial == t.serial) (nat_lt slot.serial last_serial)) (post_wants t.request.method (code_class (meaning_at t).code == 2) w.post (eq-eqb (code_class (meaning_at t).code) 2 w.class))
+    ap (λ (b : Bool). outcome_by b (slot.serial == t.serial) (nat_lt slot.serial last_serial)) (wanted t w.post w.class)
     ∙ (ap (λ (b : Bool). outcome_by true b (nat_lt slot.serial last_serial)) (eq-eqb slot.serial t.serial (same_serial h k n t is w.unchanged))
     ∙ ap (λ (b : Bool). outcome_by true true b) (lt-ltb slot.serial last_serial w.below))
 

@@ -4,6 +4,7 @@ use Rattle.fc_core.specs.History.{Seen, inputs, slot_at, stage}
 use Rattle.fc_core.specs.Steps.{RefusesChange}
 use Rattle.fc_core.specs.Transitions.{call_if, effect_of}
 use Rattle.fc_laws.proofs.jobs.NoOps.{refused_moves, with_stage}
+use Rattle.fc_laws.proofs.slots.Unsaved.{install_stays, made_stays, read_stays, removal_refused, write_refused}
 use Rattle.fc_laws.proofs.laws.unsaved_changes_are_refused.Goals as goal
 
 pub returns-clause-alone : goal.returns-clause-alone
@@ -15,3 +16,18 @@ returns-clause-finds c = λ s k n o. ap (λ (x : Seen). slot_at x n) (refused_mo
 
 pub returns-clause-emitted : goal.returns-clause-emitted
 returns-clause-emitted c = λ s k o emits. emits
+
+pub returns-clause-removal : goal.returns-clause-removal
+returns-clause-removal c = removal_refused
+
+pub returns-clause-writes : goal.returns-clause-writes
+returns-clause-writes c = write_refused
+
+pub returns-clause-reads : goal.returns-clause-reads
+returns-clause-reads c = read_stays
+
+pub returns-clause-made : goal.returns-clause-made
+returns-clause-made c = made_stays
+
+pub returns-clause-install : goal.returns-clause-install
+returns-clause-install c = install_stays

@@ -1,5 +1,14 @@
-use Rattle.fc_workers.proofs.TwoLooks.{found_after}
+use Rattle.fc_workers.proofs.TwoLooks.{found_after, found_before, found_greatest, found_other}
 use Rattle.fc_workers.proofs.laws.a_look_finds_the_raises_before_it.Goals as goal
 
-pub returns : goal.returns
-returns c = found_after
+pub returns-clause-least : goal.returns-clause-least
+returns-clause-least c = found_after
+
+pub returns-clause-before : goal.returns-clause-before
+returns-clause-before c = found_before
+
+pub returns-clause-other : goal.returns-clause-other
+returns-clause-other c = found_other
+
+pub returns-clause-greatest : goal.returns-clause-greatest
+returns-clause-greatest c = found_greatest

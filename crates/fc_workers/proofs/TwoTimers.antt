@@ -1,0 +1,59 @@
+-- The right tracks of two jobs of timers.
+use Rattle.std.proofs.Common.{ℕ, ◌≤◌, false, [], ◌∷◌, refl, subst, inl, inr, arith}
+use Rattle.std.proofs.lemmas.List.Elements.{All-cons, All-nil}
+use Rattle.fc_book.specs.Tracks.{HasKey, entries_at, own_view, track}
+use Rattle.fc_core.specs.Stage.{ToTake}
+use Rattle.fc_core.specs.Timers.{timer_job}
+use Rattle.fc_linear.specs.Parts.{HaveNextNumbers, bringing}
+use Rattle.fc_filed.specs.Books.{IsRightForJob}
+use Rattle.fc_filed.specs.Entries.{log_of}
+use Rattle.fc_filed.specs.JobTracks.{HasJobAt, HasLedJob}
+use Rattle.fc_filed.proofs.JobTracks.{led_right}
+use Rattle.fc_workers.specs.declared.call_log.CallLog.{CallLog}
+use Rattle.fc_workers.specs.Filed.{HasRightJobs}
+use Rattle.fc_workers.specs.LegalOrder.{BringsInOrder, HaveRightTracks, timer_entry}
+use Rattle.fc_workers.specs.Logs.{TrackedLog}
+
+-- the log of the thread, which has fired the timers of slots 5 and 6.
+abbrev two_fired : CallLog → TrackedLog
+two_fired calls = record {
+  calls = calls;
+  who = 9;
+  tracks = record {
+    locked = [];
+    may_begin = false;
+    next = 0;
+    own = track 11 (timer_entry 11 6 ∷ []) ∷ track 10 (timer_entry 10 5 ∷ []) ∷ track 9 (timer_entry 10 5 ∷ timer_entry 11 6 ∷ []) ∷ [];
+  };
+}
+
+led_at : (job slot : ℕ) → HasLedJob (timer_job slot) (ToTake 0) (timer_entry job slot ∷ [])
+led_at job slot = (refl, refl)
+
+right_at : (calls : CallLog) (k : ℕ) → 10 ≤ k → HasKey k (two_fired calls).tracks.own → IsRightForJob 10 (entries_at k (two_fired calls).tracks.own)
+right_at calls k le (inl e) = subst (λ (n : ℕ). IsRightForJob 10 (entries_at n (two_fired calls).tracks.own)) e (led_right 10 9 (timer_job 6) (timer_entry 11 6 ∷ []) (ToTake 0) (led_at 11 6))
+right_at calls k le (inr (inl e)) = subst (λ (n : ℕ). IsRightForJob 10 (entries_at n (two_fired calls).tracks.own)) e (led_right 10 9 (timer_job 5) (timer_entry 10 5 ∷ []) (ToTake 0) (led_at 10 5))
+right_at calls k le (inr (inr (inl e))) = absurd (omega (arith, le, e))
+right_at calls k le (inr (inr (inr h))) = absurd h
+
+in_order : (calls : CallLog) → BringsInOrder 10 9 (two_fired calls)
+in_order calls = record { own = λ same. (refl, (refl, tt)); none = λ differs. absurd (differs refl) }
+
+pub has_right_tracks : (calls : CallLog) → HaveRightTracks 10 (two_fired calls ∷ [])
+has_right_tracks calls = record {
+  above = omega arith;
+  jobs = All-cons (λ (log : TrackedLog). HasRightJobs 10 log.tracks) (two_fired calls) [] (right_at calls) (All-nil (λ (log : TrackedLog). HasRightJobs 10 log.tracks));
+  empty = λ k le lt. absurd (omega (arith, le, lt));
+  dispatcher = 9;
+  has_log = (0, two_fired calls, omega arith, refl, refl);
+  brought = All-cons (BringsInOrder 10 9) (two_fired calls) [] (in_order calls) (All-nil (BringsInOrder 10 9));
+}
+
+pub first_at : HasJobAt 10 (timer_job 6) (ToTake 0) (own_view 11 (timer_entry 11 6 ∷ []))
+first_at = record { key = omega arith; led = led_at 11 6 }
+
+pub not_shared : IsRightForJob 10 (timer_entry 10 5 ∷ timer_entry 10 6 ∷ []) → ⊥
+not_shared right = right.2.1
+
+pub not_turned : HaveNextNumbers 0 (bringing (log_of 10 (timer_entry 11 6 ∷ timer_entry 10 5 ∷ []))) → ⊥
+not_turned numbered = absurd (cc numbered.0)
