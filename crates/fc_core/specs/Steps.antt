@@ -37,7 +37,7 @@ pub data Call : Type 0 where
   -- no install, since memory was refused.
   Refuses : Call
   Removes : (removal : Removal) → Call
-  -- no change of the job's slot at this stage, since the change wasn't saved.
+  -- no change of the job's slot: the change that the job would make at stage `at` can't be saved.
   RefusesChange : (at : Stage) → Call
   Describes : (receipt : Option Receipt) → Call
   -- raise the head word of the job's slot; `content` is the answer that the job gives then.

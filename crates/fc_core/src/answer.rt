@@ -23,8 +23,8 @@ pub enum End {
     Missing,
     /// The service is unavailable.
     ///
-    /// The slot is at its last serial, memory couldn't be allocated, or the slot changed since the
-    /// job's eighth snapshot.
+    /// The slot is at its last serial, memory couldn't be allocated, the slot changed since the
+    /// job's eighth snapshot, or the change can't be saved.
     Unavailable,
     /// A program was installed; `true` if the slot was empty before.
     Made(Receipt, bool),

@@ -1,6 +1,7 @@
 //! Head words: the published states of the slots.
 //!
-//! [`Heads`] has the head words of a server on one thread; those of the workers are in `fc_heads`.
+//! [`Heads`] has the head words of a server on one thread. Those of a server with workers are words
+//! of its book (`fc_filed`).
 ghost use Rattle.std.specs.Prelude.{◌≡◌, ◌≤◌, ◌<◌};
 ghost use Rattle.fc_registry.specs.Slots.{last_serial};
 ghost use Rattle.fc_core.specs.Heads as spec;

@@ -234,7 +234,7 @@ impl Stage {
         self.step = Step::ToAnswer;
     }
 
-    /// Continues after a failed allocation, a refused change, or at the last serial.
+    /// Continues after a failed allocation or a refused change, or at the last serial.
     ///
     /// The answer is 5.03.
     pub fn unavailable(&mut self)

@@ -188,10 +188,11 @@ impl Task {
         }
     }
 
-    /// Refuses the change of the job's slot, since it can't be saved: the job is answered 5.03.
+    /// Refuses the change of the job's slot, which can't be saved.
     ///
-    /// The change is a removal, or the commit of a run that wants to write. The snapshot's program
-    /// runs in `frame` to decide whether it wants to; any other run isn't refused. No slot changes.
+    /// The change is a removal, or the commit of a run that wants to write. The job's answer is
+    /// then 5.03. At a commit, the snapshot's program runs in `frame`. If the run doesn't want to
+    /// write, or at any other stage, nothing changes. No slot changes.
     pub fn refuse(&mut self, frame: &mut Frame)
         ensures { (k : ℕ) (shard : Shard) → TaskMoves (Event.Refuse k) shard self.old self.new }
     {

@@ -20,7 +20,7 @@ abbrev pub HasLedJob : Job → Stage → List FiledEntry → Type 0
 HasLedJob job stage [] = ⊥
 HasLedJob job stage (e ∷ es) = (job_brought e.operation ≡ Some job) × LeadJob job es (first_stage job) stage
 
--- the first of the owner's tracks is that of the job, which is at this stage.
+-- the owner's first track is the job's, and the job is at this stage.
 pub record HasJobAt (first_job : ℕ) (job : Job) (stage : Stage) (v : BookView FiledEntry) : Type 0 where
   pub key : first_job ≤ key_of_first v.own
   pub led : HasLedJob job stage (entries_of v.own)

@@ -72,8 +72,8 @@ abbrev pub greatest_word : ℕ → List FiledEntry → ℕ
 greatest_word slot [] = 0
 greatest_word slot (e ∷ es) = max (word_in slot e.operation) (greatest_word slot es)
 
--- the greatest word of a slot that the owner of these tracks knows, or 0: the greatest such word in
--- their entries.
+-- the greatest word of a slot in the entries of these tracks, or 0. The owner of the tracks knows
+-- this word.
 abbrev pub known_word : ℕ → List (Track FiledEntry) → ℕ
 known_word slot [] = 0
 known_word slot (t ∷ ts) = max (greatest_word slot t.entries) (known_word slot ts)

@@ -262,9 +262,9 @@ impl<J: ServerName> ServerTracks<J> {
 
     /// Returns the head word of `slot`, 0 to 63, and files the read.
     ///
-    /// The result is no less than a word of the slot in an entry on these tracks: one that was read,
-    /// or to which the word was raised. The entry is filed for thread `who` and for the job whose
-    /// track is first. No lock is taken.
+    /// The result is at least every word of the slot that the entries on these tracks read, or to
+    /// which they raised the word. The entry is filed for thread `who` and for the job whose track
+    /// is first. No lock is taken.
     pub fn look(&mut self, book: &ServerBook<J>, who: u64, slot: usize) -> u64
         requires slot { slot < 64 }
         requires thread { HasOwnTrack J.first_job who self.old }
@@ -287,7 +287,7 @@ impl<J: ServerName> ServerTracks<J> {
         raise_as::<Brand, J>(book, self, who, slot, word);
     }
 
-    /// Files that the image of an install's `job` breaks a rule.
+    /// Files the rejection of the image of `job`, an install.
     ///
     /// `answer` is the job's answer. The entry is filed for thread `who` and for the job whose
     /// track is first.
@@ -299,7 +299,7 @@ impl<J: ServerName> ServerTracks<J> {
         reject_as::<Brand, J>(book, self, who, job, answer);
     }
 
-    /// Files that memory for the program of an install's `job` is refused.
+    /// Files that memory for the program of `job`, an install, can't be allocated.
     ///
     /// The entry is filed for thread `who` and for the job whose track is first.
     pub fn lack_memory(&mut self, book: &ServerBook<J>, who: u64, job: &Job)
@@ -329,7 +329,7 @@ fn file_alone_as<X: FiledName, J: ServerName>(
     steps::file_alone::<X>(&book.words, &mut tracks.seat);
 }
 
-/// Files that the image of an install's `job` breaks a rule.
+/// Files the rejection of the image of `job`, an install.
 ///
 /// `X` names the entry. It becomes the last one on the tracks of thread `who` and of the job. See
 /// [`ServerTracks::reject_image`].
@@ -349,7 +349,7 @@ fn reject_as<X: FiledName, J: ServerName>(
     file_alone_as::<X, J>(book, tracks, who);
 }
 
-/// Files that memory for the program of an install's `job` is refused.
+/// Files that memory for the program of `job`, an install, can't be allocated.
 ///
 /// `X` names the entry. It becomes the last one on the tracks of thread `who` and of the job. See
 /// [`ServerTracks::lack_memory`].

@@ -13,9 +13,9 @@
 //! on. From the *first job's* key on, each job has a key of its own. The rule is
 //! `HaveServerHistory` (`specs/Books.antt`).
 //!
-//! The server of `fc_workers` has its front and its shards under their locks in this form. Its
-//! reads and raises of head words aren't filed yet, and its jobs have no tracks of their own: once
-//! both are, the calls of all workers are one legal history.
+//! The server of `fc_workers` has its front and its shards under their locks in this form, and its
+//! head words are those of its book. Its jobs have no tracks of their own yet. So no contract
+//! guarantees that the calls of all its threads are one legal history.
 //!
 //! ```rust
 //! ghost use Rattle.std.specs.Prelude.{◌≡◌};
@@ -51,9 +51,9 @@
 //! - Two kinds of calls leave the shard unchanged and aren't filed: an advance of a shard that
 //!   isn't idle, and a call by `FiledShard::inspect`.
 //! - A look at a head word and a raise are entries too, made in the step itself. The history's
-//!   looks and raises lead the head words from 0 to those of the table. A look returns no less than
-//!   a word of its slot in the entries on the owner's tracks, whichever track it is on. A rejected
-//!   image and refused memory are also entries; they belong to no part.
+//!   looks and raises lead the head words from 0 to those of the table. A look returns at least
+//!   every word of its slot in the entries on the owner's tracks, whichever track it is on. A
+//!   rejected image and refused memory are also entries; they belong to no part.
 //! - Under every schedule there is one history, and each track has exactly the entries with its
 //!   key. No track has two owners. The keys of each entry are of their kind.
 //! - A job's track that no thread has, such as that of a lost message, is right for its job.
@@ -64,8 +64,8 @@
 //! - The same holds for an attested history if its owner has the tracks of all parts and threads,
 //!   and the jobs came in the order of their keys.
 //!
-//! Not proved yet: that a server's threads make such tracks for its jobs. That takes the workers'
-//! own contracts.
+//! Not proved yet: that a server's threads make such tracks for its jobs. `fc_workers` proves that
+//! a worker keeps a job's track right if it received the track at the job's first stage.
 //!
 //! By the contracts of `FiledFront`, `FiledShard`, `FiledCall`, `ServerTracks`, `file_as`, `laws`.
 #![tactic(auto)]

@@ -37,12 +37,15 @@ use Rattle.fc_calls.specs.Logged.{TakesForJob, CommitsRun, InstallsProgram, Remo
 use Rattle.fc_calls.specs.Doings.{AdvancesTo, AnswersAt, CommitsAt, DescribesTo, DrawsAt, FiresAt, GivesTurnAt, GivesUpAt, HandsOn, HandlesAt, InstallsTo, NotesAt, PassesIfIdle, RemovesFrom, TakesTo, TicksAt}
 use Rattle.fc_calls.specs.Doings.{SaysFound}
 
--- a call in a thread's log, an image that isn't installed, or a change that isn't saved. Such an
--- image breaks a rule, or memory for it is refused.
+-- an operation of a thread.
 pub data Operation : Type 0 where
+  -- a call in the thread's log.
   Logged : (call : LoggedCall) → Operation
+  -- the image of an install breaks a rule; `content` is the answer.
   RejectsImage : (job : Job) (content : Content) → Operation
+  -- memory for the program of an install can't be allocated.
   LacksMemory : (job : Job) → Operation
+  -- the change of the job's slot can't be saved.
   FailsToSave : (job : Job) → Operation
 
 -- an operation, with the number of its job; the number has no meaning if the operation is for no

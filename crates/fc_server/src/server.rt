@@ -302,7 +302,9 @@ impl Server {
 
     /// Applies `Refuse`: refuses the change of a task's slot, since the change can't be saved.
     ///
-    /// The task is then answered 5.03, and nothing else changes. See [`Task::refuse`].
+    /// If the task is at a removal, or at the commit of a run that wants to write, its answer is
+    /// then 5.03. Otherwise, nothing changes. No other part of the server changes. See
+    /// [`Task::refuse`].
     pub fn refuse(&mut self, task: &mut Task)
         requires { AtWork self.old task.old }
         ensures { (k : ℕ) → Does (Event.Refuse k) self.old task.old self.new task.new None }

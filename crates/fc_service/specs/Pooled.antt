@@ -122,8 +122,8 @@ module _ {T : Type 0} (s : WorkerView T) where
 
   -- the driver fed the dispatcher in this way, with this number of workers. The replies are those
   -- of the dispatcher's own jobs and of the workers'. The calls that the workers and the dispatcher
-  -- filed have one order. The front's, and each shard's, led from the first one of the server to the
-  -- closed server's. The looks at head words and the raises led the words from 64 zeros.
+  -- filed have one order. The front's, and each shard's, led from the first one of the server to
+  -- the closed server's. The looks at head words and the raises led the words from 64 zeros.
   pub record IsFedBeside {F X : Type 0} (Drives : IngressCalls (PooledIngress T) → F → PooledIngress T → PooledIngress T → X → Type 0) (begin : Begin) (offload : Offload) (workers : ℕ) (driver : F) (given : X) (replies : Replies) (closed : ClosedServer) : Type 0 where
     pub own : Share T
     pub shares : List (Share T)

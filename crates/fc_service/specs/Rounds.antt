@@ -77,7 +77,8 @@ abbrev pub EndsInTime : (ℕ → ℕ → Type 0) → ℕ → Bool → Option ℕ
 EndsInTime StaysIdle now false wait = wait ≡ Some 100
 EndsInTime StaysIdle now true wait = (time : ℕ) × AreIdleUntil StaysIdle time × (wait ≡ wait_until now time)
 
--- a wait, shortened to this number of milliseconds if it is longer. `None` is without limit.
+-- a wait of at most `ms` milliseconds: the given wait, or `ms` if that is less. `None` is a wait
+-- without limit.
 abbrev pub no_longer_than : ℕ → Option ℕ → Option ℕ
 no_longer_than ms None = Some ms
 no_longer_than ms (Some wait) = Some (min wait ms)

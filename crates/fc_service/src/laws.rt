@@ -80,7 +80,8 @@ pub fn longest_period_is_a_day()
 
 /// A timer has a period of 1 ms to a day, and a slot of 0 to 63.
 ///
-/// `1:0` and `1000:63` are the texts of timers. `0:7`, `86400001:7` and `1000:64` are those of none.
+/// `1:0` and `1000:63` are the texts of timers. `0:7`, `86400001:7` and `1000:64` are those of
+/// none.
 pub fn timers_have_periods_and_slots()
     ensures shortest { IsTimerText (codes "1:0") (record { every = 1; slot = 0; due = 1; offloaded = false }) }
     ensures last { IsTimerText (codes "1000:63") (record { every = 1000; slot = 63; due = 1000; offloaded = false }) }
@@ -173,10 +174,10 @@ pub fn served_rounds_are_one_history<Z: Sensors, S: Source, M: TimeSource, K: Si
 /// All rounds of a server on one thread with timers are one history of events.
 ///
 /// Exactly the received datagrams are delivered, as without timers. In each round the timers that
-/// are due fire first: each of them once, for its own slot, at the round's time, and no other. It is
-/// due at its next beat after that, so a round fires no timer early, and none twice for one beat.
-/// The emissions of the events are those that the rounds passed to the sink. At its start no timer
-/// has a job at a worker.
+/// are due fire first: each of them once, for its own slot, at the round's time, and no other. It
+/// is due at its next beat after that, so a round fires no timer early, and none twice for one
+/// beat. The emissions of the events are those that the rounds passed to the sink. At its start no
+/// timer has a job at a worker.
 pub fn timed_rounds_are_one_history<
     Z: Sensors,
     S: Source,
@@ -192,8 +193,8 @@ pub fn timed_rounds_are_one_history<
 
 /// All rounds of a server on one thread with reports are one history of events.
 ///
-/// A report is no event: the arrivals and emissions are those of a server without reports, with
-/// timers and without.
+/// A report isn't an event, so the history is as without reports. `untimed` is of a server without
+/// timers, `timed` of one with timers.
 pub fn reported_rounds_are_one_history<
     Z: Sensors,
     S: Source,
@@ -254,8 +255,8 @@ pub fn due_timers_fire_in_order<N: Ingress>()
 /// A timer skips a beat only if its last job was sent to a worker.
 ///
 /// A timer of slot 7 that is due at 5,000 ms fires once in a round at 5,300 ms, by one call of the
-/// server, for slot 7. If its last job was sent to a worker, it fires once or skips the beat, and is
-/// due at 6,000 ms in either case.
+/// server, for slot 7. If its last job was sent to a worker, it fires once or skips the beat, and
+/// is due at 6,000 ms in either case.
 pub fn timers_skip_beats_only_for_a_worker<N: Ingress>()
     ensures free { (t u : Timer) (before after : N) → t.due ≡ 5000 → t.offloaded ≡ false → FiresIfDue N.calls 5300 t u before after
         → (outcome : FireOutcome) × N.calls.fires t.slot 5300 before after outcome × (u ≡ record (put_off 5300 t) { offloaded = is_offloaded outcome }) }
@@ -296,9 +297,9 @@ pub fn waits_end_when_a_timer_is_due<N: Ingress>()
 ///
 /// Timers are due at 5,000 and 7,000 ms, and the server that they fire has no timer of its own.
 /// After a round at 4,190 ms that ended at 4,200 ms the next receive waits 100 ms if a datagram was
-/// received, and 50 ms after one that ended at 4,950 ms. If none was received and no shard has work,
-/// it waits 800 ms. With timers the clock is read at the end of each round, and without timers it
-/// isn't.
+/// received, and 50 ms after one that ended at 4,950 ms. If none was received and no shard has
+/// work, it waits 800 ms. With timers the clock is read at the end of each round, and without
+/// timers it isn't.
 pub fn receives_end_when_a_timer_is_due<N: Ingress>()
     ensures received { (f : Firing N) (t u : Timer) (r : Round) (rs : List Round) (wait : Option ℕ) → t.due ≡ 5000 → u.due ≡ 7000 → f.timers ≡ t ∷ u ∷ []
         → ((own : ℕ) → N.calls.is_first_due f.ingress own → own ≡ 18446744073709551615) → r.now ≡ 4190 → r.ended ≡ Some 4200 → is_none r.received ≡ false
@@ -383,8 +384,8 @@ pub fn replies_of_all_threads_are_counted<
 
 /// The one order of a server with workers has its dispatcher's calls, with timers and reports too.
 ///
-/// The dispatcher's log is the one that the last round left: of a server that reports its counts, of
-/// one that has timers, and of one that does both.
+/// The dispatcher's log is the one that the last round left. `reported` is of a server with
+/// reports, `timed` of one with timers, and `both` of one with both.
 pub fn the_order_has_the_dispatchers_calls<
     Z: Sensors,
     S: Source,

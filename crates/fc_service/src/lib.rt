@@ -52,8 +52,8 @@
 //!   Each fires by one call of the server, for its own slot, at the round's time, and is next due
 //!   at its first beat after that. A timer skips a beat only if its last job was sent to a worker
 //!   (`serve_timed`, by `HasRunTimed`, whose calls are `fired_calls`). The contract doesn't say
-//!   that this job is running then. Tests show that the timer goes on once its job has ended. Without
-//!   timers the server is called directly.
+//!   that this job is running then. Tests show that the timer goes on once its job has ended.
+//!   Without timers the server is called directly.
 //! - **The options of `fcd serve`** are the values that the command line gives (`serve_options`, by
 //!   `AreServeOptions`). Their defaults are tested.
 //! - **A server that returns its source has run that loop**, with one worker or more. A limit was
@@ -71,9 +71,9 @@
 //! - **One history**: all rounds of a server on one thread, or all lines that it plays, are one
 //!   history of events. Exactly the datagrams that came are delivered, in order. Exactly the
 //!   emissions of the history's events were passed to the sink, or are printed, in that order. Each
-//!   datagram is delivered at the time of its round or line. If none came, time passes at this time.
-//!   With timers the history also has exactly the events of the timers that were due, before their
-//!   round's datagram. The same holds with reports (`laws`).
+//!   datagram is delivered at the time of its round or line. If none came, time passes at this
+//!   time. With timers the history also has exactly the events of the timers that were due, before
+//!   their round's datagram. The same holds with reports (`laws`).
 //! - **With more workers** a dispatcher handles each datagram, in order, and each lease that some
 //!   shard gave. Nothing else in a round changes the dispatched jobs (`serve_at`, by
 //!   `HasServedPooled`; `run_pool` passes on its driver's effects, by `IsFedBeside`). The
@@ -90,8 +90,8 @@
 //!   The front's lead from the server's first front to its last, and each shard's from its first
 //!   shard to its last. The looks and the raises lead the head words from 64 zeros (`run_pool`, by
 //!   `HaveOneOrder`). `serve_at` says so of its dispatcher and of *some* shares of its workers, to
-//!   *some* closed server, and so does `play_by_workers`. With reports and timers the dispatcher's
-//!   calls are those of its rounds too (`laws`).
+//!   *some* closed server, and so does `play_by_workers`. With reports and timers too, the
+//!   dispatcher's log is the one that its last round left (`laws`).
 //! - **A pool** returns at its end the front and eight shards. For each shard it also returns the
 //!   serial that its slots began with, and the number of their changes. The serials of each shard
 //!   have risen by exactly these numbers, which are reported up to 2^64 - 1. The filed
@@ -112,8 +112,8 @@
 //!   the calls' results, in both kinds of servers. On one thread the gauges are the server's. With
 //!   workers they are those of some state of its front and of each shard, and the number of jobs
 //!   that were sent is the dispatcher's. Each wait ends when a report is due, or up to 100 ms later
-//!   (`serve_at`, by `HasRunReported`, whose calls are `reported_calls`). A report is no event of the
-//!   history. Without a period, the server is called directly, and nothing is counted.
+//!   (`serve_at`, by `HasRunReported`, whose calls are `reported_calls`). A report is no event of
+//!   the history. Without a period, the server is called directly, and nothing is counted.
 //! - **Replies** of a server on a socket are counted and added exactly, up to 2^64 - 1, and written
 //!   as `sent S failed F`. They are those of the rounds, of each worker's jobs and of the
 //!   dispatcher's own. A test shows that this is logged.

@@ -170,7 +170,7 @@ impl<'a, 'b, R: Wait, B: Bench, G: Gate, W: Wire, M: TimeSource> Ingress
     }
 }
 
-/// The result of a driver, and its ingress as the last call left it.
+/// The ingress that a driver returns at its end, and the driver's result.
 pub struct Driven<N: Ingress, X: Drop> {
     pub ingress: N,
     pub given: X,
@@ -250,8 +250,10 @@ impl Gate for Open {
 /// Makes a server with empty slots, and runs its workers and a driver to their end.
 ///
 /// Each worker runs on its own thread, and the driver on the calling thread. Then the server is
-/// closed: the serials of each shard have risen by exactly the counted changes. If no thread can be
-/// created for a worker, the driver's thread runs all jobs, and this is written to `err`.
+/// closed: the serials of each shard have risen by exactly the counted changes. The filed calls of
+/// the workers and of the driver's dispatcher have one order. It leads from the new server to the
+/// closed one (`HaveOneOrder`). If no thread can be created for a worker, the driver's thread runs
+/// all jobs, and this is written to `err`.
 ///
 /// # Errors
 /// Returns `AllocError` if memory for the server, the workers or their statistics can't be

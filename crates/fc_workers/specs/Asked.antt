@@ -50,8 +50,8 @@ IsShardCall first index Does call before after = IsAsked first index Does × (af
 abbrev pub shard_called : ℕ → ℕ
 shard_called index = min index 7
 
--- the meaning of a call in a worker's log: its readings are the device's, or the front, a shard or a
--- head word was called. All but the readings are filed.
+-- the meaning of a call in a worker's log. The call got the device's readings, called the front or
+-- a shard, or read or raised a head word. Each call is filed, except the one for readings.
 abbrev pub IsLoggedCall : Beginning → (List ℕ → CallLog → CallLog → Type 0) → LoggedCall → TrackedLog → TrackedLog → Type 0
 IsLoggedCall first AreReadings (GivesReadings readings) before after = IsUnfiled (AreReadings readings) before after
 IsLoggedCall first AreReadings (TellsReceipt job receipt) before after = IsShardCall first (job.origin.slot % 8) (λ x y. DescribesTo job x receipt y) (TellsReceipt job receipt) before after

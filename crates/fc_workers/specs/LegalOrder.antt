@@ -25,8 +25,8 @@ HaveEmptyTrack k logs = Any (λ (log : TrackedLog). HasKey k log.tracks.own × (
 abbrev pub brought_in : ℕ → TrackedLog → List LogEntry
 brought_in first log = bringing (log_of first (filed_in log))
 
--- the thread with key `dispatcher` produced its jobs in the order of their keys, from `first` on. Any
--- other thread has produced none.
+-- the thread with key `dispatcher` produced its jobs in the order of their keys, from `first` on.
+-- Any other thread has produced none.
 pub record BringsInOrder (first dispatcher : ℕ) (log : TrackedLog) : Type 0 where
   pub own : log.who ≡ dispatcher → HaveNextNumbers 0 (brought_in first log)
   pub none : log.who ≢ dispatcher → brought_in first log ≡ []

@@ -38,8 +38,8 @@ pub record HasTracksOf (first_job : ℕ) (logs : List TrackedLog) (v : BookView 
 -- thread, and each call is by a thread with one of the logs. The calls of the front lead from the
 -- server's first front to the closed one, and those of each of the eight shards from the server's
 -- first shard of its index to the closed one. The looks at head words and the raises lead the words
--- from 64 zeros to their last values. Each track of a log has exactly the calls with its key. A job
--- whose track no log has, such as that of a lost message, has a right track.
+-- from 64 zeros to their last values. Each track of a log has exactly the calls with its key. A
+-- job's track that no log has is right; the track of a lost message is an example.
 pub record HaveOneOrder (begin : Begin) (logs : List TrackedLog) (closed : ClosedServer) : Type 0 where
   pub calls : List FiledEntry
   pub tracks : All (λ (log : TrackedLog). HasKey log.who log.tracks.own) logs

@@ -25,7 +25,8 @@ abbrev pub with_tracks : BookView FiledEntry → TrackedLog → TrackedLog
 with_tracks v log = record log { tracks = merged_with log.tracks v }
 
 module _ {T : Type 0} (first_job : ℕ) (s : WorkerView T) where
-  -- the worker received the job with its one track, and ran the job from its first stage to its end.
+  -- the worker received the job with its one track, and ran the job from its first stage to its
+  -- end.
   pub record IsReceivedWorked (r : ReceivedJob) (before after : Share T) : Type 0 where
     pub at : HasJobAt first_job r.job (first_stage r.job) r.tracks
     pub one : other_tracks r.tracks.own ≡ []

@@ -80,9 +80,10 @@ module _ {T : Type 0} (s : WorkerView T) where
 
   -- a call for the job with this number leads from the log `before` to the log `after`. A match
   -- reads the head word of the job's slot, for the request's ETags. A list reads the head word of
-  -- the next slot. A raise publishes the head word of the job's slot. An installed program is safe. A
-  -- rejection and a refused allocation are those of the job's image, and are filed. The result of any
-  -- other call is that of some slot. Answers, losses and the calls of a lease are no such calls.
+  -- the next slot. A raise publishes the head word of the job's slot. An installed program is safe.
+  -- A rejection and a refused allocation are those of the job's image, and are filed. The result of
+  -- any other call is that of some slot. Answers, losses and the calls of a lease are no such
+  -- calls.
   abbrev pub IsCallOf : ℕ → Job → Call → TrackedLog → TrackedLog → Type 0
   IsCallOf number job (Matches serials word) before after = (serials ≡ job.etags.items) × s.logged (LooksAt job.origin.slot word) before after
   IsCallOf number job (Lists seen word) before after = s.logged (LooksAt (length seen.items) word) before after

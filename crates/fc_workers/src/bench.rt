@@ -40,13 +40,15 @@ use std::sync::{Arc, Wait};
 /// Any number of workers may call at a time. A server guards the front and each shard with a lock,
 /// for which a call may wait. The result of a call is that of the shard at some slot. No clause
 /// here relates the slots of two calls, since other threads may change them in between. An
-/// implementation states the effects of its calls.
+/// implementation states the effects of its calls. It has to file each logged call, except the one
+/// for readings (`files`).
 ///
 /// Each worker passes tallies of its own. They count the changes of each shard that the results of
 /// the worker's calls report, and the jobs that the worker ended. A worker passes its log to each
 /// call that may change something, or whose result is soon out of date. So a clause can state which
 /// of these calls the worker made, and in which order. The log has the worker's tracks in the
-/// server's book, on which an implementation files the calls of its front, shards and head words.
+/// server's book. On them an implementation files the calls of its front, shards and head words,
+/// and images that aren't installed.
 pub trait Bench {
     /// The counts of one worker's changes, and of the jobs that it ended.
     type Tallies: Drop;
@@ -68,7 +70,7 @@ pub trait Bench {
     // before and after.
     ghost logged: { LoggedCall → Log → Log → Type 0 };
 
-    // Each of these calls but that for readings is filed on the worker's tracks.
+    // Each of these calls, except the one for readings, is filed on the worker's tracks.
     ghost files: { FilesEach logged };
 
     /// Handles a datagram, at a time in milliseconds.
@@ -323,8 +325,8 @@ pub trait Bench {
 
     /// Returns the head word of a slot, without a lock.
     ///
-    /// It is no less than a word of that slot that the worker knows: one that a look with this log
-    /// returned, or to which the worker raised the word. The worker then knows the result. See
+    /// The result is at least every word of the slot that the worker knows: those that its looks
+    /// returned, and those to which it raised the word. The worker then knows the result. See
     /// [`ServerTracks::look`](fc_filed::ServerTracks::look).
     fn peek(&self, slot: SlotNumber, log: &mut TrackLog<Self::Book>) -> u64
         ensures rises { known_word slot log.old.tracks.own ≤ result }
@@ -339,13 +341,13 @@ pub trait Bench {
         ensures knows { known_word job.now.origin.slot log.new.tracks.own ≡ max (known_word job.now.origin.slot log.old.tracks.own) word }
         ensures logged { logged (RaisesWord job.now.origin.slot word) log.old log.new };
 
-    /// Files that the image of an install's `job` breaks a rule.
+    /// Files the rejection of the image of `job`, an install.
     ///
     /// `answer` is the job's answer. No part of the server is called.
     fn reject_image(&self, job: &Job, answer: &Answer, log: &mut TrackLog<Self::Book>)
         ensures { HasFiled (RejectsImage job.now answer.now) log.old log.new };
 
-    /// Files that memory for the program of an install's `job` is refused.
+    /// Files that memory for the program of `job`, an install, can't be allocated.
     ///
     /// No part of the server is called.
     fn lack_memory(&self, job: &Job, log: &mut TrackLog<Self::Book>)

@@ -100,12 +100,12 @@ pub fn two_threads_install_at_two_serials()
         → ((a ≡ 8) × (b ≡ 9)) ⊎ ((a ≡ 9) × (b ≡ 8)) }
 {}
 
-/// The operations that a worker files for a job leave each job's track right.
+/// A worker that runs a job to its end leaves the tracks of its jobs right.
 ///
-/// It holds for a worker that has its own track, if the job's track is first, and at the job's first
-/// stage. After the job it is at its end, `Gone`: the job's operations, from the call that produced
-/// it, are those that its stages need. The worker's operations for the job are also the last entries
-/// on its own track. The tracks of its other jobs are unchanged.
+/// The worker has its own track, and right tracks of jobs. The job's track is first, and the job is
+/// at its first stage. After the run the job is at `Gone`: the job's entries, from the call that
+/// produced it, are the operations that its stages need. The worker's entries for the job are also
+/// the last ones on its own track. The tracks of its other jobs are unchanged.
 pub fn worked_jobs_have_right_tracks<B: Bench, G: Gate, W: Wire, M: TimeSource>()
     ensures { (first_job number : ℕ) (job : Job) (before after : Done B.Tallies)
         → HasOwnTrack first_job before.log.who before.log.tracks → HasJobAt first_job job (first_stage job) before.log.tracks → HasRightJobs first_job before.log.tracks
@@ -113,12 +113,12 @@ pub fn worked_jobs_have_right_tracks<B: Bench, G: Gate, W: Wire, M: TimeSource>(
         → HasFiledFor first_job job (first_stage job) Gone before.log after.log × HasJobAt first_job job Gone after.log.tracks × HasRightJobs first_job after.log.tracks }
 {}
 
-/// A worker that receives jobs with right tracks, and runs each to its end, keeps its tracks right.
+/// A worker that receives and runs jobs with right tracks keeps its tracks right.
 ///
-/// It holds for a worker that has its own track. Each job comes with its track, which is at the job's
-/// first stage. After any number of jobs each job's track that the worker has is right for its job.
-/// None of the worker's own entries since then produces a job. The worker has the track of each job
-/// that it received.
+/// The worker has its own track. Each job comes with its track, is at its first stage, and is run
+/// to its end. After any number of jobs, each job's track that the worker has is right. The worker
+/// has the track of each job that it received. None of the entries that the worker filed since then
+/// produces a job.
 pub fn received_jobs_have_right_tracks<B: Bench, G: Gate, W: Wire, M: TimeSource>()
     ensures kept { (first_job : ℕ) (jobs : List ReceivedJob) (before after : Done B.Tallies)
         → HasOwnTrack first_job before.log.who before.log.tracks → HasRightJobs first_job before.log.tracks
@@ -130,11 +130,14 @@ pub fn received_jobs_have_right_tracks<B: Bench, G: Gate, W: Wire, M: TimeSource
         → All (λ (r : ReceivedJob). HasKey (key_of_first r.tracks.own) after.log.tracks.own) jobs }
 {}
 
-/// The one order of a closed server's calls is a legal history if the tracks of its jobs are right.
+/// The one order of a server's calls is a legal history if its jobs' tracks are right.
+///
+/// They are right if each is right for its job, and one thread produced all jobs in the order of
+/// their keys. Tracks of jobs with keys below `first` are empty.
 ///
 /// The history is that of the calls as events. Each snapshot in it that found a program has a
-/// meaning. The history's server is the closed one: its front, the slots, times and observers of its
-/// shards, and the head words at the end of the order.
+/// meaning. The history's server is the closed one: its front, the slots, times and observers of
+/// its shards, and the head words at the end of the order.
 pub fn right_tracks_make_a_legal_order()
     ensures { (begin : Begin) (logs : List Log) (closed : ClosedServer) (first : ℕ) (order : HaveOneOrder begin logs closed) → HaveRightTracks first logs
         → IsHistoryOf (history_on (begin_of begin) (log_of first order.calls)) (server_with closed order.words) }
@@ -164,8 +167,8 @@ pub fn two_timers_have_right_tracks()
 
 /// A worker still knows each head word that it knew before a logged call.
 ///
-/// So a later look of the worker returns no less than the earlier one, whatever calls it made in
-/// between.
+/// So, by `Bench::peek`, a later look of the worker returns at least the word of an earlier one, if
+/// the calls in between were logged.
 pub fn workers_forget_no_head_word<B: Bench>()
     ensures { (call : LoggedCall) (slot : ℕ) (before after : Log) → B.logged call before after
         → known_word slot before.tracks.own ≤ known_word slot after.tracks.own }

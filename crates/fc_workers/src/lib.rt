@@ -12,9 +12,9 @@
 //! its `Got` gained, and its tallies have risen by the changes that the results of its calls
 //! report. Each call that may change something, or whose result is soon out of date, gets the
 //! worker's log. So contracts state that these calls were made in this order, and no others with
-//! this log. A [`TrackLog`] also has the worker's tracks in the server's book, on which the server
-//! files the calls of its front and of its shards. Gates, transmitters and clocks get its
-//! [`CallLog`] alone.
+//! this log. A [`TrackLog`] also has the worker's tracks in the server's book. The server files on
+//! them the calls of its front, shards and head words, and images that aren't installed. Gates,
+//! transmitters and clocks get its [`CallLog`] alone.
 //!
 //! The contracts don't say which slot a call meets: a backend's implementation has to take the
 //! snapshot of the job's own slot. Nor do they say that a call returns, or when.
@@ -106,37 +106,38 @@
 //!   result of some front or shard. The time of the result is the given one or a later one. Each
 //!   change of a slot is counted on the worker's tally. Once the server is closed, the serials of
 //!   each shard have risen by exactly what was counted.
-//! - Each call of the front, and each call that may change a shard, is filed in the server's book,
-//!   once, by its caller, with its arguments and its result. It is then the last entry on the
-//!   tracks of its part and of the caller. The part's entries lead from the server's first front,
-//!   or first shard of the index, to the one under the lock. So two calls of a part are of one
-//!   part, the server's own, in one order.
+//! - Each call of the front, each call that may change a shard, and each receipt is filed in the
+//!   server's book, once, by its caller. The entry has the call's arguments and its result. It is
+//!   then the last one on the tracks of its part and of the caller. The part's entries lead from
+//!   the server's first front, or first shard of the index, to the one under the lock. So two calls
+//!   of a part are of one part, the server's own, in one order.
 //! - Each look at a head word and each raise is filed too, by the step that reads or raises the
-//!   word. A worker also files that an image breaks a rule, or that memory for its program is
-//!   refused. No other call is filed.
+//!   word. A worker also files that an image breaks a rule, or that memory for its program can't be
+//!   allocated. No other call is filed.
 //! - **One order**: at the end of a server there is one list of all filed calls. Each thread has
 //!   filed exactly the calls in the list with its key, in that order, and no call is of another
 //!   thread. The calls of the front lead from the server's first front to its last, and those of
 //!   each of the eight shards from the server's first shard to its last. The looks at head words
 //!   and the raises lead the words from 64 zeros (`HaveOneOrder`). So two threads that draw a
-//!   message ID each draw two, and two that install a program each in one slot get two serials. A
-//!   look finds the word that the raises before it left (`laws`).
+//!   message ID each draw two, and two that install a program each in one slot get two serials
+//!   (`laws`). A look finds exactly the word that the raises before it left, by `HaveOneOrder`.
 //! - **Tracks of jobs**: a job's track is right if its first entry produces the job, and the others
 //!   are the operations that its stages need. What a worker files for a job leads the job from its
-//!   first stage to its end. So a worker that receives jobs with right tracks keeps them right. The
-//!   one order is a legal history, and its server is the closed one, under two conditions: the
-//!   tracks of all jobs are right, and one thread produced the jobs in the order of their keys
-//!   (`laws`).
+//!   first stage to its end. So a worker that receives jobs with right tracks, each at its job's
+//!   first stage, keeps them right. No worker receives tracks yet. The one order is a legal
+//!   history, and its server is the closed one, under two conditions: the tracks of all jobs are
+//!   right, and one thread produced the jobs in the order of their keys (`laws`).
 //! - The gauges that a server returns are those of a front that began so, at the given time, and
 //!   the numbers of observers are those of a shard with the given index. Neither read changes
 //!   anything or is filed. A dispatcher returns how many jobs it sent.
 //! - The readings that a server returns are those of some call of its device
 //!   (`Device::are_readings`).
-//! - A head word that a worker reads is no less than a word of that slot that it knows: that it
-//!   read before, or to which it raised the word. Neither call takes a lock.
+//! - A look at a head word returns at least every word of the slot that the worker knows. A worker
+//!   knows the words that it read, and those to which it raised the word. Neither a look nor a
+//!   raise takes a lock.
 //! - Not claimed: that a call holds one lock; which readings a server returns; that the entries of
-//!   one job have a track of their own, and so that the one order is a legal history; and that a
-//!   call returns.
+//!   one job have a track of their own; that the one order is a legal history; and that a call
+//!   returns.
 //!
 //! By the contracts of `Context::work_off`, `Context::work`, `worker`, `run_workers`,
 //! `drive_workers`, `Dispatcher::handle`, `notify`, `offloaded`, the clauses of `Bench`,

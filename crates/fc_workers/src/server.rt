@@ -435,7 +435,8 @@ impl<'a, B: Books, D: Device> Locked<'a, B, D> {
 
 /// A call of the front or of a shard locks that part, and no other, and calls it.
 ///
-/// A look at a head word, a raise and a call of the device take no lock.
+/// A look at a head word, a raise, the filing of an image that isn't installed, and a call of the
+/// device take no lock.
 impl<'a, B: Books, D: Device> Bench for Locked<'a, B, D> {
     ghost called = { IsServerCall B.first };
 

@@ -21,9 +21,10 @@ const FIRST_THREAD: u64 = 9;
 /// A worker's log: that of its calls, and its tracks in the server's book.
 ///
 /// Each call of the server's front, of a shard or of a head word that gets the log becomes the last
-/// entry on the worker's own track. A call for a job is the last entry on the track of the worker's jobs, too.
-/// The other calls leave the tracks unchanged. A clause sees the log of the calls, the key of the
-/// worker's own track, and the tracks.
+/// entry on the worker's own track. So does an image that isn't installed. An entry for a job is
+/// also the last one on the track of the worker's jobs. Readings, times, gates and transmitters
+/// leave the tracks unchanged. A clause sees the log of the calls, the key of the worker's own
+/// track, and the tracks.
 #[derive(Drop)]
 pub struct TrackLog<J: ServerName> {
     pub calls: CallLog,
@@ -73,8 +74,8 @@ impl<J: ServerName> TrackLog<J> {
 
     /// Returns the head word of a slot, and files the look.
     ///
-    /// It is no less than a word of the slot that the thread knows. The thread then knows it. No
-    /// lock is taken.
+    /// The result is at least every word of the slot that the thread knows. The thread then knows
+    /// the result. No lock is taken.
     pub(crate) fn look(&mut self, book: &ServerBook<J>, slot: SlotNumber) -> u64
         ensures rises { known_word slot self.old.tracks.own ≤ result }
         ensures knows { known_word slot self.new.tracks.own ≡ result }

@@ -329,7 +329,8 @@ impl<'a, B: Bench, G: Gate, W: Wire, M: TimeSource> Context<'a, B, G, W, M> {
         }
     }
 
-    // Answers an install whose image breaks a rule with the rule and the slot, and files that.
+    // Sets the answer of an install whose image breaks a rule: the rule and the slot. Files the
+    // rejection.
     fn answer_rejected_image(
         &self,
         job: &Job,
@@ -347,8 +348,8 @@ impl<'a, B: Bench, G: Gate, W: Wire, M: TimeSource> Context<'a, B, G, W, M> {
         self.bench.reject_image(job, answer, log);
     }
 
-    // Answers an install for whose program memory is refused with `Unavailable`. Counts that, and
-    // files it.
+    // Sets the answer of an install to `Unavailable`, since memory for the program can't be
+    // allocated. Counts and files the refusal.
     fn answer_without_memory(
         &self,
         job: &Job,

@@ -1,4 +1,4 @@
-//! The head words, as read through their handles.
+//! Head words without a book (`fc_heads`). Tests of pools try the words of a server.
 use fc_heads::Heads;
 use std::test::Fail;
 

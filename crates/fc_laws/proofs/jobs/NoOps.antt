@@ -95,8 +95,8 @@ module _ (s : Seen) (e : Event) (k : ℕ) (st : Stage) (still : transition e (in
 all_same : (a b : Seen) → a.policy ≡ b.policy → a.first_serial ≡ b.first_serial → a.time ≡ b.time → a.exchanges ≡ b.exchanges → a.additions ≡ b.additions → a.ids ≡ b.ids → a.tasks ≡ b.tasks → ((n : ℕ) → a.changes n ≡ b.changes n) → ((n : ℕ) → a.shard_time n ≡ b.shard_time n) → ((n : ℕ) → a.calls n ≡ b.calls n) → a.words ≡ b.words → a ≡ b
 all_same a b o f m x p d t c h v w = λ i. record { policy = o i; first_serial = f i; time = m i; exchanges = x i; additions = p i; ids = d i; tasks = t i; changes = λ n. c n i; shard_time = λ n. h n i; calls = λ n. v n i; words = w i }
 
--- if an event of a job changes the job's stage alone, and leaves the front and the shards unchanged,
--- it leaves everything else unchanged.
+-- if an event of a job changes the job's stage alone, and leaves the front and the shards
+-- unchanged, it leaves everything else unchanged.
 named_moves : (s : Seen) (e : Event) (o : Option Emission) (k : ℕ) (st : Stage) → names e ≡ Some k → transition e (inputs s k) ≡ goes_to st → time_by (at_front e) s ≡ s.time → exchanges_by (at_front e) o s ≡ s.exchanges → additions_by (at_front e) s ≡ [] → ids_by (at_front e) s ≡ s.ids → tasks_brought e s ≡ [] → ((i : ℕ) → hands_by (at_shard e) i ≡ None) → ((n : ℕ) → calls_by (at_shard e) s n ≡ []) → and_then (did e o) s ≡ with_stage s k st
 named_moves s e o k st is still m x p d b g q =
     all_same (and_then (did e o) s) (with_stage s k st) refl refl m x (ap (λ (l : List Addition). l ++ s.additions) p) d
