@@ -19,7 +19,7 @@ use Rattle.coap_opts.proofs.Within.{asked_within}
 use Rattle.coap_dedup.specs.Exchanges.{Look, IsNew, IsBusy, IsAgain, IsSilent as IsAnsweredNon, IsFull, IsOverShare}
 use Rattle.fc_registry.specs.declared.job.Job.{Job}
 use Rattle.fc_registry.specs.declared.job.Opening.{Opening}
-use Rattle.fc_registry.specs.Slots.{Slot, new_slot}
+use Rattle.fc_registry.specs.Slots.{Slot}
 use Rattle.fc_registry.specs.Changes.{Change, after_changes}
 use Rattle.fc_registry.specs.Record.{IsChain}
 use Rattle.fc_core.specs.declared.event.Event.{Event}
@@ -28,7 +28,7 @@ use Rattle.fc_core.specs.Stage.{Stage}
 use Rattle.fc_core.specs.declared.stage.Task.{Task}
 use Rattle.fc_core.specs.Exchanges.{FrontState}
 use Rattle.fc_core.specs.Fits.{FitsSlot, FitsStage}
-use Rattle.fc_core.specs.History.{AsksTurn, around, Entry, Seen, and_then, changes_after, front_at, job, no_task, inputs, slot_at, stage, task_at, tasks_brought, tasks_moved, turns_by}
+use Rattle.fc_core.specs.History.{AsksTurn, around, Entry, Seen, and_then, changes_after, first_slot, front_at, job, no_task, inputs, slot_at, stage, task_at, tasks_brought, tasks_moved, turns_by}
 use Rattle.fc_core.specs.Receiving.{AskWithin, JobWithin, Received, add_in, received_added, received_if, request_received, ask_by, brought, is_confirmable, over_share, job_of, look_in, looked, next_opening, received, received_as, received_read, slot_of_resource}
 use Rattle.coap_block.specs.Uploads.{Add, Continues, IsWhole, IsIncomplete, IsBadLength, IsTooLarge, IsFull}
 use Rattle.fc_core.specs.Policies.{is_allowed}
@@ -120,11 +120,11 @@ grows s e None n = record { made = []; is = refl }
 grows s e (Some k) n = grows_if s e k n ((job s k).origin.slot == n) refl
 
 abbrev slot_after : Option ℕ → Event → Seen → ℕ → Slot
-slot_after o e s n = after_changes (new_slot s.first_serial) (changes_after o e s n)
+slot_after o e s n = after_changes (first_slot s n) (changes_after o e s n)
 
 -- a slot after an event is the slot before it, after the changes of the event.
 pub slot_grows : (s : Seen) (e : Event) (o : Option ℕ) (n : ℕ) (g : Grows s e o n) → slot_after o e s n ≡ after_changes (slot_at s n) g.made
-slot_grows s e o n g = ap (after_changes (new_slot s.first_serial)) g.is ∙ after_changes-append (new_slot s.first_serial) g.made (s.changes n)
+slot_grows s e o n g = ap (after_changes (first_slot s n)) g.is ∙ after_changes-append (first_slot s n) g.made (s.changes n)
 
 -- a job that fits its slot still fits it after an event.
 later_fits : (s : Seen) (e : Event) (o : Option ℕ) (j : Job) (st : Stage) → FitsStage j (slot_at s j.origin.slot) st → FitsStage j (slot_after o e s j.origin.slot) st
@@ -134,14 +134,14 @@ later_fits s e o j st f =
 
 -- ---- each part
 
-chain_if : (s : Seen) (e : Event) (k n : ℕ) (b : Bool) → ((job s k).origin.slot == n) ≡ b → IsSoundlySeen s → IsChain (new_slot s.first_serial) (if b then (transition e (inputs s k)).changes ++ s.changes n else s.changes n)
+chain_if : (s : Seen) (e : Event) (k n : ℕ) (b : Bool) → ((job s k).origin.slot == n) ≡ b → IsSoundlySeen s → IsChain (first_slot s n) (if b then (transition e (inputs s k)).changes ++ s.changes n else s.changes n)
 chain_if s e k n true is a =
     let slot_is = eqb-true (job s k).origin.slot n is in
-    subst (λ (m : ℕ). IsChain (new_slot s.first_serial) ((transition e (inputs s k)).changes ++ s.changes m)) slot_is
-    (transition_chain e (job s k) (new_slot s.first_serial) (s.changes (job s k).origin.slot) (around s (job s k).origin.slot) (stage s k) (a.stages k) (a.chain (job s k).origin.slot))
+    subst (λ (m : ℕ). IsChain (first_slot s m) ((transition e (inputs s k)).changes ++ s.changes m)) slot_is
+    (transition_chain e (job s k) (first_slot s (job s k).origin.slot) (s.changes (job s k).origin.slot) (around s (job s k).origin.slot) (stage s k) (a.stages k) (a.chain (job s k).origin.slot))
 chain_if s e k n false is a = a.chain n
 
-chain_after : (s : Seen) (e : Event) (o : Option ℕ) (n : ℕ) → IsSoundlySeen s → IsChain (new_slot s.first_serial) (changes_after o e s n)
+chain_after : (s : Seen) (e : Event) (o : Option ℕ) (n : ℕ) → IsSoundlySeen s → IsChain (first_slot s n) (changes_after o e s n)
 chain_after s e None n a = a.chain n
 chain_after s e (Some k) n a = chain_if s e k n ((job s k).origin.slot == n) refl a
 
@@ -180,12 +180,12 @@ still_sound r s a = record {
 
 -- ---- safe programs
 
-safe_if : (s : Seen) (e : Event) (k n : ℕ) (b : Bool) → ((job s k).origin.slot == n) ≡ b → IsSoundlySeen s → AllSafe (transition e (inputs s k)).changes → IsSafelySeen s → FitsSlot (after_changes (new_slot s.first_serial) (if b then (transition e (inputs s k)).changes ++ s.changes n else s.changes n)).present
+safe_if : (s : Seen) (e : Event) (k n : ℕ) (b : Bool) → ((job s k).origin.slot == n) ≡ b → IsSoundlySeen s → AllSafe (transition e (inputs s k)).changes → IsSafelySeen s → FitsSlot (after_changes (first_slot s n) (if b then (transition e (inputs s k)).changes ++ s.changes n else s.changes n)).present
 safe_if s e k n true is a made f =
     let slot_is = eqb-true (job s k).origin.slot n is in
     let m = (job s k).origin.slot in
-    subst (λ (i : ℕ). FitsSlot (after_changes (new_slot s.first_serial) ((transition e (inputs s k)).changes ++ s.changes i)).present) slot_is
-    (subst (λ (x : Slot). FitsSlot x.present) (sym (after_changes-append (new_slot s.first_serial) (transition e (inputs s k)).changes (s.changes m)))
+    subst (λ (i : ℕ). FitsSlot (after_changes (first_slot s i) ((transition e (inputs s k)).changes ++ s.changes i)).present) slot_is
+    (subst (λ (x : Slot). FitsSlot x.present) (sym (after_changes-append (first_slot s m) (transition e (inputs s k)).changes (s.changes m)))
     (transition_safe e (job s k) (slot_at s m) (around s (job s k).origin.slot) (stage s k) (a.within k).1 (a.stages k) made (f.slots m)))
 safe_if s e k n false is a made f = f.slots n
 

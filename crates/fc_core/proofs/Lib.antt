@@ -12,3 +12,5 @@ pub mod Unsent
 pub mod Watches
 pub mod ByStep
 mod Authorizing
+pub mod Words
+pub mod Restoring

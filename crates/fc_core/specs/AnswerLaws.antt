@@ -16,7 +16,7 @@ use Rattle.fc_core.specs.Stage.{ToMatch, ToTake, ToCommit, ToInstall, ToRemove, 
 use Rattle.coap_reply.specs.Blocks.{cut_for}
 use Rattle.fc_core.specs.Contents.{Content, RunAnswer, Ran, Missing, Unavailable, Made, Rejected, Untyped, Valid, Deleted, Described, Listed}
 use Rattle.fc_core.specs.Heads.{head_word, word_at}
-use Rattle.fc_core.specs.History.{Entry, History, Begins, Then, Seen, seen, job, slot_at, stage}
+use Rattle.fc_core.specs.History.{Entry, History, BeginsWith, Then, Seen, seen, job, slot_at, stage}
 use Rattle.fc_core.specs.Laws.{slot_of, stage_named, snapshots_of}
 use Rattle.fc_core.specs.Stages.{image_of, is_refusable}
 use Rattle.fc_core.specs.Transitions.{names}
@@ -164,7 +164,7 @@ times_in other s = []
 
 -- times that were passed to the front, the newest first.
 abbrev pub times_of : History → List ℕ
-times_of (Begins serial id policy) = []
+times_of (BeginsWith stored id policy) = []
 times_of (Then h r) = times_in r.event (seen h) ++ times_of h
 
 -- the time of a commit, of a lease's notification, or of its release, at the right stage.
@@ -188,7 +188,7 @@ own_time other i = []
 -- the times that were passed to a shard, the newest first. The shard's own events pass them, and
 -- the commits, notifications and releases of the jobs of its slots.
 abbrev pub shard_times_of : ℕ → History → List ℕ
-shard_times_of i (Begins serial id policy) = []
+shard_times_of i (BeginsWith stored id policy) = []
 shard_times_of i (Then h r) =
     own_time r.event i
     ++ (if is_of_shard i (seen h) (names r.event)

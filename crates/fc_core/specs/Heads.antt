@@ -1,6 +1,7 @@
 -- Head words: the published states of the slots, which can be read without a snapshot.
-use Rattle.std.specs.Prelude.{ℕ, ◌+◌, ◌*◌, ◌/◌, ◌%◌, ◌==◌, ◌&&◌, Bool, true, false, List, Option, Some, None, max, replicate, slice_index_or, slice_set}
-use Rattle.std.specs.List.{list_any}
+use Rattle.std.specs.Prelude.{ℕ, ◌+◌, ◌*◌, ◌/◌, ◌%◌, ◌==◌, ◌&&◌, Bool, true, false, List, Option, Some, None, map, max, replicate, slice_index_or, slice_set}
+use Rattle.std.specs.List.{list_any, range_with_len}
+use Rattle.fc_registry.specs.Slots.{Present, Slot}
 
 -- the head word of a slot: twice its serial, plus one if it has a program.
 abbrev pub head_word : ℕ → Bool → ℕ
@@ -18,6 +19,20 @@ is_present word = word % 2 == 1
 -- the head words of slots 0 to 63, each 0 before any was raised.
 abbrev pub no_words : List ℕ
 no_words = replicate 64 0
+
+-- the head word that a start raises for a program at this serial. The word of an empty slot is 0,
+-- as no job has raised it; like each even word it says that the slot is empty.
+abbrev pub word_at_start : ℕ → Option Present → ℕ
+word_at_start serial None = 0
+word_at_start serial (Some p) = head_word serial true
+
+-- the head word of a slot at a start.
+abbrev pub first_word : Slot → ℕ
+first_word slot = word_at_start slot.serial slot.present
+
+-- the head words of slots 0 to 63 at a start, where these are the slots.
+abbrev pub first_words : (ℕ → Slot) → List ℕ
+first_words slots = map (λ n. first_word (slots n)) (range_with_len 0 64)
 
 abbrev pub word_at : List ℕ → ℕ → ℕ
 word_at words n = slice_index_or words n 0

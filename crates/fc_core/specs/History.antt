@@ -12,10 +12,12 @@ use Rattle.fc_observe.specs.Observers.{ObserverList, list_at_time, overdue_entry
 use Rattle.fc_registry.specs.declared.job.Ask.TheVariants.{Install as Installs}
 use Rattle.fc_registry.specs.declared.job.Job.{Job}
 use Rattle.fc_registry.specs.declared.job.InitialVars.TheVariants.{Zeros}
-use Rattle.fc_registry.specs.Slots.{Slot, new_slot}
+use Rattle.fc_registry.specs.Restored.{empty_at, restored_slot}
+use Rattle.fc_registry.specs.Slots.{Slot}
 use Rattle.fc_registry.specs.Changes.{Change, after_changes}
 use Rattle.fc_registry.specs.Turns.{turn_given_to}
 use Rattle.fc_registry.specs.Watches.{place_from, signal_call}
+use Rattle.fc_store.specs.Stored.{StoredSlots}
 use Rattle.fc_core.specs.declared.event.Event.{Event}
 use Rattle.fc_core.specs.declared.event.Event.TheVariants.{Deliver, Answer, Due, Fire, Fresh, Signal, Tick, ShardTick}
 use Rattle.fc_core.specs.Stage.{Stage}
@@ -27,7 +29,7 @@ use Rattle.fc_core.specs.Exchanges.{FrontState, opening_is_live}
 use Rattle.fc_core.specs.Policies.{default_policy}
 use Rattle.fc_core.specs.declared.policy.Policy.{Policy}
 use Rattle.fc_core.specs.Receiving.{Received, added_by, received, opened_by, kept_of, drawn_by, brought, next_opening}
-use Rattle.fc_core.specs.Heads.{no_words}
+use Rattle.fc_core.specs.Heads.{first_words}
 use Rattle.fc_core.specs.Timers.{timer_job}
 use Rattle.fc_core.specs.Stages.{needs_id, new_task, content_at}
 use Rattle.fc_core.specs.Transitions.{Around, Common, Inputs, names, inputs_at, transition, task_moved, handed, words_after}
@@ -37,14 +39,18 @@ pub record Entry : Type 0 where
   pub event : Event
   pub emitted : Option Emission
 
--- a server begins with empty slots at a serial, with the first message ID that it draws, and with a
--- policy.
+-- a server begins with slots that are restored from their stored states, with the first message ID
+-- that it draws, and with a policy.
 pub data History : Type 0 where
-  Begins : (serial : ℕ) (id : ℕ) (policy : Policy) → History
+  BeginsWith : (stored : StoredSlots) (id : ℕ) (policy : Policy) → History
   Then : (before : History) (entry : Entry) → History
 
+-- a server begins with empty slots at a serial.
+abbrev pub Begins : ℕ → ℕ → Policy → History
+Begins serial id policy = BeginsWith (empty_at serial) id policy
+
 -- the summary of a history. It has:
--- - the policy, and the first serial of the slots;
+-- - the policy, and the stored states that the slots began with;
 -- - the latest time passed to the front, the opened exchanges, the payloads of new requests, and
 --   the message IDs that the server draws;
 -- - the jobs with their stages;
@@ -54,7 +60,7 @@ pub data History : Type 0 where
 -- changes and calls are listed newest first.
 pub record Seen : Type 0 where
   pub policy : Policy
-  pub first_serial : ℕ
+  pub stored : StoredSlots
   pub time : ℕ
   pub exchanges : List Exchange
   pub additions : List Addition
@@ -65,13 +71,17 @@ pub record Seen : Type 0 where
   pub calls : ℕ → List ObserverCall
   pub words : List ℕ
 
-abbrev pub begun : ℕ → ℕ → Policy → Seen
-begun serial id policy = record { policy = policy; first_serial = serial; time = 0; exchanges = []; additions = []; ids = first_ids id; tasks = []; changes = λ n. []; shard_time = λ k. 0; calls = λ n. []; words = no_words }
+abbrev pub begun : StoredSlots → ℕ → Policy → Seen
+begun stored id policy = record { policy = policy; stored = stored; time = 0; exchanges = []; additions = []; ids = first_ids id; tasks = []; changes = λ n. []; shard_time = λ k. 0; calls = λ n. []; words = first_words (λ n. restored_slot (stored n)) }
 
 -- ---- slots and jobs
 
+-- the slot n with which the server began.
+abbrev pub first_slot : Seen → ℕ → Slot
+first_slot s n = restored_slot (s.stored n)
+
 abbrev pub slot_at : Seen → ℕ → Slot
-slot_at s n = after_changes (new_slot s.first_serial) (s.changes n)
+slot_at s n = after_changes (first_slot s n) (s.changes n)
 
 -- the task of a number that no job has.
 abbrev pub no_task : Task
@@ -300,7 +310,7 @@ calls_named (Some k) e s n = if (job s k).origin.slot == n then (transition e (i
 abbrev pub and_then : Entry → Seen → Seen
 and_then r s = record {
   policy = s.policy;
-  first_serial = s.first_serial;
+  stored = s.stored;
   time = time_by (at_front r.event) s;
   exchanges = exchanges_by (at_front r.event) r.emitted s;
   additions = additions_by (at_front r.event) s ++ s.additions;
@@ -313,7 +323,7 @@ and_then r s = record {
 }
 
 unfoldable pub seen : History → Seen
-seen (Begins serial id policy) = begun serial id policy
+seen (BeginsWith stored id policy) = begun stored id policy
 seen (Then h r) = and_then r (seen h)
 
 abbrev pub did : Event → Option Emission → Entry

@@ -13,7 +13,7 @@ use Rattle.coap_reply.specs.Blocks.{cut_for}
 use Rattle.fc_core.specs.Contents.{Content, RunAnswer}
 use Rattle.fc_core.specs.Stages.{is_refusable}
 use Rattle.fc_core.specs.Transitions.{Inputs, names}
-use Rattle.fc_core.specs.History.{Entry, History, Begins, Then, Seen, seen, job, inputs, slot_at, stage}
+use Rattle.fc_core.specs.History.{Entry, History, BeginsWith, Then, Seen, seen, job, inputs, slot_at, stage}
 
 -- ---- events without an effect
 
@@ -110,7 +110,7 @@ gives other s changes = []
 
 -- the snapshots that gave a ticket to job k, the newest first.
 abbrev pub snapshots_of : History → ℕ → List Snapshot
-snapshots_of (Begins serial id policy) k = []
+snapshots_of (BeginsWith stored id policy) k = []
 snapshots_of (Then h r) k =
     if is_named k r.event
     then gives r.event (inputs (seen h) k) ((seen h).changes (slot_of (seen h) k)) ++ snapshots_of h k
@@ -155,7 +155,7 @@ is_answered other at = false
 
 -- the number of answers that job k was given.
 abbrev pub answers_of : History → ℕ → ℕ
-answers_of (Begins serial id policy) k = 0
+answers_of (BeginsWith stored id policy) k = 0
 answers_of (Then h r) k =
     if is_named k r.event
     then (if is_answered r.event (stage (seen h) k) then answers_of h k + 1 else answers_of h k)
@@ -165,7 +165,7 @@ answers_of (Then h r) k =
 
 -- the number of changes that events of job k made to the job's slot.
 abbrev pub changes_by : History → ℕ → ℕ
-changes_by (Begins serial id policy) k = 0
+changes_by (BeginsWith stored id policy) k = 0
 changes_by (Then h r) k =
     if is_named k r.event
     then changes_by h k + (length ((seen (Then h r)).changes (slot_of (seen h) k)) - length ((seen h).changes (slot_of (seen h) k)))

@@ -21,7 +21,7 @@ use Rattle.fc_core.specs.Exchanges.{FrontState, opening_is_live}
 use Rattle.fc_core.specs.Receiving.{sent, id_in}
 use Rattle.fc_core.specs.Stages.{content_at}
 use Rattle.fc_core.specs.Transitions.{Inputs, names, sends}
-use Rattle.fc_core.specs.History.{AtFront, Receives, Answers, Draws, Fires, Passes, Rests, AtShard, Ticks, History, Begins, Then, Seen, seen, at_front, at_shard, front_at, received_at, job, overdue_in, stage, inputs, watch}
+use Rattle.fc_core.specs.History.{AtFront, Receives, Answers, Draws, Fires, Passes, Rests, AtShard, Ticks, History, BeginsWith, Then, Seen, seen, at_front, at_shard, front_at, received_at, job, overdue_in, stage, inputs, watch}
 
 -- the permitted emission of a job's answer. The answer is sent if the exchange is live and a
 -- message ID is available, and otherwise not.
@@ -70,7 +70,7 @@ Emits s e emitted = EmitsBy (at_front e) e s emitted
 
 -- each event of the history has only a permitted emission.
 abbrev pub IsLegal : History → Type 0
-IsLegal (Begins serial id policy) = Unit {0}
+IsLegal (BeginsWith stored id policy) = Unit {0}
 IsLegal (Then h r) = Emits (seen h) r.event r.emitted × IsLegal h
 
 -- the ticket's program has a meaning for the request, and for the variables and readings of the
@@ -99,5 +99,5 @@ TakesMeaning s (Take k memory readings) = FindsMeaning readings (inputs s k) (st
 TakesMeaning s other = Unit {0}
 
 abbrev pub AllMean : History → Type 0
-AllMean (Begins serial id policy) = Unit {0}
+AllMean (BeginsWith stored id policy) = Unit {0}
 AllMean (Then h r) = TakesMeaning (seen h) r.event × AllMean h

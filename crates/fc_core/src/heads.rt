@@ -2,11 +2,15 @@
 //!
 //! [`Heads`] has the head words of a server on one thread. Those of a server with workers are words
 //! of its book (`fc_filed`).
-ghost use Rattle.std.specs.Prelude.{◌≡◌, ◌≤◌, ◌<◌};
+ghost use Rattle.std.specs.Prelude.{◌≡◌, ◌≤◌, ◌<◌, ℕ, length, true};
+ghost use Rattle.fc_registry.specs.Restored.{restored_slot};
 ghost use Rattle.fc_registry.specs.Slots.{last_serial};
+ghost use Rattle.fc_registry.specs.Starts.{CanRestore};
+ghost use Rattle.fc_store.specs.Stored.{stored_in};
 ghost use Rattle.fc_core.specs.Heads as spec;
 
-use fc_registry::SlotNumber;
+use fc_registry::{SLOTS, SlotNumber};
+use fc_store::StoredSlot;
 use std::marker::Model;
 
 /// The number of slots.
@@ -52,12 +56,41 @@ impl Model for Heads {
     ghost view = { λ h. h.words };
 }
 
+// Computes the head word of a restored slot: that of its program, or 0 if the slot is empty.
+fn first_word(stored: &StoredSlot) -> u64
+    requires { CanRestore stored.now }
+    ensures { result ≡ spec.first_word (restored_slot stored.now) }
+{
+    if stored.program.is_some() {
+        head_word(stored.serial, true)
+    } else {
+        0
+    }
+}
+
 impl Heads {
     /// Makes the head words, each of them 0, before any was raised.
     pub fn new() -> Heads
         ensures { result ≡ spec.no_words }
     {
         Heads { words: [0; WORDS] }
+    }
+
+    /// Makes the head words of slots 0 to 63 that are restored from these stored states.
+    ///
+    /// The word of a slot with a program is that of its stored state. The word of an empty slot is
+    /// 0.
+    pub fn over(stored: &[StoredSlot]) -> Heads
+        requires count { length stored.now ≡ 64 }
+        requires can { (n : ℕ) → n < 64 → CanRestore (stored_in stored.now n) }
+        ensures { result ≡ spec.first_words (λ n. restored_slot (stored_in stored.now n)) }
+    {
+        let mut heads = Heads::new();
+        for number in 0..SLOTS {
+            let word = first_word(&stored[usize::from(number)]);
+            heads.raise(SlotNumber::new(number), word);
+        }
+        heads
     }
 
     /// Loads the head word of a slot.

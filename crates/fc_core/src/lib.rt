@@ -35,6 +35,8 @@
 //!   answering the job sends nothing.
 //! - `gauges` returns how many exchanges and transfers a front holds at a time, and their limits.
 //!   It changes nothing.
+//! - The head word of a restored program is that of its stored state. The head word of each other
+//!   slot is 0 at a start.
 //!
 //! By the contracts of `Front::deliver`, `handle`, `answer`, `respond`, `tick`, `fire`, `fresh_id`,
 //! `gauges`, `Heads`, `Task`, `Answer::ran`.

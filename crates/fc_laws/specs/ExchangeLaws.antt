@@ -12,7 +12,7 @@ use Rattle.fc_registry.specs.declared.job.Job.{Job}
 use Rattle.fc_core.specs.declared.event.Event.{Event}
 use Rattle.fc_core.specs.declared.event.Event.TheVariants.{Deliver}
 use Rattle.coap_reply.specs.Responses.{bare}
-use Rattle.fc_core.specs.History.{Entry, History, Begins, Then, Seen, seen, and_then, front_at}
+use Rattle.fc_core.specs.History.{Entry, History, BeginsWith, Then, Seen, seen, and_then, front_at}
 use Rattle.fc_core.specs.Receiving.{is_confirmable, reply_sent}
 
 -- ---- duplicates
@@ -185,12 +185,12 @@ draws_by false draw before = draw ∷ before
 
 -- message IDs that were drawn, the newest first.
 abbrev pub draws_of : History → List Draw
-draws_of (Begins serial id policy) = []
+draws_of (BeginsWith stored id policy) = []
 draws_of (Then h r) = draws_by ((seen (Then h r)).ids.next == (seen h).ids.next) (record { id = (seen h).ids.next; at = (seen (Then h r)).time }) (draws_of h)
 
 -- the server's first message ID.
 abbrev pub first_id : History → ℕ
-first_id (Begins serial id policy) = id
+first_id (BeginsWith stored id policy) = id
 first_id (Then h r) = first_id h
 
 -- in a list of draws, the newest first, the message IDs are consecutive modulo 65,536, from this

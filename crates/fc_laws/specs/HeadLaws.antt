@@ -1,12 +1,13 @@
 -- Definitions for the laws of head words.
 use Rattle.std.specs.Prelude.{◌≡◌, ℕ, ◌==◌, ◌⊎◌, if◌then◌else◌, List, [], ◌∷◌, ◌++◌, is_some}
+use Rattle.fc_registry.specs.Restored.{restored_slot}
 use Rattle.fc_registry.specs.Slots.{Slot}
 use Rattle.fc_core.specs.Stage.{Stage}
 use Rattle.fc_core.specs.Stage.{ToRaise}
-use Rattle.fc_core.specs.Heads.{head_word}
+use Rattle.fc_core.specs.Heads.{first_word, head_word}
 use Rattle.fc_core.specs.declared.event.Event.{Event}
 use Rattle.fc_core.specs.declared.event.Event.TheVariants.{Raise}
-use Rattle.fc_core.specs.History.{History, Begins, Then, Seen, seen, stage}
+use Rattle.fc_core.specs.History.{History, BeginsWith, Then, Seen, seen, stage}
 use Rattle.fc_core.specs.Laws.{slot_of}
 
 -- the head word of a slot in this state.
@@ -30,7 +31,7 @@ abbrev pub words_raised : ℕ → Event → Seen → List ℕ
 words_raised n (Raise k) s = if slot_of s k == n then word_to_raise (stage s k) else []
 words_raised n other s = []
 
--- the head words that were raised for slot n, the newest first.
+-- the head words that were raised for slot n, the newest first. A start raises the first of them.
 abbrev pub raises_of : ℕ → History → List ℕ
-raises_of n (Begins serial id policy) = []
+raises_of n (BeginsWith stored id policy) = first_word (restored_slot (stored n)) ∷ []
 raises_of n (Then h r) = words_raised n r.event (seen h) ++ raises_of n h

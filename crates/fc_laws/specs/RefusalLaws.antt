@@ -98,7 +98,7 @@ pub record FindsTurnMissing (s : Seen) (k : ℕ) (e : Event) (turn : Turn) : Typ
 
 -- no slot and no head word changes.
 pub record LeavesSlots (before after : Seen) : Type 0 where
-  pub first : after.first_serial ≡ before.first_serial
+  pub stored : after.stored ≡ before.stored
   pub slots : (n : ℕ) → after.changes n ≡ before.changes n
   pub words : after.words ≡ before.words
 

@@ -6,7 +6,7 @@ use Rattle.fc_registry.specs.declared.job.Ask.TheVariants.{Run}
 use Rattle.fc_registry.specs.declared.job.Job.{Job}
 use Rattle.fc_core.specs.declared.event.Event.{Event}
 use Rattle.fc_core.specs.declared.event.Event.TheVariants.{Fire}
-use Rattle.fc_core.specs.History.{Entry, History, Begins, Then, did, seen}
+use Rattle.fc_core.specs.History.{Entry, History, BeginsWith, Then, did, seen}
 use Rattle.fc_core.specs.Laws.{followed_by}
 use Rattle.fc_laws.specs.ExchangeLaws.{HasExchange}
 
@@ -41,5 +41,5 @@ IsNoFire other = Unit {0}
 
 -- no timer has fired in the history.
 abbrev pub HasNoFire : History → Type 0
-HasNoFire (Begins serial id policy) = Unit {0}
+HasNoFire (BeginsWith stored id policy) = Unit {0}
 HasNoFire (Then h r) = IsNoFire r.event × HasNoFire h

@@ -1,7 +1,7 @@
 //! Laws of slots: each function is a law, stated by its contract.
 ghost use Rattle.coap_msg.specs.declared.types.Emission.{Emission};
 ghost use Rattle.fc_core.specs.Contents.{Content};
-ghost use Rattle.fc_core.specs.History.{Entry, History, Then, Seen, seen, and_then, did, job, slot_at, stage};
+ghost use Rattle.fc_core.specs.History.{Entry, History, Then, Seen, seen, and_then, did, first_slot, job, slot_at, stage};
 ghost use Rattle.fc_core.specs.AnswerLaws.{HasSerial, greatest};
 ghost use Rattle.fc_core.specs.Contents.{Valid};
 ghost use Rattle.fc_laws.specs.HeadLaws.{PublishesAt, raises_of};
@@ -19,7 +19,7 @@ ghost use Rattle.fc_kinds.specs.Meaning.{Program};
 ghost use Rattle.fc_registry.specs.Calls.{commit_of, meaning_at, initial_vars_of};
 ghost use Rattle.fc_registry.specs.Changes.{Committed};
 ghost use Rattle.fc_registry.specs.Record.{IsChain, code_class};
-ghost use Rattle.fc_registry.specs.Slots.{Present, Ticket, new_slot};
+ghost use Rattle.fc_registry.specs.Slots.{Present, Ticket};
 ghost use Rattle.fc_registry.specs.declared.job.InitialVars.TheVariants.{Kept, Zeros};
 ghost use Rattle.arrayvec.specs.ArrayVec.{ArrayVec};
 ghost use Rattle.fc_verify.specs.Accepted.{Accepts};
@@ -134,12 +134,13 @@ pub fn gets_and_errors_change_nothing()
 /// Each commit finds the state that the changes before it left, and leaves what its program means
 /// for that state.
 pub fn commits_are_a_chain()
-    ensures { (h : History) (n : ℕ) → IsChain (new_slot (seen h).first_serial) ((seen h).changes n) }
+    ensures { (h : History) (n : ℕ) → IsChain (first_slot (seen h) n) ((seen h).changes n) }
 {}
 
-/// The head word of a slot is the greatest to which jobs of the slot raised it.
+/// The head word of a slot is the greatest to which a start or jobs of the slot raised it.
 ///
-/// The head word is 0 before the first raise, and never decreases.
+/// A start raises the head word of each restored program. The head word of an empty slot is 0
+/// before the first raise by a job. A head word never decreases.
 pub fn head_words_are_the_greatest_raised()
     ensures greatest { (h : History) (n : ℕ) → n < 64 → word_at (seen h).words n ≡ greatest (raises_of n h) }
     ensures rises { (h : History) (r : Entry) (n : ℕ) → n < 64 → word_at (seen h).words n ≤ word_at (seen (Then h r)).words n }

@@ -11,11 +11,14 @@ use Rattle.fc_registry.specs.declared.job.InitialVars.{InitialVars}
 use Rattle.fc_registry.specs.declared.job.InitialVars.TheVariants.{Zeros, Kept}
 use Rattle.fc_kinds.specs.Meaning.{Program}
 
+pub serials_from : (first : Slot) (cs : List Change) → (after_changes first cs).serial ≡ first.serial + length cs
+serials_from first [] = omega arith
+serials_from first (Installed p v ∷ cs) = omega (arith, serials_from first cs)
+serials_from first (Committed c ∷ cs) = omega (arith, serials_from first cs)
+serials_from first (Removed ∷ cs) = omega (arith, serials_from first cs)
+
 pub serials_count : (serial : ℕ) (cs : List Change) → (after_changes (new_slot serial) cs).serial ≡ serial + length cs
-serials_count serial [] = omega arith
-serials_count serial (Installed p v ∷ cs) = omega (arith, serials_count serial cs)
-serials_count serial (Committed c ∷ cs) = omega (arith, serials_count serial cs)
-serials_count serial (Removed ∷ cs) = omega (arith, serials_count serial cs)
+serials_count serial cs = serials_from (new_slot serial) cs
 
 -- if the program in a slot follows its install, it still does after a commit, which sets only the
 -- variables.

@@ -13,3 +13,4 @@ pub mod Watched
 pub mod Asked
 pub mod Plans
 pub mod Counted
+pub mod Restoring

@@ -1,5 +1,5 @@
 -- The ring of a slot after each kind of change.
-use Rattle.std.proofs.Common.{◌≡◌, ℕ, ◌+◌, ◌-◌, ◌<◌, ◌≤◌, List, [], ◌∷◌, ◌++◌, length, map, set, get_or, drop, replicate, Bool, true, false, Option, Some, None, refl, sym, ap, ◌∙◌, subst, arith, ⊎_elim, length-append}
+use Rattle.std.proofs.Common.{◌≡◌, ℕ, ◌+◌, ◌-◌, ◌<◌, ◌≤◌, List, [], ◌∷◌, ◌++◌, length, map, set, get_or, drop, replicate, Bool, true, false, Option, Some, None, refl, sym, ap, ◌∙◌, subst, arith, max, ⊎_elim, length-append}
 use Rattle.std.specs.Prelude.{nat_lt, ◌==◌, ◌&&◌, Result, Ok, Err, OnOk, OnErr}
 use Rattle.std.specs.List.{All}
 use Rattle.std.proofs.lemmas.Bool.{cases_lt, cases_eq, eqb-true}
@@ -8,8 +8,10 @@ use Rattle.circular_buffer.specs.Buffer.{keep_last}
 use Rattle.fc_kinds.specs.Meaning.{Program, input_with, meant}
 use Rattle.fc_machine.specs.Ran.{Ran}
 use Rattle.fc_observe.specs.Observers.{ObserverList}
-use Rattle.fc_store.specs.Stored.{StoredProgram}
-use Rattle.fc_registry.specs.Plans.{IsProgramState}
+use Rattle.fc_store.specs.Stored.{StoredProgram, StoredSlot}
+use Rattle.fc_verify.specs.Accepted.{Judgement}
+use Rattle.fc_registry.specs.Restored.{present_if, restored_present, restored_slot}
+use Rattle.fc_registry.specs.Starts.{CanRestore, CanRestoreProgram, IsProgramState, RestoresProgram, RingContinues, RingContinuesIf}
 use Rattle.fc_registry.specs.declared.body.Body.{Body}
 use Rattle.fc_registry.specs.declared.slot.SlotState.{SlotState}
 use Rattle.fc_registry.specs.declared.commit.Committed.{Committed as Answer}
@@ -23,8 +25,8 @@ use Rattle.fc_registry.specs.Calls.{IsCommit, IsOwnCommit, ComesTo, IsCurrent, c
 use Rattle.fc_registry.specs.declared.job.InitialVars.{InitialVars}
 use Rattle.fc_registry.specs.declared.ring.Entry.{Entry}
 use Rattle.fc_registry.specs.declared.job.InitialVars.TheVariants.{Zeros}
-use Rattle.fc_registry.specs.Laws.{AllCommits, RingBegins, vars_begun}
-use Rattle.fc_registry.proofs.Installs.{installed_size}
+use Rattle.fc_registry.specs.Laws.{AllCommits, RingBegins, vars_begun, vars_since}
+use Rattle.fc_registry.proofs.Installs.{installed_size, serials_from}
 use Rattle.fc_registry.specs.Slots.{Slot, Present, Ticket, new_slot, last_serial, vars_in}
 use Rattle.fc_registry.specs.Changes.{Change, Installed, Committed, Removed, Commit, after_changes, changed, installed, with_vars, entry_of}
 use Rattle.fc_registry.specs.Record.{IsLink, IsChain, IsEntry, AreEntries, left_by, HasRecordIf, HasRingFrom, HasRingIf, HasRingSince, IsRecord, IsRing, code_class}
@@ -250,23 +252,51 @@ all_seen (x ∷ xs) k all lt = subst IsRecord (sym (get_or-map as_seen (x ∷ xs
 
 -- ---- restoring
 
--- a restored program begins a new, empty ring.
+-- a program that is restored at this serial begins a new, empty ring.
+ring_begun : (serial : ℕ) (p : Present) → p.version ≤ serial → HasRingSince serial serial p.vars p []
+ring_begun serial p low = record { version = low; reached = omega arith; size = omega arith; found = p.vars; entries = tt; vars = refl; begins = λ q. refl }
+
 pub restored_ring : (serial : ℕ) (b : Body) (k : StoredProgram) → IsProgramState serial k b.program.value → b.version ≡ k.version → b.vars ≡ k.vars → HasRecordIf serial (present_of (Some b)) []
 restored_ring serial b k is version vars =
     let low = is.1 in
-    let ring : HasRingSince serial serial b.vars (record { program = b.program.value; version = b.version; vars = b.vars }) [] =
-    record {
-      version = omega (arith, version, low);
-      reached = omega arith;
-      size = omega arith;
-      found = b.vars;
-      entries = tt;
-      vars = refl;
-      begins = λ q. refl;
-    } in
-    (serial, (b.vars, ring, ap (λ (xs : List ℕ). length xs) vars ∙ is.2))
+    (serial, (b.vars, ring_begun serial (record { program = b.program.value; version = b.version; vars = b.vars }) (omega (arith, version, low)), ap (λ (xs : List ℕ). length xs) vars ∙ is.2))
 
 -- if a slot with a record is restored, or left unchanged, it has a record.
 pub record_either : {X E : Type 0} (r : Result X E) (was now : SlotState) → OnOk r (IsRecord (as_seen now)) → OnErr r (now ≡ was) → IsRecord (as_seen was) → IsRecord (as_seen now)
 record_either (Ok x) was now is same h = is
 record_either (Err e) was now is same h = subst (λ (s : SlotState). IsRecord (as_seen s)) (sym same) h
+
+-- ---- after a start
+
+-- the program of a slot that was restored from this state.
+restored_program : (serial : ℕ) (k : StoredProgram) (r : RestoresProgram serial k) → restored_present (Some k) ≡ Some (record { program = r.program; version = k.version; vars = k.vars })
+restored_program serial k r = ap (λ (j : Judgement). present_if j k) r.judged_as
+
+ring_started : (serial : ℕ) (o : Option StoredProgram) → CanRestoreProgram serial o → RingContinues (restored_slot (record { serial = serial; program = o })) [] (restored_slot (record { serial = serial; program = o }))
+ring_started serial None can = refl
+ring_started serial (Some k) can =
+    let first : Option Present → Slot = λ o. record { serial = serial; notify_serial = serial; present = o; ring = [] } in
+    let p : Present = record { program = can.program; version = k.version; vars = k.vars } in
+    let within = can.state.1 in
+    let since : serial ≡ max serial k.version = omega (arith, within) in
+    subst (λ (o : Option Present). RingContinues (first o) [] (first o)) (sym (restored_program serial k can))
+    (subst (λ (n : ℕ). HasRingSince n serial k.vars p []) since (ring_begun serial p within), can.state.2)
+
+-- the ring of a slot that was restored counts from the newest install after that, or from the start.
+pub rings_continue : (k : StoredSlot) (cs : List Change) → CanRestore k → IsChain (restored_slot k) cs → RingContinues (restored_slot k) cs (after_changes (restored_slot k) cs)
+rings_continue k [] can chain = ring_started k.serial k.program can.program
+rings_continue k (Installed program v ∷ cs) can chain =
+    let slot = after_changes (restored_slot k) cs in
+    let since : slot.serial + 1 ≡ max k.serial (slot.serial + 1) = omega (arith, serials_from (restored_slot k) cs) in (
+      subst (λ (n : ℕ). HasRingSince n (slot.serial + 1) (installed slot program v).vars (installed slot program v) []) since (begun slot program v),
+      installed_size v program (vars_in slot.present),
+    )
+rings_continue k (Committed c ∷ cs) can chain =
+    let slot = after_changes (restored_slot k) cs in
+    let link = chain.0 in
+    let vars = vars_since (restored_slot k) cs in
+    let has : RingContinuesIf (restored_slot k) cs slot.serial (Some link.found) slot.ring =
+    subst (λ (o : Option Present). RingContinuesIf (restored_slot k) cs slot.serial o slot.ring) link.present (rings_continue k cs can chain.1) in
+    subst (λ (o : Option Present). RingContinuesIf (restored_slot k) (Committed c ∷ cs) (slot.serial + 1) (with_vars c.after o) (keep_last 8 (slot.ring ++ entry_of (slot.serial + 1) c ∷ []))) (sym link.present)
+    (one_more link.found (max k.serial link.found.version) slot.serial vars c slot.ring (entry_is slot c link.found link.present link) has.0, has.1)
+rings_continue k (Removed ∷ cs) can chain = refl

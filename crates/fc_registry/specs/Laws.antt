@@ -7,7 +7,7 @@ use Rattle.fc_registry.specs.declared.job.Ask.TheVariants.{Run}
 use Rattle.fc_registry.specs.declared.job.Job.{Job}
 use Rattle.fc_registry.specs.declared.job.InitialVars.{InitialVars}
 use Rattle.fc_registry.specs.Record.{HasRingSince}
-use Rattle.fc_registry.specs.Slots.{Present, Slot, Ticket, new_slot}
+use Rattle.fc_registry.specs.Slots.{Present, Slot, Ticket, new_slot, vars_in}
 use Rattle.fc_registry.specs.Changes.{Change, Installed, Committed, Removed, after_changes, installed, is_noticed}
 
 -- no install and no removal is among the changes.
@@ -24,12 +24,17 @@ vars_left vars (Committed c ∷ cs) = c.after
 vars_left vars (Installed p initial ∷ cs) = vars_left vars cs
 vars_left vars (Removed ∷ cs) = vars_left vars cs
 
+-- the variables that the newest install left, or those with which the slot began if there is no
+-- install.
+abbrev pub vars_since : Slot → List Change → List ℕ
+vars_since first [] = vars_in first.present
+vars_since first (Installed p initial ∷ cs) = (installed (after_changes first cs) p initial).vars
+vars_since first (Committed c ∷ cs) = vars_since first cs
+vars_since first (Removed ∷ cs) = vars_since first cs
+
 -- the variables that the newest install left; none if there is no install.
 abbrev pub vars_begun : ℕ → List Change → List ℕ
-vars_begun serial [] = []
-vars_begun serial (Installed p initial ∷ cs) = (installed (after_changes (new_slot serial) cs) p initial).vars
-vars_begun serial (Committed c ∷ cs) = vars_begun serial cs
-vars_begun serial (Removed ∷ cs) = vars_begun serial cs
+vars_begun serial cs = vars_since (new_slot serial) cs
 
 -- the ring of the slot after these changes counts from the newest install. It begins with the
 -- variables that this install left.

@@ -11,3 +11,5 @@ pub mod Calls
 pub mod Notes
 pub mod Laws
 pub mod Plans
+pub mod Restored
+pub mod Starts

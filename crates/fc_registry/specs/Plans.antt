@@ -1,13 +1,9 @@
 -- The updates that are saved before a slot changes, and the stored state of a slot.
-use Rattle.std.specs.Prelude.{◌≡◌, ℕ, ◌+◌, ◌<◌, ◌≤◌, ◌⊎◌, List, [], ◌∷◌, length, Option, Some, None}
+use Rattle.std.specs.Prelude.{◌≡◌, ℕ, ◌+◌, List, [], ◌∷◌, Option, Some, None}
 use Rattle.fc_verify.specs.Accepted.{Accepts}
 use Rattle.fc_verify.specs.Judged.{judged}
-use Rattle.fc_verify.specs.Refusals.{IsRefusal}
-use Rattle.fc_kinds.specs.Meaning.{Program}
 use Rattle.fc_registry.specs.Changes.{Change, Installed, Committed, Removed, installed}
-use Rattle.fc_registry.specs.declared.restore.RestoreError.{RestoreError}
-use Rattle.fc_registry.specs.declared.restore.RestoreError.TheVariants.{State, Image, Memory}
-use Rattle.fc_registry.specs.Slots.{Present, Shard, Slot, last_serial, with_slot}
+use Rattle.fc_registry.specs.Slots.{Present, Slot}
 use Rattle.fc_store.specs.Stored.{StoredProgram, StoredSlot}
 use Rattle.fc_store.specs.declared.store.ProgramUpdate.{ProgramUpdate}
 use Rattle.fc_store.specs.declared.store.ProgramUpdate.TheVariants as saves
@@ -51,33 +47,3 @@ IsStoredProgram p k = ⊥
 -- the stored state is that of the slot: its serial and its program.
 abbrev pub IsStoredOf : Slot → StoredSlot → Type 0
 IsStoredOf slot k = (k.serial ≡ slot.serial) × IsStoredProgram slot.present k.program
-
--- ---- restoring
-
--- changes can leave this stored program at this serial. The program's version is above 0 and at
--- most the serial, and there are as many variables as the program has.
-abbrev pub IsProgramState : ℕ → StoredProgram → Program → Type 0
-IsProgramState serial k p = (0 < k.version) × (k.version ≤ serial) × (length k.vars ≡ p.vars_size)
-
--- the slot is in the stored state, its notify serial is its serial, and its ring is empty.
-pub record IsRestored (k : StoredSlot) (slot : Slot) : Type 0 where
-  pub state : IsStoredOf slot k
-  pub notify_serial : slot.notify_serial ≡ slot.serial
-  pub ring : slot.ring ≡ []
-
--- slot n is restored, and no other slot changes.
-abbrev pub RestoresTo : StoredSlot → Shard → ℕ → Shard → Type 0
-RestoresTo k old n new = (slot : Slot) × IsRestored k slot × (new ≡ with_slot old n slot)
-
--- the reason why a stored program isn't restored: changes can't leave it, its image is refused, or
--- memory can't be allocated.
-abbrev pub IsProgramError : ℕ → StoredProgram → RestoreError → Type 0
-IsProgramError serial k State = (p : Program) → judged k.image ≡ Accepts p → IsProgramState serial k p → ⊥
-IsProgramError serial k (Image refusal) = IsRefusal k.image refusal
-IsProgramError serial k Memory = Unit {0}
-
--- the reason why a slot isn't restored. The slot's serial would fall or be above the last one, or
--- the stored program isn't restored.
-abbrev pub IsRestoreError : Slot → StoredSlot → RestoreError → Type 0
-IsRestoreError slot k e =
-    ((e ≡ State) × ((k.serial < slot.serial) ⊎ (last_serial < k.serial))) ⊎ ((s : StoredProgram) × (k.program ≡ Some s) × IsProgramError k.serial s e)

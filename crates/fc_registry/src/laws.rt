@@ -18,7 +18,9 @@ ghost use Rattle.fc_registry.specs.Record.{IsChain, IsRing};
 ghost use Rattle.fc_store.specs.Updates.{slot_after};
 ghost use Rattle.fc_store.specs.Stored.{StoredSlot};
 ghost use Rattle.fc_store.specs.declared.store.SlotUpdate.{SlotUpdate};
-ghost use Rattle.fc_registry.specs.Slots.{Present, Shard, Slot, Ticket, new_slot, vars_in};
+ghost use Rattle.fc_registry.specs.Restored.{at_least, restored_slot};
+ghost use Rattle.fc_registry.specs.Slots.{Present, Shard, Slot, Ticket, last_serial, new_slot, vars_in};
+ghost use Rattle.fc_registry.specs.Starts.{CanRestore, RingContinues};
 ghost use Rattle.fc_registry.specs.Turns.{due_job};
 ghost use Rattle.fc_registry.specs.Watches.{after_due, shard_after_tick, due_place, is_idle, overdue_place, ticked_in, watch_at};
 ghost use Rattle.fc_registry.specs.declared.commit.CommitOutcome.{CommitOutcome};
@@ -29,7 +31,7 @@ ghost use Rattle.fc_kinds.specs.Meaning.{Program};
 ghost use Rattle.fc_registry.specs.Taken.{Given};
 ghost use Rattle.fc_registry.specs.Calls.{HasGiven, ComesTo, IsSnapshot, install_in, is_registration, meaning_at, observe_calls, outcome};
 ghost use Rattle.std.specs.List.{Any};
-ghost use Rattle.std.specs.Prelude.{List, [], None, Some, length, replicate, true, ℕ, ◌∷◌, ◌++◌, ◌+◌, ◌≤◌, ◌≡◌};
+ghost use Rattle.std.specs.Prelude.{List, [], None, Some, length, max, replicate, true, ℕ, ◌∷◌, ◌++◌, ◌+◌, ◌≤◌, ◌≡◌};
 
 /// A slot's serial is its first serial, plus the number of the slot's changes.
 pub fn serials_count_changes()
@@ -163,4 +165,34 @@ pub fn new_slots_have_full_rings()
         RingBegins serial cs (after_changes (new_slot serial) cs) }
     ensures zeros { (serial : ℕ) (later earlier : List Change) (p : Program) → AllCommits later →
         vars_begun serial (later ++ (Installed p Zeros ∷ earlier)) ≡ replicate p.vars_size 0 }
+{}
+
+/// The restored slot of a stored state has the serial and the program of the slot that was stored.
+///
+/// The program has its version and its variables. The notify serial is the serial, and the ring is
+/// empty.
+pub fn restored_slots_are_as_stored()
+    ensures { (slot : Slot) (k : StoredSlot) → IsStoredOf slot k →
+        restored_slot k ≡ record slot { notify_serial = slot.serial; ring = [] } }
+{}
+
+/// The serial of a restored slot is never below the stored serial, nor below `least`.
+///
+/// This holds after any changes. A stored state that can be restored can still be restored after
+/// its serial was raised to `least`.
+pub fn restored_serials_go_on()
+    ensures serial { (least : ℕ) (k : StoredSlot) (cs : List Change) →
+        max least k.serial ≤ (after_changes (restored_slot (at_least least k)) cs).serial }
+    ensures can { (least : ℕ) (k : StoredSlot) → least ≤ last_serial → CanRestore k → CanRestore (at_least least k) }
+    ensures raised { (k : StoredSlot) → k.serial ≡ 7 → (at_least 100 k).serial ≡ 100 }
+    ensures kept { (k : StoredSlot) → k.serial ≡ 200 → (at_least 100 k).serial ≡ 200 }
+{}
+
+/// The ring of a restored slot has the commits since the start, or since a later install.
+///
+/// The ring has the last eight of these commits. If it has all of them, the first commit found the
+/// variables of the start, or of the install. The ring of an empty slot is empty.
+pub fn restored_slots_have_rings_since_the_start()
+    ensures { (k : StoredSlot) (cs : List Change) → CanRestore k → IsChain (restored_slot k) cs →
+        RingContinues (restored_slot k) cs (after_changes (restored_slot k) cs) }
 {}

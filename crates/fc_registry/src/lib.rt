@@ -38,7 +38,7 @@
 //! - A removal leaves the slot without a program, and raises the serial by one.
 //! - A receipt is that of the slot's program, with the serial of the program's install.
 //! - Serials count changes. A slot's notify serial is that of its last install, removal, or commit
-//!   whose run set the notify flag.
+//!   whose run set the notify flag, or that of its restore.
 //! - A slot's ring holds the last eight commits since the program's install, or since the slot was
 //!   restored. Each of these commits begins with the variables that the one before it left. Each
 //!   commit left the variables that the program means for the request and the readings of the
@@ -63,11 +63,15 @@
 //! - A restored slot has the serial, the version and the variables of its stored state. Its program
 //!   is that of the stored image, which is verified again. The slot's serial is never lowered. A
 //!   slot that can't be restored doesn't change.
+//! - The eight shards of a start have the restored slots, without observers. Otherwise the error
+//!   names a slot that isn't restored, with the reason, or says that memory can't be allocated. No
+//!   serial falls below the one to which it was raised before the start.
 //!
-//! By the contracts of `plan_install`, `plan_commit`, `plan_removal`, `Shard::restore`, `take`,
-//! `take_into`, `would_write`, `commit`, `install`, `remove`, `receipt`, `next_due`, `note`,
-//! `give_up`, `signal`, `tick`, `advance_if_idle`, `idle_until`, `observer_counts`,
-//! `wants_to_write`, `rings_are_chains`, `no_observer_is_ahead`, `laws`.
+//! By the contracts of `plan_install`, `plan_commit`, `plan_removal`, `raise_serials`,
+//! `restore_shards`, `Shard::restore`, `take`, `take_into`, `would_write`, `commit`, `install`,
+//! `remove`, `receipt`, `next_due`, `note`, `give_up`, `signal`, `tick`, `advance_if_idle`,
+//! `idle_until`, `observer_counts`, `wants_to_write`, `rings_are_chains`, `no_observer_is_ahead`,
+//! `laws`.
 #![tactic(auto)]
 
 mod body;
@@ -93,10 +97,10 @@ pub use note::{NoteOutcome, Noted, Notification};
 pub use observe::{CANCEL, REGISTER, has_observe};
 pub use plan::{plan_commit, plan_install, plan_removal};
 pub use receipt::Receipt;
-pub use restore::RestoreError;
+pub use restore::{RestoreError, raise_serials};
 pub use ring::Entry;
 pub use shard::{Made, PLACES, Removal, Shard, Taken, Took};
-pub use shards::make_shards;
+pub use shards::{StartError, make_shards, restore_shards};
 pub use slot::LAST_SERIAL;
 pub use slot_number::{SHARDS, SLOTS, SlotNumber};
 pub use ticket::{Mark, SlotSnapshot, Ticket};

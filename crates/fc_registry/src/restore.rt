@@ -1,12 +1,14 @@
 //! Restoring the stored state of a slot.
 //!
 //! `Shard::restore` verifies the stored image again by these functions.
-ghost use Rattle.std.specs.Prelude.{◌≡◌, ◌↔◌, [], IsTrue, IfErr, IfOk, Some};
+ghost use Rattle.std.specs.Prelude.{◌≡◌, ◌↔◌, ◌≤◌, [], IsTrue, IfErr, IfOk, Some, map};
 ghost use Rattle.fc_verify.specs.Accepted.{Accepts};
 ghost use Rattle.fc_verify.specs.Judged.{judged};
 ghost use Rattle.fc_store.specs.Stored.{StoredProgram};
-ghost use Rattle.fc_registry.specs.Plans.{IsProgramError, IsProgramState, IsStoredProgram};
 ghost use Rattle.fc_registry.specs.Record.{HasRecordIf};
+ghost use Rattle.fc_registry.specs.Restored.{at_least, restored_present};
+ghost use Rattle.fc_registry.specs.Slots.{last_serial};
+ghost use Rattle.fc_registry.specs.Starts.{CanRestoreProgram, IsProgramError, IsProgramState, RestoresProgram};
 ghost use Rattle.fc_registry.specs.Views.{present_of};
 
 use crate::body::Body;
@@ -33,8 +35,9 @@ pub enum RestoreError {
 // stored as empty. The image is verified again. Returns an error with the reason if the program
 // isn't restored.
 pub(crate) fn restored(alloc: Global, stored: &StoredSlot) -> Result<Option<Body>, RestoreError>
-    ensures program { IfOk result (λ b. IsStoredProgram (present_of b) stored.now.program) }
+    ensures program { IfOk result (λ b. present_of b ≡ restored_present stored.now.program) }
     ensures record { IfOk result (λ b. HasRecordIf stored.now.serial (present_of b) []) }
+    ensures can { IfOk result (λ b. CanRestoreProgram stored.now.serial stored.now.program) }
     ensures cause { IfErr result (λ e. (s : StoredProgram) × (stored.now.program ≡ Some s) × IsProgramError stored.now.serial s e) }
 {
     match &stored.program {
@@ -55,6 +58,7 @@ fn restored_program(
     ensures version { IfOk result (λ b. b.version ≡ stored.now.version) }
     ensures vars { IfOk result (λ b. b.vars ≡ stored.now.vars) }
     ensures state { IfOk result (λ b. IsProgramState serial stored.now b.program.value) }
+    ensures can { IfOk result (λ b. RestoresProgram serial stored.now) }
     ensures cause { IfErr result (IsProgramError serial stored.now) }
 {
     let program = match verify(alloc, stored.image.as_slice()) {
@@ -83,4 +87,24 @@ fn is_state(serial: u64, stored: &StoredProgram, program: &Verified) -> bool
     stored.version > 0
         && stored.version <= serial
         && stored.vars.len() == usize::from(program.vars_size())
+}
+
+/// Raises the serial of each stored slot to at least `least`.
+///
+/// A start raises the serials before [`crate::restore_shards`]. If `least` is above all serials of
+/// earlier runs, the slots have serials and ETags from now on that no earlier run has sent.
+pub fn raise_serials(stored: &mut [StoredSlot], least: u64)
+    requires { least ≤ last_serial }
+    ensures { stored.new ≡ map (at_least least) stored.old }
+{
+    for slot in stored.iter_mut() {
+        raise_serial(slot, least);
+    }
+}
+
+// Raises the serial of a stored slot to at least `least`.
+fn raise_serial(stored: &mut StoredSlot, least: u64)
+    ensures { stored.new ≡ at_least least stored.old }
+{
+    stored.serial = stored.serial.max(least);
 }

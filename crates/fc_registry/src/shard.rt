@@ -8,8 +8,8 @@ ghost use Rattle.fc_registry.specs.Slots.{IsOwned, slot_in, with_slot, last_seri
 ghost use Rattle.fc_registry.specs.Changes.{after_changes, vars_installed};
 ghost use Rattle.fc_registry.specs.Calls.{TakesAt, CommitsTo, WouldWrite, install_in, receipt_at, remove_from, after_snapshot};
 ghost use Rattle.fc_registry.specs.Views.{HasSize, as_seen, taken_with};
-ghost use Rattle.fc_registry.specs.Plans.{IsRestoreError, RestoresTo};
 ghost use Rattle.fc_registry.specs.Record.{IsRecord};
+ghost use Rattle.fc_registry.specs.Starts.{CanRestore, IsRestoreError, RestoresTo};
 ghost use Rattle.fc_observe.specs.Calls.{observers_after};
 ghost use Rattle.fc_observe.specs.Observers.{no_observers};
 ghost use Rattle.fc_observe.specs.Quiet.{AreIdleUntil};
@@ -263,6 +263,7 @@ impl Shard {
     ) -> Result<(), RestoreError>
         requires { IsOwned self.old slot }
         ensures restored { OnOk result (RestoresTo stored.now self.old slot self.new) }
+        ensures can { OnOk result (CanRestore stored.now) }
         ensures unchanged { OnErr result (self.new ≡ self.old) }
         ensures cause { IfErr result (IsRestoreError (slot_in self.old slot) stored.now) }
     {

@@ -3,10 +3,11 @@
 //! A shard calls these functions on one of its slots, with the slot's observers (`watch`).
 ghost use Rattle.std.specs.Prelude.{◌≡◌, ◌+◌, ◌<◌, ◌≤◌, ◌↔◌, [], ◌∷◌, true, false, length, replicate, IfErr, IfOk, IsTrue, OnErr, OnOk};
 ghost use Rattle.fc_machine.specs.Ran.{meaning_of};
+ghost use Rattle.fc_registry.specs.Restored.{restored_slot};
+ghost use Rattle.fc_registry.specs.Starts.{CanRestore, IsRestoreError};
 ghost use Rattle.fc_registry.specs.Slots.{new_slot, last_serial, version_in, vars_in};
 ghost use Rattle.fc_registry.specs.Changes.{Committed as Wrote, after_changes, vars_installed};
 ghost use Rattle.fc_registry.specs.Calls.{IsCommit, ComesTo, IsOwn, IsCurrent, commit_calls, commit_of, is_observed, observe_calls, mark_of, install_in, receipt_at, remove_from, run_of, IsFinding, IsTurnSnapshot, WouldWrite, turn_calls};
-ghost use Rattle.fc_registry.specs.Plans.{IsRestoreError, IsRestored};
 ghost use Rattle.fc_registry.specs.Record.{IsRecord};
 ghost use Rattle.fc_registry.specs.Views.{HasSize, as_seen, present_of, taken_with};
 ghost use Rattle.fc_observe.specs.Calls.{after_calls};
@@ -208,9 +209,10 @@ pub(crate) fn restore(
     alloc: Global,
     stored: &StoredSlot,
 ) -> Result<(), RestoreError>
-    ensures restored { OnOk result (IsRestored stored.now (as_seen slot.new)) }
+    ensures restored { OnOk result (as_seen slot.new ≡ restored_slot stored.now) }
     ensures record { OnOk result (IsRecord (as_seen slot.new)) }
     ensures rises { (as_seen slot.old).serial ≤ (as_seen slot.new).serial }
+    ensures can { OnOk result (CanRestore stored.now) }
     ensures unchanged { OnErr result (slot.new ≡ slot.old) }
     ensures cause { IfErr result (IsRestoreError (as_seen slot.old) stored.now) }
 {

@@ -1,15 +1,20 @@
--- At the beginning nothing has happened, and every slot is empty.
-use Rattle.std.proofs.Common.{◌≡◌, ℕ, zero, suc, ◌+◌, ◌*◌, ◌<◌, ◌≤◌, ◌/◌, ◌%◌, [], ◌∷◌, ◌++◌, length, get_or, replicate, refl, sym, ap, ◌∙◌, subst, arith, ⊎_elim, length-append}
+-- At the beginning nothing has happened, and each slot is in its stored state.
+use Rattle.std.proofs.Common.{◌≡◌, ℕ, zero, suc, ◌+◌, ◌*◌, ◌<◌, ◌≤◌, ◌/◌, ◌%◌, [], ◌∷◌, ◌++◌, length, get_or, refl, sym, ap, ◌∙◌, subst, arith, ⊎_elim, length-append}
 use Rattle.std.proofs.lemmas.Bool.{cases_lt}
-use Rattle.std.proofs.lemmas.List.{get_or-replicate, get_or_append_left}
+use Rattle.std.proofs.lemmas.List.{get_or_append_left}
 use Rattle.std.proofs.lemmas.List.Elements.{All-nil}
+use Rattle.std.proofs.lemmas.List.FromFn.{get_or-map-range_with_len}
 use Rattle.std.proofs.Math.Seq.{get_or-append_seam}
-use Rattle.fc_registry.specs.Shards.{empty_shards, first_shards, no_shard, shard_at, slot_in_shards}
-use Rattle.fc_registry.specs.Slots.{Shard, slot_in, new_slot}
+use Rattle.fc_registry.specs.Restored.{empty_at, restored_slot}
+use Rattle.fc_registry.specs.Shards.{first_shards, no_shard, shard_at, slot_in_shards}
+use Rattle.fc_registry.specs.Slots.{Shard, Slot, slot_in, new_slot}
+use Rattle.fc_registry.specs.Starts.{shard_over, shards_over}
 use Rattle.fc_registry.specs.Watches.{new_watches, watch_at}
 use Rattle.fc_observe.specs.Observers.{no_observers}
-use Rattle.fc_core.specs.History.{Begins, begun, seen}
-use Rattle.fc_core.specs.Heads.{no_words}
+use Rattle.fc_store.specs.Stored.{StoredSlots}
+use Rattle.fc_core.specs.History.{Begins, BeginsWith, begun, seen}
+use Rattle.fc_core.specs.Fits.{FitsSlot}
+use Rattle.fc_core.specs.Heads.{first_words, no_words}
 use Rattle.fc_core.specs.Exchanges.{first_front}
 use Rattle.fc_core.specs.declared.policy.Policy.{Policy}
 use Rattle.fc_core.proofs.Calling.{EntryWithin}
@@ -17,36 +22,22 @@ use Rattle.fc_server.specs.Agreement.{ShardsAgree}
 use Rattle.fc_server.specs.Serving.{Serves}
 use Rattle.fc_server.specs.States.{ServerState}
 
--- an empty shard with this index.
-abbrev empty : ℕ → ℕ → ℕ → Shard
-empty serial confirm_after s = record { index = s; now = 0; slots = replicate 8 (new_slot serial); watches = new_watches s confirm_after 8 }
+module _ (slots : ℕ → Slot) (confirm_after : ℕ) where
+  new_at : (i : ℕ) → i < 8 → shard_at (shards_over slots confirm_after) i ≡ shard_over slots confirm_after i
+  new_at i lt = get_or-map-range_with_len (shard_over slots confirm_after) 0 8 i i no_shard lt (omega arith)
 
-length-empty_shards : (serial confirm_after n : ℕ) → length (empty_shards serial confirm_after n) ≡ n
-length-empty_shards serial confirm_after zero = refl
-length-empty_shards serial confirm_after (suc n) = let e = length-empty_shards serial confirm_after n in length-append (empty_shards serial confirm_after n) (empty serial confirm_after n ∷ []) ∙ omega (arith, e)
-
--- each of the first shards is empty.
-empty_at : (serial confirm_after n s : ℕ) → s < n → shard_at (empty_shards serial confirm_after n) s ≡ empty serial confirm_after s
-empty_at serial confirm_after zero s lt = absurd (omega arith)
-empty_at serial confirm_after (suc n) s lt =
-    let len = length-empty_shards serial confirm_after n in
-    ⊎_elim
-    (λ (low : s < n). get_or_append_left (empty_shards serial confirm_after n) (empty serial confirm_after n ∷ []) no_shard s (omega (arith, len)) ∙ empty_at serial confirm_after n s low)
-    (λ (high : n ≤ s).
-    let e : s ≡ length (empty_shards serial confirm_after n) = omega (arith, len) in
-    ap (λ (i : ℕ). shard_at (empty_shards serial confirm_after n ++ empty serial confirm_after n ∷ []) i) e ∙ (get_or-append_seam (empty_shards serial confirm_after n) (empty serial confirm_after n) [] no_shard ∙ ap (empty serial confirm_after) (sym (e ∙ len))))
-    (cases_lt s n)
-
-empty_slots : (serial confirm_after n : ℕ) → n < 64 → slot_in_shards (first_shards serial confirm_after) n ≡ new_slot serial
-empty_slots serial confirm_after n lt =
-    let low : n / 8 < 8 = omega arith in
-    ap (λ (x : Shard). slot_in x n) (empty_at serial confirm_after 8 (n % 8) (omega arith)) ∙ get_or-replicate 8 (n / 8) (new_slot serial) (new_slot 0) low
+  slots_new : (n : ℕ) → n < 64 → slot_in_shards (shards_over slots confirm_after) n ≡ slots n
+  slots_new n lt =
+      let number : 8 * (n / 8) + n % 8 ≡ n = omega arith in
+      ap (λ (x : Shard). slot_in x n) (new_at (n % 8) (omega arith))
+      ∙ (get_or-map-range_with_len (λ (k : ℕ). slots (8 * k + n % 8)) 0 8 (n / 8) (n / 8) (new_slot 0) (omega (arith, lt)) (omega arith)
+      ∙ ap slots number)
 
 length-new_watches : (i confirm_after n : ℕ) → length (new_watches i confirm_after n) ≡ n
 length-new_watches i confirm_after zero = refl
 length-new_watches i confirm_after (suc n) = let e = length-new_watches i confirm_after n in length-append (new_watches i confirm_after n) (no_observers (8 * n + i) confirm_after ∷ []) ∙ omega (arith, e)
 
--- each place of an empty shard has no observers.
+-- each place of a new shard has no observers.
 new_watch : (i confirm_after n k : ℕ) → k < n → get_or (new_watches i confirm_after n) k (no_observers 0 0) ≡ no_observers (8 * k + i) confirm_after
 new_watch i confirm_after zero k lt = absurd (omega arith)
 new_watch i confirm_after (suc n) k lt =
@@ -58,30 +49,45 @@ new_watch i confirm_after (suc n) k lt =
     ap (λ (j : ℕ). get_or (new_watches i confirm_after n ++ no_observers (8 * n + i) confirm_after ∷ []) j (no_observers 0 0)) e ∙ (get_or-append_seam (new_watches i confirm_after n) (no_observers (8 * n + i) confirm_after) [] (no_observers 0 0) ∙ ap (λ (j : ℕ). no_observers (8 * j + i) confirm_after) (sym (e ∙ len))))
     (cases_lt k n)
 
-shards_begin : (serial id : ℕ) (policy : Policy) → ShardsAgree (begun serial id policy) (first_shards serial policy.confirm_after)
-shards_begin serial id policy = record {
-  are = record {
-    count = length-empty_shards serial policy.confirm_after 8;
-    index = λ s lt. ap (λ (x : Shard). x.index) (empty_at serial policy.confirm_after 8 s lt);
-    size = λ s lt. ap (λ (x : Shard). length x.slots) (empty_at serial policy.confirm_after 8 s lt);
-    watched = λ s lt. ap (λ (x : Shard). length x.watches) (empty_at serial policy.confirm_after 8 s lt) ∙ length-new_watches s policy.confirm_after 8;
-  };
-  slot = empty_slots serial policy.confirm_after;
-  now = λ s lt. ap (λ (x : Shard). x.now) (empty_at serial policy.confirm_after 8 s lt);
-  watch = λ i k low lt. ap (λ (x : Shard). watch_at x k) (empty_at serial policy.confirm_after 8 i low) ∙ new_watch i policy.confirm_after 8 k lt;
-}
+shards_begin : (stored : StoredSlots) (id : ℕ) (policy : Policy) → ShardsAgree (begun stored id policy) (shards_over (λ n. restored_slot (stored n)) policy.confirm_after)
+shards_begin stored id policy =
+    let slots : ℕ → Slot = λ n. restored_slot (stored n) in
+    let after : ℕ = policy.confirm_after in
+    record {
+      are = record {
+        count = refl;
+        index = λ s lt. ap (λ (x : Shard). x.index) (new_at slots after s lt);
+        size = λ s lt. ap (λ (x : Shard). length x.slots) (new_at slots after s lt);
+        watched = λ s lt. ap (λ (x : Shard). length x.watches) (new_at slots after s lt) ∙ length-new_watches s after 8;
+      };
+      slot = slots_new slots after;
+      now = λ s lt. ap (λ (x : Shard). x.now) (new_at slots after s lt);
+      watch = λ i k low lt. ap (λ (x : Shard). watch_at x k) (new_at slots after i low) ∙ new_watch i after 8 k lt;
+    }
 
-pub begins : (serial id : ℕ) (policy : Policy) (s : ServerState) → s.front ≡ first_front policy id → s.shards ≡ first_shards serial policy.confirm_after → s.words ≡ no_words → Serves (Begins serial id policy) s []
+pub begins_with : (stored : StoredSlots) (id : ℕ) (policy : Policy) (s : ServerState) → s.front ≡ first_front policy id → s.shards ≡ shards_over (λ n. restored_slot (stored n)) policy.confirm_after
+    → s.words ≡ first_words (λ n. restored_slot (stored n)) → ((n : ℕ) → FitsSlot (restored_slot (stored n)).present) → Serves (BeginsWith stored id policy) s []
 unfolding seen
-begins serial id policy s front shards words = record {
+begins_with stored id policy s front shards words fits = record {
   legal = tt;
   means = tt;
   agrees = record {
     front = front;
     tasks = refl;
     words = words;
-    shards = subst (ShardsAgree (begun serial id policy)) (sym shards) (shards_begin serial id policy);
+    shards = subst (ShardsAgree (begun stored id policy)) (sym shards) (shards_begin stored id policy);
     sound = record { chain = λ n. tt; within = λ k. (omega arith, tt); stages = λ k. tt; watched = λ n. All-nil EntryWithin };
-    safe = record { slots = λ n. tt };
+    safe = record { slots = fits };
   };
 }
+
+-- the first shards are the new ones of empty slots.
+empty_shards_are_new : (serial confirm_after : ℕ) → first_shards serial confirm_after ≡ shards_over (λ n. restored_slot (empty_at serial n)) confirm_after
+empty_shards_are_new serial confirm_after = refl
+
+empty_words : (serial : ℕ) → no_words ≡ first_words (λ n. restored_slot (empty_at serial n))
+empty_words serial = refl
+
+pub begins : (serial id : ℕ) (policy : Policy) (s : ServerState) → s.front ≡ first_front policy id → s.shards ≡ first_shards serial policy.confirm_after → s.words ≡ no_words → Serves (Begins serial id policy) s []
+begins serial id policy s front shards words =
+    begins_with (empty_at serial) id policy s front (shards ∙ empty_shards_are_new serial policy.confirm_after) (words ∙ empty_words serial) (λ n. tt)

@@ -11,7 +11,7 @@ use Rattle.fc_observe.specs.Calls.{ObserverCall, after_calls, observers}
 use Rattle.fc_registry.specs.declared.job.Job.{Job}
 use Rattle.fc_registry.specs.Changes.{after_changes}
 use Rattle.fc_registry.specs.Shards.{shard_at, slot_in_shards}
-use Rattle.fc_registry.specs.Slots.{Shard, Slot, Present, new_slot}
+use Rattle.fc_registry.specs.Slots.{Shard, Slot, Present}
 use Rattle.fc_registry.specs.Watches.{watch_at}
 use Rattle.fc_core.specs.declared.event.Event.{Event}
 use Rattle.fc_core.specs.declared.event.Event.TheVariants.{Take}
@@ -22,7 +22,7 @@ use Rattle.fc_core.specs.Answering.{after_answered_by}
 use Rattle.fc_core.specs.Contents.{Content}
 use Rattle.fc_core.specs.Exchanges.{FrontState, opening_is_live}
 use Rattle.fc_core.specs.Fits.{FitsSlot}
-use Rattle.fc_core.specs.History.{AtFront, Receives, Answers, Draws, Fires, Passes, Rests, AtShard, Calm, Seen, additions_by, and_then, answered_in, at_front, at_shard, calls_by, calls_named, changes_after, common, did, exchanges_by, front_at, front_in, hands_by, ids_answered, ids_by, job, time_by, received_at, inputs, shard_time_after, stage, task_at, tasks_by, tasks_moved, watch, words_seen}
+use Rattle.fc_core.specs.History.{AtFront, Receives, Answers, Draws, Fires, Passes, Rests, AtShard, Calm, Seen, additions_by, and_then, answered_in, at_front, at_shard, calls_by, calls_named, changes_after, common, did, exchanges_by, first_slot, front_at, front_in, hands_by, ids_answered, ids_by, job, time_by, received_at, inputs, shard_time_after, slot_at, stage, task_at, tasks_by, tasks_moved, watch, words_seen}
 use Rattle.fc_core.specs.Ids.{drawn, drawn_for}
 use Rattle.fc_core.specs.Legal.{AnswerEmits, EmitsBy, sends_in, FindsMeaning, FoundMeans, IsAnswered, TakesMeaning}
 use Rattle.fc_core.specs.Receiving.{AskWithin, added_by, after_added, after_received, brought, drawn_by, id_in, keeping, kept_of, next_opening, opened_by, received, sent}
@@ -140,8 +140,8 @@ module _ (s : Seen) (e : Event) (shards : List Shard) (a : ShardsAgree s shards)
     calls_if : (i : ℕ) (b : Bool) → (n == i) ≡ b → calls_named (Some k) e s i ≡ (if b then m.calls else [])
     calls_if i b is = ap (λ (c : Bool). if c then m.calls else []) is
 
-    slot_place : after_changes (after_changes (new_slot s.first_serial) (s.changes n)) m.changes ≡ after_changes (new_slot s.first_serial) (changes_after (Some k) e s n)
-    slot_place = sym (after_changes-append (new_slot s.first_serial) m.changes (s.changes n)) ∙ ap (after_changes (new_slot s.first_serial)) (sym (changes_if n true (eq-eqb n n refl)))
+    slot_place : after_changes (slot_at s n) m.changes ≡ after_changes (first_slot s n) (changes_after (Some k) e s n)
+    slot_place = sym (after_changes-append (first_slot s n) m.changes (s.changes n)) ∙ ap (after_changes (first_slot s n)) (sym (changes_if n true (eq-eqb n n refl)))
 
     -- the observers of the job's slot after the event are those of the history.
     watch_own : (i p : ℕ) → i < 8 → 8 * p + i ≡ n → watch_at (shard_at (shards_moved m n shards) i) p ≡ observers (8 * p + i) s.policy.confirm_after (calls_named (Some k) e s (8 * p + i) ++ s.calls (8 * p + i))
@@ -163,9 +163,9 @@ module _ (s : Seen) (e : Event) (shards : List Shard) (a : ShardsAgree s shards)
     moved_agrees = record {
       are = are_written shards a.are n low m;
       slot = λ i lt. ⊎_elim
-          (λ (q : i ≡ n). subst (λ (j : ℕ). slot_in_shards (shards_moved m n shards) j ≡ after_changes (new_slot s.first_serial) (changes_after (Some k) e s j)) (sym q)
+          (λ (q : i ≡ n). subst (λ (j : ℕ). slot_in_shards (shards_moved m n shards) j ≡ after_changes (first_slot s j) (changes_after (Some k) e s j)) (sym q)
           (slot_here shards a.are n low m ∙ (ap (λ (x : Slot). after_changes x m.changes) (a.slot n low) ∙ slot_place)))
-          (λ (ne : i ≡ n → ⊥). slot_there shards a.are n low m i ne ∙ (a.slot i lt ∙ ap (after_changes (new_slot s.first_serial)) (sym (changes_if i false (ne_eqb n i (λ q. ne (sym q)))))))
+          (λ (ne : i ≡ n → ⊥). slot_there shards a.are n low m i ne ∙ (a.slot i lt ∙ ap (after_changes (first_slot s i)) (sym (changes_if i false (ne_eqb n i (λ q. ne (sym q)))))))
           (cases_eq i n);
       now = λ i lt. ⊎_elim
           (λ (q : i ≡ n % 8). subst (λ (j : ℕ). (shard_at (shards_moved m n shards) j).now ≡ shard_time_after (Some k) e s j) (sym q)

@@ -32,7 +32,7 @@ pub record IngressCalls (S : Type 0) : Type 1 where
   pub is_first_due : S → ℕ → Type 0
   -- a shard was advanced to this time, with this result.
   pub resends : ℕ → ℕ → S → S → Ticked → Type 0
-  -- a shard that was idle at this time was advanced to it.
+  -- a shard that was idle at this time was advanced to it, or was skipped.
   pub passes_over : ℕ → ℕ → S → S → Type 0
   -- a shard was asked at this time for the first observer with a pending notification, with this
   -- result.

@@ -53,8 +53,9 @@ pub trait Ingress {
 
     /// Advances a shard, 0 to 7, to `now` in milliseconds if it is idle then.
     ///
-    /// A shard is idle if no notification has timed out and no observer has a pending one. Returns
-    /// whether the shard was advanced; if not, nothing changes.
+    /// A shard is idle if no notification has timed out and no observer has a pending one. An
+    /// ingress may skip a shard that it knows to be idle. Returns whether the shard is idle; if it
+    /// isn't, nothing changes.
     fn advance_if_idle(&mut self, shard: u8, now: u64) -> bool
         ensures idle { (some : Shard) × (result ≡ is_idle (at_time some now)) }
         ensures after { MatchBool result (calls.passes_over shard now self.old self.new) (self.new ≡ self.old) };

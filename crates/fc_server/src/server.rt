@@ -2,16 +2,19 @@
 //!
 //! The engine and `fc_world` make the calls. A call for a task has no effect if the task's stage
 //! doesn't need the event of the call; `Lose` ends any task.
-ghost use Rattle.std.specs.Prelude.{◌≡◌, ℕ, List, ◌<◌, ◌≤◌, if◌then◌else◌, [], false, length, slice_set, IfOk, OnOk};
+ghost use Rattle.std.specs.Prelude.{◌≡◌, ℕ, List, ◌<◌, ◌≤◌, if◌then◌else◌, [], false, length, slice_set, IfErr, IfOk, OnOk};
+ghost use Rattle.fc_registry.specs.Restored.{restored_slot};
 ghost use Rattle.fc_registry.specs.Shards.{first_shards, shard_at};
+ghost use Rattle.fc_registry.specs.Starts.{CanRestore, IsStartError, shards_over};
 ghost use Rattle.fc_registry.specs.Turns.{written_if};
 ghost use Rattle.fc_registry.specs.Watches.{StaysIdleUntil, at_time, is_idle, observer_counts, signal_call, signalled};
 ghost use Rattle.fc_core.specs.declared.event.Event.{Event};
 ghost use Rattle.fc_core.specs.Exchanges.{advanced, first_front};
 ghost use Rattle.fc_core.specs.Gauges.{gauges_at};
-ghost use Rattle.fc_core.specs.Heads.{no_words};
+ghost use Rattle.fc_core.specs.Heads.{first_words, no_words};
 ghost use Rattle.fc_core.specs.Receiving.{after_delivered, delivered, emission_if, handled};
 ghost use Rattle.fc_core.specs.Timers.{timer_job};
+ghost use Rattle.fc_store.specs.Stored.{stored_in};
 ghost use Rattle.fc_server.specs.States.{Responds, AtWork, CanBegin, Does, DrawsId, Works};
 ghost use Rattle.fc_server.specs.Steps.{shard_asked, shard_ticked, shard_told, shard_turn};
 
@@ -21,7 +24,8 @@ use fc_core::{DEFAULT_POLICY, Event, Front, FrontGauges, Handled, Heads, Policy,
 use fc_help::Readings;
 use fc_machine::Frame;
 use fc_observe::Ticked;
-use fc_registry::{Job, PLACES, Shard, SlotNumber, make_shards};
+use fc_registry::{Job, PLACES, Shard, SlotNumber, StartError, make_shards, restore_shards};
+use fc_store::StoredSlot;
 use std::alloc::{AllocError, Global};
 use std::marker::Model;
 
@@ -78,6 +82,36 @@ impl Server {
             front: Front::new(alloc, &begin.policy, begin.id)?,
             shards: make_shards(alloc, begin.serial, begin.policy.confirm_after)?,
             heads: Heads::new(),
+            frame: Frame::new(alloc)?,
+        })
+    }
+
+    /// Makes a server whose slots 0 to 63 are restored from these stored states.
+    ///
+    /// Each stored image is verified again. The server has the policy, and draws the message ID
+    /// `id` first. Its head words are those of the restored programs.
+    ///
+    /// # Errors
+    /// Returns a slot that can't be restored, with the reason, or that memory can't be allocated.
+    pub fn over(
+        alloc: Global,
+        stored: &[StoredSlot],
+        id: u16,
+        policy: &Policy,
+    ) -> Result<Server, StartError>
+        requires { length stored.now ≡ 64 }
+        ensures front { IfOk result (λ s. s.front ≡ first_front policy.now id) }
+        ensures shards { IfOk result (λ s.
+            s.shards ≡ shards_over (λ n. restored_slot (stored_in stored.now n)) policy.now.confirm_after) }
+        ensures words { IfOk result (λ s. s.words ≡ first_words (λ n. restored_slot (stored_in stored.now n))) }
+        ensures can { IfOk result (λ s. (n : ℕ) → n < 64 → CanRestore (stored_in stored.now n)) }
+        ensures cause { IfErr result (IsStartError (stored_in stored.now)) }
+    {
+        let shards = restore_shards(alloc, policy.confirm_after, stored)?;
+        Ok(Server {
+            front: Front::new(alloc, policy, id)?,
+            shards,
+            heads: Heads::over(stored),
             frame: Frame::new(alloc)?,
         })
     }

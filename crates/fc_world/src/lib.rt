@@ -37,12 +37,14 @@
 //!   comes from these readings.
 //! - `run_world_from` gives the same guarantees for a server that begins with another serial,
 //!   message ID and policy.
+//! - `run_world_over` gives them for a server whose slots are restored from stored states. A ring
+//!   then counts the commits from the start, or from the slot's last install after it.
 //!
-//! By the contracts of `run_world`, `run_world_from`.
+//! By the contracts of `run_world`, `run_world_from`, `run_world_over`.
 #![tactic(auto)]
 
 pub mod run;
 mod state;
 
 pub use fc_core::Event;
-pub use run::{World, run_world, run_world_from};
+pub use run::{World, run_world, run_world_from, run_world_over};

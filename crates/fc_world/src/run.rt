@@ -1,19 +1,25 @@
 //! Execution of a whole list of events.
-ghost use Rattle.std.specs.Prelude.{◌≡◌, ℕ, ◌<◌, ◌≤◌, length, IfOk};
+ghost use Rattle.std.specs.Prelude.{◌≡◌, ℕ, ◌<◌, ◌≤◌, [], length, IfErr, IfOk};
 ghost use Rattle.fc_registry.specs.Laws.{RingBegins};
 ghost use Rattle.fc_registry.specs.Record.{IsChain, IsRing};
+ghost use Rattle.fc_registry.specs.Restored.{restored_slot};
 ghost use Rattle.fc_registry.specs.Shards.{AreShards, shard_at, slot_in_shards};
 ghost use Rattle.fc_registry.specs.Slots.{new_slot};
+ghost use Rattle.fc_registry.specs.Starts.{CanRestore, IsStartError, RingContinues};
+ghost use Rattle.fc_server.specs.Serving.{Serves};
 ghost use Rattle.fc_server.specs.States.{CanBegin};
-ghost use Rattle.fc_core.specs.History.{history_of, seen, slot_at};
+ghost use Rattle.fc_core.specs.History.{History, history_of, seen, slot_at};
 ghost use Rattle.fc_core.specs.Legal.{IsLegal, AllMean};
-ghost use Rattle.fc_world.specs.Histories.{history_from};
+ghost use Rattle.fc_store.specs.Stored.{stored_in};
+ghost use Rattle.fc_world.specs.Histories.{history_from, history_over};
+ghost use Rattle.fc_world.specs.Runs.{EndsWith};
 
 use crate::state::WorldState;
 use coap_msg::Emission;
-use fc_core::Event;
-use fc_registry::Shard;
+use fc_core::{Event, Policy};
+use fc_registry::{Shard, StartError};
 use fc_server::{Begin, DEFAULT_BEGIN};
+use fc_store::StoredSlot;
 use std::alloc::{AllocError, Global};
 
 /// The result of a list of events.
@@ -88,7 +94,56 @@ pub fn run_world_from(
         RingBegins begin.now.serial changes (slot_in_shards w.shards.items n)) }
     ensures means { IfOk result (λ w. AllMean (history_from begin.now events.now w.emissions.items)) }
 {
-    let mut state = WorldState::new(alloc, begin)?;
+    run_events(alloc, WorldState::new(alloc, begin)?, events)
+}
+
+/// Executes a list of any events, on a server whose slots are restored from `stored`.
+///
+/// `stored` has the stored states of slots 0 to 63, for example those that an earlier run left. The
+/// server has the policy, and draws the message ID `id` first. The guarantees are those of
+/// [`run_world`]. At the start, each slot has its stored serial, program, version and variables,
+/// and its ring is empty. A ring counts the commits from the start, or from the slot's last install
+/// after it.
+///
+/// # Errors
+/// Returns one of the slots that can't be restored, with the reason, or that memory can't be
+/// allocated. Then nothing else is guaranteed.
+pub fn run_world_over(
+    alloc: Global,
+    stored: &[StoredSlot],
+    id: u16,
+    policy: &Policy,
+    events: &[Event<'_>],
+) -> Result<World, StartError>
+    requires { length stored.now ≡ 64 }
+    ensures legal { IfOk result (λ w. IsLegal (history_over (stored_in stored.now) id policy.now events.now w.emissions.items)) }
+    ensures count { IfOk result (λ w. length w.emissions.items ≡ length events.now) }
+    ensures shards { IfOk result (λ w. AreShards w.shards.items) }
+    ensures slots { IfOk result (λ w. (n : ℕ) → n < 64 → slot_in_shards w.shards.items n
+        ≡ slot_at (seen (history_over (stored_in stored.now) id policy.now events.now w.emissions.items)) n) }
+    ensures times { IfOk result (λ w. (i : ℕ) → i < 8 → (shard_at w.shards.items i).now
+        ≡ (seen (history_over (stored_in stored.now) id policy.now events.now w.emissions.items)).shard_time i) }
+    ensures chains { IfOk result (λ w. (n : ℕ) → n < 64 → IsChain (restored_slot (stored_in stored.now n))
+        ((seen (history_over (stored_in stored.now) id policy.now events.now w.emissions.items)).changes n)) }
+    ensures rings { IfOk result (λ w. (n : ℕ) → n < 64 →
+        let changes = (seen (history_over (stored_in stored.now) id policy.now events.now w.emissions.items)).changes n in
+        RingContinues (restored_slot (stored_in stored.now n)) changes (slot_in_shards w.shards.items n)) }
+    ensures means { IfOk result (λ w. AllMean (history_over (stored_in stored.now) id policy.now events.now w.emissions.items)) }
+    ensures restored { IfOk result (λ w. (n : ℕ) → n < 64 → CanRestore (stored_in stored.now n)) }
+    ensures cause { IfErr result (IsStartError (stored_in stored.now)) }
+{
+    let state = WorldState::over(alloc, stored, id, policy)?;
+    Ok(run_events(alloc, state, events)?)
+}
+
+// Executes a list of events on a server without tasks. Returns the emissions, and the shards at the
+// end. Returns an error if memory can't be allocated.
+fn run_events(alloc: Global, first: WorldState, events: &[Event<'_>]) -> Result<World, AllocError>
+    requires begun { (h : History) × Serves h first.server [] }
+    requires none { first.tasks.items ≡ [] }
+    ensures { IfOk result (λ w. (h : History) → Serves h first.server [] → EndsWith h events.now w.emissions.items w.shards.items) }
+{
+    let mut state = first;
     let mut emissions = Vec::new(alloc);
     for event in events {
         let emitted = state.step(alloc, event)?;

@@ -1,5 +1,8 @@
 //! The state of a world, and the effect of each event on it.
-ghost use Rattle.std.specs.Prelude.{◌≡◌, [], None, Some, length, IfOk, OnOk};
+ghost use Rattle.std.specs.Prelude.{◌≡◌, ◌<◌, ℕ, [], None, Some, length, IfErr, IfOk, OnOk};
+ghost use Rattle.fc_registry.specs.Starts.{CanRestore, IsStartError};
+ghost use Rattle.fc_store.specs.Stored.{stored_in};
+ghost use Rattle.fc_core.specs.History.{BeginsWith};
 ghost use Rattle.fc_core.specs.declared.event.Event.{Event};
 ghost use Rattle.fc_core.specs.Transitions.{names};
 ghost use Rattle.fc_server.specs.Serving.{Serves};
@@ -9,10 +12,11 @@ ghost use Rattle.fc_world.specs.Parts.{parts};
 
 use coap_msg::{Emission, Endpoint};
 use fc_core::front::blank_emission;
-use fc_core::{Event, Handled, Task};
+use fc_core::{Event, Handled, Policy, Task};
 use fc_observe::Ticked;
-use fc_registry::{SHARDS, SLOTS, SlotNumber};
+use fc_registry::{SHARDS, SLOTS, SlotNumber, StartError};
 use fc_server::{Begin, Server};
+use fc_store::StoredSlot;
 use std::alloc::{AllocError, Global};
 
 /// A server, and the jobs of all events so far, each with its stage.
@@ -120,6 +124,26 @@ impl WorldState {
     {
         Ok(WorldState {
             server: Server::new(alloc, begin)?,
+            tasks: Vec::new(alloc),
+        })
+    }
+
+    // Makes a server whose slots are restored from these stored states, and no tasks. Returns an
+    // error if a slot can't be restored, or if memory can't be allocated.
+    pub(crate) fn over(
+        alloc: Global,
+        stored: &[StoredSlot],
+        id: u16,
+        policy: &Policy,
+    ) -> Result<WorldState, StartError>
+        requires { length stored.now ≡ 64 }
+        ensures serves { IfOk result (λ w. Serves (BeginsWith (stored_in stored.now) id policy.now) w.server []) }
+        ensures none { IfOk result (λ w. w.tasks.items ≡ []) }
+        ensures can { IfOk result (λ w. (n : ℕ) → n < 64 → CanRestore (stored_in stored.now n)) }
+        ensures cause { IfErr result (IsStartError (stored_in stored.now)) }
+    {
+        Ok(WorldState {
+            server: Server::over(alloc, stored, id, policy)?,
             tasks: Vec::new(alloc),
         })
     }

@@ -25,7 +25,7 @@ use Rattle.fc_core.specs.declared.event.Event.TheVariants.{Deliver, Answer, Fire
 use Rattle.coap_reply.specs.Blocks.{cut_for}
 use Rattle.fc_laws.specs.BodyLaws.{Asks, BringsInstall, FitsBy, IsAskedAnew, PutsBlock, addition_at, addition_by, asked_at, continue_by}
 use Rattle.fc_laws.specs.ExchangeLaws.{IsOnRequest}
-use Rattle.fc_core.specs.History.{Entry, History, Begins, Then, Seen, and_then, did, front_at, received_at, seen, stage, at_front, time_by, additions_by}
+use Rattle.fc_core.specs.History.{Entry, History, BeginsWith, Then, Seen, and_then, did, front_at, received_at, seen, stage, at_front, time_by, additions_by}
 use Rattle.fc_core.specs.Legal.{Emits}
 use Rattle.fc_core.specs.Policies.{is_allowed}
 use Rattle.fc_core.specs.Receiving.{Received, Silenced, Refused, Immediate, Opened, add_in, added_by, addition_of, ask_by, brought, is_confirmable, job_of, look_in, looked, next_opening, over_share, received_added, received_as, received_read, request_received, sent, slot_asked, received_if, initial_vars_by}
@@ -58,7 +58,7 @@ rises_on other s w = w
 
 pub rises : (h : History) → RisesTo (seen h).time (seen h).additions
 unfolding seen
-rises (Begins serial id policy) = tt
+rises (BeginsWith stored id policy) = tt
 rises (Then h r) = rises_on r.event (seen h) (rises h)
 
 pub rises_at : (h : History) (now : ℕ) → RisesTo (max (seen h).time now) (seen h).additions

@@ -16,7 +16,7 @@ use Rattle.fc_core.specs.TurnStage as turns
 use Rattle.fc_core.specs.Contents.{Content}
 use Rattle.fc_core.specs.Exchanges.{opening_is_live}
 use Rattle.fc_laws.specs.ExchangeLaws.{AllBefore, AreApart, AreInOrder, Draw, draws_by, draws_of, first_id}
-use Rattle.fc_core.specs.History.{History, Begins, Then, Seen, seen, and_then, did, ids_answered, job, received_at, stage, at_front, time_by, ids_by}
+use Rattle.fc_core.specs.History.{History, BeginsWith, Then, Seen, seen, and_then, did, ids_answered, job, received_at, stage, at_front, time_by, ids_by}
 use Rattle.fc_core.specs.Ids.{Ids, drawn, drawn_for, free_id, is_recent, last_drawn, no_draws}
 use Rattle.fc_core.specs.Receiving.{Received, Full, Refused, Immediate, is_confirmable}
 use Rattle.fc_core.specs.Receiving as receiving
@@ -172,7 +172,7 @@ none_drawn id a lt e = absurd (cc (sym (get_or-replicate {A = Option ℕ} 65536 
 
 all_kept : (h : History) → first_id h < 65536 → AreKept (first_id h) (seen h).ids (seen h).time (draws_of h)
 unfolding seen
-all_kept (Begins serial id policy) lt = record { next = omega (arith, lt); room = none_room; kept = tt; drawn = none_drawn; past = tt; order = tt; apart = tt }
+all_kept (BeginsWith stored id policy) lt = record { next = omega (arith, lt); room = none_room; kept = tt; drawn = none_drawn; past = tt; order = tt; apart = tt }
 all_kept (Then h r) lt = step (first_id h) (seen h).ids (and_then r (seen h)).ids (seen h).time (time_by (at_front r.event) (seen h)) (draws_of h) (time_rises r.event (seen h)) (all_kept h lt) (event_draws r.event (seen h))
 
 pub next_small : (h : History) → first_id h < 65536 → (seen h).ids.next < 65536

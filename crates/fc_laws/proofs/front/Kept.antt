@@ -20,7 +20,7 @@ use Rattle.fc_core.specs.Stage.{Stage}
 use Rattle.fc_core.specs.Stage.{ToAnswer}
 use Rattle.fc_core.specs.Exchanges.{FrontState, has_exchange, opening_is_live}
 use Rattle.fc_laws.specs.ExchangeLaws.{HasExchange, Opens}
-use Rattle.fc_core.specs.History.{Entry, History, Begins, Then, Seen, seen, answered_in, did, exchanges_received, front_at, job, received_at, stage, at_front, exchanges_by}
+use Rattle.fc_core.specs.History.{Entry, History, BeginsWith, Then, Seen, seen, answered_in, did, exchanges_received, front_at, job, received_at, stage, at_front, exchanges_by}
 use Rattle.fc_core.specs.Ids.{free_id}
 use Rattle.fc_laws.specs.KeptLaws.{AnswersJob, HasId, answers, answers_with, emitted_bytes, exchange_of_job, opened_at}
 use Rattle.fc_core.specs.Legal.{AnswerEmits, Emits, IsAnswered}
@@ -100,7 +100,7 @@ numbered_by other o s w = w
 
 pub numbered : (h : History) → AreNumbered 0 (seen h).exchanges
 unfolding seen
-numbered (Begins serial id policy) = tt
+numbered (BeginsWith stored id policy) = tt
 numbered (Then h r) = numbered_by r.event r.emitted (seen h) (numbered h)
 
 -- ---- stored answers

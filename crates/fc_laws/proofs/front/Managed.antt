@@ -25,7 +25,7 @@ use Rattle.fc_core.specs.declared.event.Event.TheVariants.{Deliver, Due, Fire}
 use Rattle.fc_core.specs.declared.policy.Network.{Network}
 use Rattle.fc_core.specs.declared.stage.Task.{Task}
 use Rattle.fc_core.specs.Exchanges.{FrontState}
-use Rattle.fc_core.specs.History.{AsksTurn, Begins, History, Seen, Then, front_at, job, no_task, inputs, seen, slot_at, task_at, tasks_brought, tasks_moved, turn_at, turns_by, watch}
+use Rattle.fc_core.specs.History.{AsksTurn, BeginsWith, History, Seen, Then, front_at, job, no_task, inputs, seen, slot_at, task_at, tasks_brought, tasks_moved, turn_at, turns_by, watch}
 use Rattle.fc_core.specs.Laws.{HasCome}
 use Rattle.fc_core.specs.Policies.{is_allowed, is_manager}
 use Rattle.fc_core.specs.Receiving.{Received, add_in, ask_by, brought, job_of, look_in, looked, next_opening, received, received_added, received_as, received_if, received_read, request_received}
@@ -143,7 +143,7 @@ moved_managed s e (Some k) w = each_set (λ (t : Task). IsManaged s.policy.manag
 
 all_managed : (h : History) → AllManaged (seen h).policy.managers (seen h).tasks
 unfolding seen
-all_managed (Begins serial id policy) = tt
+all_managed (BeginsWith stored id policy) = tt
 all_managed (Then h r) = each_append (λ (t : Task). IsManaged (seen h).policy.managers t.job) (tasks_moved (names r.event) r.event (seen h)) (tasks_brought r.event (seen h)) (moved_managed (seen h) r.event (names r.event) (all_managed h)) (brought_managed (seen h) r.event)
 
 pub managed : (h : History) (k : ℕ) → HasCome (seen h) k → IsManaged (seen h).policy.managers (job (seen h) k)

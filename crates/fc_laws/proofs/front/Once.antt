@@ -21,7 +21,7 @@ use Rattle.fc_registry.specs.declared.job.Origin.{Origin}
 use Rattle.fc_core.specs.declared.event.Event.{Event}
 use Rattle.fc_core.specs.declared.event.Event.TheVariants.{Deliver, Due, Fire, Answer}
 use Rattle.fc_laws.specs.ExchangeLaws.{IsOfRequest, is_within, repeated}
-use Rattle.fc_core.specs.History.{Entry, History, Begins, Then, Seen, seen, and_then, answered_in, due_in, front_at, job, received_at, stage, tasks_brought, at_front, exchanges_by}
+use Rattle.fc_core.specs.History.{Entry, History, BeginsWith, Then, Seen, seen, and_then, answered_in, due_in, front_at, job, received_at, stage, tasks_brought, at_front, exchanges_by}
 use Rattle.fc_core.specs.Laws.{HasCome}
 use Rattle.coap_block.specs.Uploads.{Add, Continues, IsWhole, IsIncomplete, IsBadLength, IsTooLarge, IsFull}
 use Rattle.fc_core.specs.Policies.{is_allowed}
@@ -174,7 +174,7 @@ opened_after r s k come asks w = ⊎_elim
 -- each job of a request has its exchange in the table.
 opened_for : (h : History) (k : ℕ) → HasCome (seen h) k → IsOfRequest (job (seen h) k) → Any (IsOf (job (seen h) k).origin) (seen h).exchanges
 unfolding seen
-opened_for (Begins serial id policy) k come asks = absurd (omega arith)
+opened_for (BeginsWith stored id policy) k come asks = absurd (omega arith)
 opened_for (Then h r) k come asks = opened_after r (seen h) k come asks (opened_for h k)
 
 -- ---- at most once within a lifetime
@@ -223,5 +223,5 @@ apart_after h r j k lt come w =
 
 pub jobs_apart : (h : History) (j k : ℕ) → j < k → HasCome (seen h) k → IsOfRequest (job (seen h) j) → IsOfRequest (job (seen h) k) → (job (seen h) j).origin.endpoint ≡ (job (seen h) k).origin.endpoint → (job (seen h) j).origin.id ≡ (job (seen h) k).origin.id → (job (seen h) j).origin.opening.at + 247000 ≤ (job (seen h) k).origin.opening.at
 unfolding seen
-jobs_apart (Begins serial id policy) j k lt come = absurd (omega arith)
+jobs_apart (BeginsWith stored id policy) j k lt come = absurd (omega arith)
 jobs_apart (Then h r) j k lt come = apart_after h r j k lt come (jobs_apart h j k lt)

@@ -9,7 +9,7 @@ use Rattle.fc_registry.specs.declared.job.Job.{Job}
 use Rattle.fc_registry.specs.declared.job.Opening.{Opening}
 use Rattle.fc_core.specs.declared.event.Event.{Event}
 use Rattle.fc_core.specs.declared.event.Event.TheVariants.{Answer, Deliver, Due, Fire}
-use Rattle.fc_core.specs.History.{Entry, History, Begins, Then, Seen, seen, and_then, at_front, due_in, exchanges_by, front_at, job, received_at, stage, tasks_brought}
+use Rattle.fc_core.specs.History.{Entry, History, BeginsWith, Then, Seen, seen, and_then, at_front, due_in, exchanges_by, front_at, job, received_at, stage, tasks_brought}
 use Rattle.fc_core.specs.Laws.{HasCome}
 use Rattle.fc_core.specs.Receiving.{Received, Opened, brought, next_opening, opened_by}
 use Rattle.fc_core.specs.Stages.{content_at}
@@ -72,5 +72,5 @@ placed_after r s k come before = ⊎_elim
 
 pub in_place : (h : History) (k : ℕ) → HasCome (seen h) k → IsOfRequest (job (seen h) k) → IsInPlace (arrivals (seen h)) (job (seen h) k)
 unfolding seen
-in_place (Begins serial id policy) k come = absurd (omega arith)
+in_place (BeginsWith stored id policy) k come = absurd (omega arith)
 in_place (Then h r) k come = placed_after r (seen h) k come (in_place h k)

@@ -71,7 +71,7 @@ record IsOf (k : ℕ) (e : Event) (o : Option Emission) (s : Seen) : Type 0 wher
 left : (k : ℕ) (e : Event) (o : Option Emission) (s : Seen) → IsOf k e o s → IsStill (transition e (inputs s k)) → LeavesAllButStage k s (and_then (did e o) s)
 left k e o s of still = record {
   slots = record {
-    first = refl;
+    stored = refl;
     slots = λ n.
         ap (λ (x : Option ℕ). changes_after x e s n) of.named
         ∙ changes_still (slot_of s k == n) (transition e (inputs s k)).changes (s.changes n) still.changes;

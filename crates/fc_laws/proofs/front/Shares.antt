@@ -13,7 +13,7 @@ use Rattle.coap_dedup.specs.Exchanges.{Exchange, is_at, places_of, share_of}
 use Rattle.fc_core.specs.declared.event.Event.{Event}
 use Rattle.fc_core.specs.declared.event.Event.TheVariants.{Deliver}
 use Rattle.fc_core.specs.declared.policy.Policy.{Policy}
-use Rattle.fc_core.specs.History.{Begins, Entry, History, Seen, Then, and_then, at_front, time_by, seen}
+use Rattle.fc_core.specs.History.{BeginsWith, Entry, History, Seen, Then, and_then, at_front, time_by, seen}
 use Rattle.fc_core.specs.Policies.{default_policy}
 use Rattle.fc_laws.specs.ExchangeLaws.{Arrival, ArrivesBy, ExceedsShare, Opens, arrival_of, arrivals, held_at, is_within, shared_at}
 use Rattle.fc_laws.proofs.front.Repeats.{others_open_nothing, requests_open}
@@ -222,12 +222,12 @@ share_after r s at ip le held =
 
 counts : (h : History) (at : ℕ) → (seen h).time ≤ at → count at (arrivals (seen h)) ≤ (places_of (seen h).policy.limits)
 unfolding seen
-counts (Begins serial id policy) at le = omega arith
+counts (BeginsWith stored id policy) at le = omega arith
 counts (Then h r) at le = count_after r (seen h) at le (counts h)
 
 shares : (h : History) (at : ℕ) (ip : List ℕ) → (seen h).time ≤ at → share at ip (arrivals (seen h)) ≤ (seen h).policy.limits.share
 unfolding seen
-shares (Begins serial id policy) at ip le = omega arith
+shares (BeginsWith stored id policy) at ip le = omega arith
 shares (Then h r) at ip le = share_after r (seen h) at ip le (λ t. shares h t ip)
 
 pub within_exchanges : (h : History) (at : ℕ) → (seen h).time ≤ at → length (held_at (seen h) at) ≤ (places_of (seen h).policy.limits)

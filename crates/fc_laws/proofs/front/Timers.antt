@@ -15,7 +15,7 @@ use Rattle.fc_core.specs.declared.event.Event.{Event}
 use Rattle.fc_core.specs.declared.event.Event.TheVariants.{Answer, Deliver, Due, Fire}
 use Rattle.fc_core.specs.declared.stage.Task.{Task}
 use Rattle.fc_core.specs.Exchanges.{has_exchange, opening_is_live}
-use Rattle.fc_core.specs.History.{Entry, History, Begins, Then, Seen, seen, and_then, at_front, did, due_in, exchanges_by, front_at, ids_answered, job, no_task, received_at, stage, tasks_brought}
+use Rattle.fc_core.specs.History.{Entry, History, BeginsWith, Then, Seen, seen, and_then, at_front, did, due_in, exchanges_by, front_at, ids_answered, job, no_task, received_at, stage, tasks_brought}
 use Rattle.fc_core.specs.Ids.{Ids}
 use Rattle.fc_core.specs.Laws.{HasCome, followed_by, slot_of}
 use Rattle.fc_core.specs.Legal.{Emits}
@@ -162,7 +162,7 @@ has_opened r s from m j b = (subst (Each IsOfRequest) (brought_is r s from m j b
 
 -- each timer that fires in the history makes a job with this property.
 abbrev FiresMake : (Job → Type 0) → History → Type 0
-FiresMake P (Begins serial id policy) = Unit {0}
+FiresMake P (BeginsWith stored id policy) = Unit {0}
 FiresMake P (Then h r) = ((n now : ℕ) → r.event ≡ Fire n now → P (timer_job n)) × FiresMake P h
 
 -- if a property holds of leases, of requests, and of the jobs of the timers that fired, it holds of
@@ -184,21 +184,21 @@ module _ (P : Job → Type 0) (lease : (j : Job) → IsOfLease j → P j) (reque
 
   each_job : (h : History) (k : ℕ) → FiresMake P h → HasCome (seen h) k → P (job (seen h) k)
   unfolding seen
-  each_job (Begins serial id policy) k timers come = absurd (omega arith)
+  each_job (BeginsWith stored id policy) k timers come = absurd (omega arith)
   each_job (Then h r) k timers come = each_after r (seen h) k timers.0 come (each_job h k timers.1)
 
 abbrev IsOfOne : Job → Type 0
 IsOfOne j = IsOfLease j ⊎ (IsOfRequest j ⊎ IsPostOfTimer j.origin.slot j)
 
 all_posts : (h : History) → FiresMake IsOfOne h
-all_posts (Begins serial id policy) = tt
+all_posts (BeginsWith stored id policy) = tt
 all_posts (Then h r) = (λ n now is. inr (inr (posts n)), all_posts h)
 
 pub of_one : (h : History) (k : ℕ) → HasCome (seen h) k → IsOfLease (job (seen h) k) ⊎ (IsOfRequest (job (seen h) k) ⊎ IsPostOfTimer (slot_of (seen h) k) (job (seen h) k))
 of_one h k come = each_job IsOfOne (λ j w. inl w) (λ j w. inr (inl w)) h k (all_posts h) come
 
 none_fire : (P : Job → Type 0) (h : History) → HasNoFire h → FiresMake P h
-none_fire P (Begins serial id policy) none = tt
+none_fire P (BeginsWith stored id policy) none = tt
 none_fire P (Then h r) none = (λ n now is. absurd (subst IsNoFire is none.0), none_fire P h none.1)
 
 pub of_either : (h : History) (k : ℕ) → HasNoFire h → HasCome (seen h) k → IsOfLease (job (seen h) k) ⊎ IsOfRequest (job (seen h) k)

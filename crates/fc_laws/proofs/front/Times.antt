@@ -9,7 +9,7 @@ use Rattle.fc_core.specs.Stage.{Stage}
 use Rattle.fc_core.specs.Stage.{ToAnswer, ToTell}
 use Rattle.fc_core.specs.TurnStage as turns
 use Rattle.fc_core.specs.AnswerLaws.{answer_time, draw_time, transition_time, greatest, is_of_shard, own_time, times_in, times_of, shard_times_of}
-use Rattle.fc_core.specs.History.{around, History, Begins, Then, Seen, seen, job, inputs, shard_time_after, slot_at, stage, at_front, time_by, at_shard, hands_by}
+use Rattle.fc_core.specs.History.{around, History, BeginsWith, Then, Seen, seen, job, inputs, shard_time_after, slot_at, stage, at_front, time_by, at_shard, hands_by}
 use Rattle.fc_core.specs.Laws.{slot_of, stage_named}
 use Rattle.fc_core.specs.Stages.{content_at, needs_id}
 use Rattle.fc_core.specs.Transitions.{Around, Inputs, handed, names, transition}
@@ -34,7 +34,7 @@ front_handed other s ms is = is
 
 pub time_is_greatest : (h : History) → (seen h).time ≡ greatest (times_of h)
 unfolding seen
-time_is_greatest (Begins serial id policy) = refl
+time_is_greatest (BeginsWith stored id policy) = refl
 time_is_greatest (Then h r) = front_handed r.event (seen h) (times_of h) (time_is_greatest h)
 
 abbrev at : Job → Slot → Around → Stage → Inputs
@@ -72,5 +72,5 @@ handed_more other i m ms is = is
 
 pub shard_time_is_greatest : (h : History) (i : ℕ) → (seen h).shard_time i ≡ greatest (shard_times_of i h)
 unfolding seen
-shard_time_is_greatest (Begins serial id policy) i = refl
+shard_time_is_greatest (BeginsWith stored id policy) i = refl
 shard_time_is_greatest (Then h r) i = handed_more r.event i _ _ (shard_handed (seen h) r.event (names r.event) i (shard_times_of i h) (shard_time_is_greatest h i))

@@ -64,7 +64,7 @@ module _ (s : Seen) (now : ℕ) (to : Endpoint) (bytes : Bor (List ℕ)) (o : Op
 
   left_by : (x : Received) → received_at s now to bytes.now ≡ x → IsNothing x → LeavesAll s (and_then (did (Deliver now to bytes) o) s)
   left_by x is w = record {
-    slots = record { first = refl; slots = λ n. refl; words = refl };
+    slots = record { stored = refl; slots = λ n. refl; words = refl };
     jobs = record {
       tasks = ap (λ (y : Received). s.tasks ++ map new_task (brought y (next_opening (front_at s now)) to)) is ∙ nothing_brought x w;
       observers = λ n. refl;
@@ -110,7 +110,7 @@ turned_down_left r s w = turned_by r.event r.emitted s w
 
 code_left : (e : Event) (o : Option Emission) (s : Seen) (m : Message) (answer : ℕ) → Refuses s e m answer → LeavesAllButExchange (did e o) s
 code_left (Deliver now to bytes) o s m answer w = record {
-  slots = record { first = refl; slots = λ n. refl; words = refl };
+  slots = record { stored = refl; slots = λ n. refl; words = refl };
   jobs = record { tasks = refused_brings (did (Deliver now to bytes) o) s m answer w; observers = λ n. refl };
   exchange = requests_open (did (Deliver now to bytes) o) s w.opens;
   additions = ap (λ (y : Received). added_by y (max s.time now) to ++ s.additions) (refused_is s now to bytes.now m answer w);
@@ -123,7 +123,7 @@ silence_left o s now to bytes w silent =
     let is : received_at s now to bytes.now ≡ Silenced w.message = opening_is s now to bytes.now w
     ∙ ap (λ (v : Verdict). new_as (front_at s now) to v w.message) silent in
     record {
-      slots = record { first = refl; slots = λ n. refl; words = refl };
+      slots = record { stored = refl; slots = λ n. refl; words = refl };
       jobs = record {
         tasks = ap (λ (y : Received). s.tasks ++ map new_task (brought y (next_opening (front_at s now)) to)) is ∙ append-nil s.tasks;
         observers = λ n. refl;
@@ -223,7 +223,7 @@ module _ (s : Seen) (now : ℕ) (to : Endpoint) (bytes : Bor (List ℕ)) (o : Op
       (live at (after_block held at to n b q.payload)) ≡ find (is_transfer_of from k) (live at held))
       → LeavesAllButTransfer (did (Deliver now to bytes) o) s to n
   block_left rest = record {
-    slots = record { first = refl; slots = λ k. refl; words = refl };
+    slots = record { stored = refl; slots = λ k. refl; words = refl };
     jobs = record { tasks = responding_waits (Deliver now to bytes) o s m q answer w is; observers = λ k. refl };
     exchange = requests_open (did (Deliver now to bytes) o) s w.opens;
     gone = block_gone;

@@ -7,13 +7,14 @@ use Rattle.fc_observe.specs.declared.entry.Turn.{Turn}
 use Rattle.fc_registry.specs.declared.job.Ask.{Ask}
 use Rattle.fc_registry.specs.declared.job.Job.{Job}
 use Rattle.fc_registry.specs.Calls.{turn_of}
+use Rattle.fc_store.specs.Stored.{StoredSlots}
 use Rattle.fc_core.specs.declared.event.Event.{Event}
 use Rattle.fc_core.specs.Stage.{Stage}
 use Rattle.fc_core.specs.Stage.{ToTell, Gone}
 use Rattle.fc_core.specs.TurnStage as turns
 use Rattle.fc_core.specs.declared.stage.Task.{Task}
 use Rattle.fc_core.specs.declared.policy.Policy.{Policy}
-use Rattle.fc_core.specs.History.{Entry, History, Begins, Then, Seen, seen, and_then, no_task, inputs, stage, task_at}
+use Rattle.fc_core.specs.History.{Entry, History, BeginsWith, Then, Seen, seen, and_then, no_task, inputs, stage, task_at}
 use Rattle.fc_core.specs.Laws.{is_named, is_job}
 use Rattle.fc_core.specs.Stages.{first_by, first_or_turn, first_stage}
 use Rattle.fc_core.specs.Transitions.{names, transition}
@@ -33,7 +34,7 @@ gone_before s k le = ap (λ (t : Task). t.stage) (get_or_past s.tasks k no_task 
 -- `told` is a function of the history and a job, which only the events of that job update.
 module _ {A : Type 0} (told : History → ℕ → A) (update : Event → Seen → ℕ → A → A) (P : A → Stage → Type 0) (none : A) where
   pub record IsTold : Type 0 where
-    pub begins : (serial id : ℕ) (policy : Policy) (k : ℕ) → told (Begins serial id policy) k ≡ none
+    pub begins : (stored : StoredSlots) (id : ℕ) (policy : Policy) (k : ℕ) → told (BeginsWith stored id policy) k ≡ none
     pub then_is : (h : History) (r : Entry) (k : ℕ) → told (Then h r) k ≡ (if is_named k r.event then update r.event (seen h) k (told h k) else told h k)
     pub still : (e : Event) (s : Seen) (k : ℕ) (a : A) → stage s k ≡ Gone → update e s k a ≡ a
     pub gone : P none Gone
@@ -47,7 +48,7 @@ module _ {A : Type 0} (told : History → ℕ → A) (update : Event → Seen �
 
   pub none_yet : IsTold → (h : History) (k : ℕ) → length (seen h).tasks ≤ k → told h k ≡ none
   unfolding seen
-  none_yet w (Begins serial id policy) k le = w.begins serial id policy k
+  none_yet w (BeginsWith stored id policy) k le = w.begins stored id policy k
   none_yet w (Then h r) k le =
       let before : length (seen h).tasks ≤ k = omega (arith, tasks_grow r (seen h), le) in
       w.then_is h r k ∙ (none_if w r.event (seen h) k (told h k) (is_named k r.event) (gone_before (seen h) k before) ∙ none_yet w h k before)
@@ -72,5 +73,5 @@ module _ {A : Type 0} (told : History → ℕ → A) (update : Event → Seen �
 
   pub along : IsTold → (h : History) (k : ℕ) → P (told h k) (stage (seen h) k)
   unfolding seen
-  along w (Begins serial id policy) k = subst (λ (a : A). P a Gone) (sym (w.begins serial id policy k)) w.gone
+  along w (BeginsWith stored id policy) k = subst (λ (a : A). P a Gone) (sym (w.begins stored id policy k)) w.gone
   along w (Then h r) k = subst (λ (a : A). P a (stage (and_then r (seen h)) k)) (sym (w.then_is h r k)) (step w h r k (task_at (and_then r (seen h)).tasks k) (becomes r (seen h) k) (along w h k))

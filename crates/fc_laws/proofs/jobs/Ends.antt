@@ -67,7 +67,7 @@ once_more e s k n = if is_answered e (stage s k) then n + 1 else n
 
 answers_told : IsTold answers_of once_more FitsAnswers 0
 answers_told = record {
-  begins = λ serial id policy k. refl;
+  begins = λ stored id policy k. refl;
   then_is = λ h r k. refl;
   still = λ e s k n is. ap (λ (b : Bool). if b then n + 1 else n) (ap (is_answered e) is ∙ gone_answered e);
   gone = omega arith;

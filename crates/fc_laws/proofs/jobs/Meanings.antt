@@ -8,7 +8,7 @@ use Rattle.fc_registry.specs.Changes.{Change}
 use Rattle.fc_registry.specs.Slots.{Present, Ticket}
 use Rattle.fc_core.specs.declared.event.Event.{Event}
 use Rattle.fc_core.specs.declared.event.Event.TheVariants.{Take}
-use Rattle.fc_core.specs.History.{Begins, History, Then, Seen, inputs, seen, stage}
+use Rattle.fc_core.specs.History.{BeginsWith, History, Then, Seen, inputs, seen, stage}
 use Rattle.fc_core.specs.Laws.{IsNewest, Snapshot, finds, finds_if, gives, gives_at, is_job, is_named, slot_of, snapshots_of}
 use Rattle.fc_core.specs.Legal.{AllMean, FindsMeaning, FoundMeans, IsMeant, TakesMeaning}
 use Rattle.fc_core.specs.Transitions.{Inputs, names}
@@ -56,7 +56,7 @@ step_meant e s k cs ts true is m w = event_meant e s k cs ts (named_is k (names 
 step_meant e s k cs ts false is m w = w
 
 all_meant : (h : History) (k : ℕ) → AllMean h → AllMeant (snapshots_of h k)
-all_meant (Begins serial id policy) k m = tt
+all_meant (BeginsWith stored id policy) k m = tt
 all_meant (Then h r) k m = step_meant r.event (seen h) k ((seen h).changes (slot_of (seen h) k)) (snapshots_of h k) (is_named k r.event) refl m.0 (all_meant h k m.1)
 
 -- ---- the ticket of a job

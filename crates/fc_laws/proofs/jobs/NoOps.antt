@@ -92,8 +92,8 @@ module _ (s : Seen) (e : Event) (k : ℕ) (st : Stage) (still : transition e (in
   words_still : words_seen (Some k) e s ≡ s.words
   words_still = ap (λ (m : Effect). words_after m (task_at s.tasks k) s.words) still
 
-all_same : (a b : Seen) → a.policy ≡ b.policy → a.first_serial ≡ b.first_serial → a.time ≡ b.time → a.exchanges ≡ b.exchanges → a.additions ≡ b.additions → a.ids ≡ b.ids → a.tasks ≡ b.tasks → ((n : ℕ) → a.changes n ≡ b.changes n) → ((n : ℕ) → a.shard_time n ≡ b.shard_time n) → ((n : ℕ) → a.calls n ≡ b.calls n) → a.words ≡ b.words → a ≡ b
-all_same a b o f m x p d t c h v w = λ i. record { policy = o i; first_serial = f i; time = m i; exchanges = x i; additions = p i; ids = d i; tasks = t i; changes = λ n. c n i; shard_time = λ n. h n i; calls = λ n. v n i; words = w i }
+all_same : (a b : Seen) → a.policy ≡ b.policy → a.stored ≡ b.stored → a.time ≡ b.time → a.exchanges ≡ b.exchanges → a.additions ≡ b.additions → a.ids ≡ b.ids → a.tasks ≡ b.tasks → ((n : ℕ) → a.changes n ≡ b.changes n) → ((n : ℕ) → a.shard_time n ≡ b.shard_time n) → ((n : ℕ) → a.calls n ≡ b.calls n) → a.words ≡ b.words → a ≡ b
+all_same a b o f m x p d t c h v w = λ i. record { policy = o i; stored = f i; time = m i; exchanges = x i; additions = p i; ids = d i; tasks = t i; changes = λ n. c n i; shard_time = λ n. h n i; calls = λ n. v n i; words = w i }
 
 -- if an event of a job changes the job's stage alone, and leaves the front and the shards
 -- unchanged, it leaves everything else unchanged.

@@ -189,7 +189,7 @@ more e s k ts = gives e (inputs s k) (s.changes (slot_of s k)) ++ ts
 
 pub is_told : IsTold snapshots_of more Took []
 is_told = record {
-  begins = λ serial id policy k. refl;
+  begins = λ stored id policy k. refl;
   then_is = λ h r k. refl;
   still = λ e s k ts is. ap (λ (x : Stage). gives e (at (job s k) (slot_at s (slot_of s k)) (around s (slot_of s k)) x) (s.changes (slot_of s k)) ++ ts) is ∙ ap (λ (l : List Snapshot). l ++ ts) (gone_given e (job s k) (slot_at s (slot_of s k)) (around s (slot_of s k)) (s.changes (slot_of s k)));
   gone = omega arith;

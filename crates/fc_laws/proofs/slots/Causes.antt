@@ -9,14 +9,16 @@ use Rattle.fc_verify.specs.Judged.{judged}
 use Rattle.fc_registry.specs.declared.job.Job.{Job}
 use Rattle.fc_registry.specs.declared.commit.CommitOutcome.{CommitOutcome}
 use Rattle.fc_registry.specs.declared.commit.CommitOutcome.TheVariants as outcomes
-use Rattle.fc_registry.specs.Slots.{Slot, Present, Ticket, last_serial, new_slot}
+use Rattle.fc_registry.specs.Slots.{Slot, Present, Ticket, last_serial}
+use Rattle.fc_registry.specs.Restored.{present_if, restored_present, restored_slot}
+use Rattle.fc_store.specs.Stored.{StoredProgram, StoredSlot}
 use Rattle.fc_registry.specs.Changes.{Change, Installed, Committed, Removed, after_changes, installed, with_vars}
 use Rattle.fc_registry.specs.Calls.{clear_by, commit_of, outcome, put_by, initial_vars_of}
 use Rattle.fc_core.specs.declared.event.Event.{Event}
 use Rattle.fc_core.specs.declared.event.Event.TheVariants.{Commit, Install, Remove}
 use Rattle.fc_core.specs.Stage.{Stage}
 use Rattle.fc_core.specs.Stage.{ToCommit, ToInstall, ToRemove}
-use Rattle.fc_core.specs.History.{around, Entry, History, Begins, Then, Seen, seen, and_then, job, inputs, slot_at, stage}
+use Rattle.fc_core.specs.History.{around, Entry, History, BeginsWith, Then, Seen, seen, and_then, job, inputs, slot_at, stage}
 use Rattle.fc_core.specs.Laws.{slot_of}
 use Rattle.fc_laws.specs.SlotLaws.{AllOfImages, ChangesBy, IsInstall, IsOfImage, IsRemoving, IsWriting, Clears, Installs, Nothing, Writes}
 use Rattle.fc_core.specs.Stages.{image_of}
@@ -119,7 +121,7 @@ images_by r s n (Clears w) a = subst AllOfImages (sym w.change) a
 
 pub images : (h : History) (n : ℕ) → AllOfImages ((seen h).changes n)
 unfolding seen
-images (Begins serial id policy) n = tt
+images (BeginsWith stored id policy) n = tt
 images (Then h r) n = images_by r (seen h) n (does r (seen h) n) (images h n)
 
 -- if the program of a slot before its variables are written is from an image, so is the one
@@ -130,11 +132,21 @@ present_by (Some q) vars p before e =
     let is : record q { vars = vars } ≡ p = cc in
     subst (λ (x : Present). IsOfImage x.program) is (before q refl)
 
-present_image : (first : ℕ) (cs : List Change) (p : Present) → AllOfImages cs → (after_changes (new_slot first) cs).present ≡ Some p → IsOfImage p.program
-present_image first [] p a e = absurd (cc)
-present_image first (Installed q v ∷ cs) p a e = let is : installed (after_changes (new_slot first) cs) q v ≡ p = cc in subst (λ (x : Present). IsOfImage x.program) is a.0
-present_image first (Committed c ∷ cs) p a e = present_by (after_changes (new_slot first) cs).present c.after p (λ q is. present_image first cs q a is) e
+-- the program of a restored slot is from the stored image.
+restored_image : (k : Option StoredProgram) (p : Present) → restored_present k ≡ Some p → IsOfImage p.program
+restored_image None p e = absurd (cc e)
+restored_image (Some k) p e = by_judgement (judged k.image) refl e
+  where
+    by_judgement : (j : Judgement) → judged k.image ≡ j → present_if j k ≡ Some p → IsOfImage p.program
+    by_judgement (Accepts q) is e = let same : record { program = q; version = k.version; vars = k.vars } ≡ p = cc in subst (λ (x : Present). IsOfImage x.program) same (record { image = k.image; accepted = is })
+    by_judgement (Breaks rule slot) is e = absurd (cc e)
+    by_judgement Untypable is e = absurd (cc e)
+
+present_image : (first : StoredSlot) (cs : List Change) (p : Present) → AllOfImages cs → (after_changes (restored_slot first) cs).present ≡ Some p → IsOfImage p.program
+present_image first [] p a e = restored_image first.program p e
+present_image first (Installed q v ∷ cs) p a e = let is : installed (after_changes (restored_slot first) cs) q v ≡ p = cc in subst (λ (x : Present). IsOfImage x.program) is a.0
+present_image first (Committed c ∷ cs) p a e = present_by (after_changes (restored_slot first) cs).present c.after p (λ q is. present_image first cs q a is) e
 present_image first (Removed ∷ cs) p a e = absurd (cc e)
 
 pub of_image : (h : History) (n : ℕ) (p : Present) → (slot_at (seen h) n).present ≡ Some p → IsOfImage p.program
-of_image h n p e = present_image (seen h).first_serial ((seen h).changes n) p (images h n) e
+of_image h n p e = present_image ((seen h).stored n) ((seen h).changes n) p (images h n) e

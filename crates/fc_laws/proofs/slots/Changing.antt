@@ -200,7 +200,7 @@ counted h r k = counted_by r (seen h) k (changes_by h k) (is_named k r.event) re
 
 is_told : IsTold changes_by more_changes FitsChanges 0
 is_told = record {
-  begins = λ serial id policy k. refl;
+  begins = λ stored id policy k. refl;
   then_is = counted;
   still = λ e s k n is. ap (λ (x : Stage). n + length (transition e (at (job s k) (slot_at s (slot_of s k)) (around s (slot_of s k)) x)).changes) is ∙ gone_changes e (job s k) (slot_at s (slot_of s k)) (around s (slot_of s k)) n;
   gone = omega arith;

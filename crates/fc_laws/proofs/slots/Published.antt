@@ -8,7 +8,7 @@ use Rattle.fc_registry.specs.declared.job.InitialVars.{InitialVars}
 use Rattle.fc_registry.specs.declared.job.Job.{Job}
 use Rattle.fc_registry.specs.declared.commit.CommitOutcome.{CommitOutcome}
 use Rattle.fc_registry.specs.declared.commit.CommitOutcome.TheVariants.{Writes, Keeps, Overtakes, Ends}
-use Rattle.fc_registry.specs.Slots.{Slot, Present, Ticket, last_serial, new_slot}
+use Rattle.fc_registry.specs.Slots.{Slot, Present, Ticket, last_serial}
 use Rattle.fc_registry.specs.Changes.{after_changes, with_vars}
 use Rattle.fc_registry.specs.Calls.{clear_by, commit_of, outcome, put_by, receipt_of, snapshot, readings_if, initial_vars_of}
 use Rattle.fc_core.specs.declared.event.Event.{Event}
@@ -19,7 +19,7 @@ use Rattle.fc_core.specs.declared.stage.Task.{Task}
 use Rattle.fc_core.specs.Contents.{Listed, Unavailable}
 use Rattle.fc_core.specs.Fits.{FitsStage}
 use Rattle.fc_core.specs.Heads.{head_word, is_match, word_at}
-use Rattle.fc_core.specs.History.{around, Entry, History, Then, Seen, seen, and_then, job, inputs, slot_at, stage, task_at}
+use Rattle.fc_core.specs.History.{first_slot, around, Entry, History, Then, Seen, seen, and_then, job, inputs, slot_at, stage, task_at}
 use Rattle.fc_laws.specs.HeadLaws.{PublishesAt}
 use Rattle.fc_core.specs.Laws.{HasCome, slot_of}
 use Rattle.fc_core.specs.Sound.{IsSoundlySeen}
@@ -105,7 +105,7 @@ transition_publishes e job slot ws s =
 
 -- the slot of the job that an event names, after the event's changes.
 pub own_after : (r : Entry) (s : Seen) (k : ℕ) → names r.event ≡ Some k → slot_at (and_then r s) (slot_of s k) ≡ after_changes (slot_at s (slot_of s k)) (transition r.event (inputs s k)).changes
-own_after r s k named = ap (after_changes (new_slot s.first_serial)) (own_slot r s k named) ∙ after_changes-append (new_slot s.first_serial) (transition r.event (inputs s k)).changes (s.changes (slot_of s k))
+own_after r s k named = ap (after_changes (first_slot s (slot_of s k))) (own_slot r s k named) ∙ after_changes-append (first_slot s (slot_of s k)) (transition r.event (inputs s k)).changes (s.changes (slot_of s k))
 
 publishes_by : (r : Entry) (s : Seen) (k : ℕ) (t : Task) → Becomes (names r.event) r.event s k t → IsSoundlySeen s → HasCome s k → PublishesAt (slot_at (and_then r s) (slot_of s k)) (stage s k) t.stage
 publishes_by r s k t (Moves named is) a come =

@@ -12,10 +12,10 @@ use Rattle.fc_registry.specs.declared.job.InitialVars.TheVariants.{Kept, Zeros}
 use Rattle.fc_registry.specs.Calls.{put_by, receipt_of, initial_vars_of}
 use Rattle.fc_registry.specs.declared.shard.Made.{Made}
 use Rattle.fc_registry.specs.Changes.{Change, Installed, after_changes, vars_installed}
-use Rattle.fc_registry.specs.Slots.{Slot, last_serial, new_slot, vars_in}
+use Rattle.fc_registry.specs.Slots.{Slot, last_serial, vars_in}
 use Rattle.fc_registry.proofs.Installs.{empty_vars, kept_answer, kept_vars, other_vars}
 use Rattle.fc_core.specs.declared.event.Event.TheVariants.{Install}
-use Rattle.fc_core.specs.History.{Seen, and_then, did, job, inputs, slot_at}
+use Rattle.fc_core.specs.History.{first_slot, Seen, and_then, did, job, inputs, slot_at}
 use Rattle.fc_core.specs.Laws.{slot_of}
 use Rattle.fc_core.specs.Transitions.{Inputs, install_call, install_if, transition}
 use Rattle.fc_core.specs.Stage.{Stage, ToInstall}
@@ -44,7 +44,7 @@ installs s k p o w =
 
 leaves : (s : Seen) (k : ℕ) (p : Program) (o : Option Emission) → IsToInstall s k p
     → vars_at (and_then (did (Install k true) o) s) (slot_of s k) ≡ vars_installed (initial_vars_of (job s k).ask) p (vars_at s (slot_of s k))
-leaves s k p o w = ap (λ (cs : List Change). vars_in (after_changes (new_slot s.first_serial) cs).present) (installs s k p o w)
+leaves s k p o w = ap (λ (cs : List Change). vars_in (after_changes (first_slot s (slot_of s k)) cs).present) (installs s k p o w)
 
 pub keeps_vars : (s : Seen) (k : ℕ) (p : Program) (o : Option Emission) → IsToInstall s k p → initial_vars_of (job s k).ask ≡ Kept → length (vars_at s (slot_of s k)) ≡ p.vars_size
     → vars_at (and_then (did (Install k true) o) s) (slot_of s k) ≡ vars_at s (slot_of s k)

@@ -11,18 +11,19 @@ use Rattle.fc_help.specs.declared.request.Method.TheVariants.{Get, Post}
 use Rattle.fc_registry.specs.declared.job.Job.{Job}
 use Rattle.fc_registry.specs.declared.commit.CommitOutcome.{CommitOutcome}
 use Rattle.fc_registry.specs.declared.commit.CommitOutcome.TheVariants.{Writes, Keeps, Overtakes, Ends}
-use Rattle.fc_registry.specs.Slots.{Slot, Present, Ticket, last_serial, new_slot}
+use Rattle.fc_registry.specs.Slots.{Slot, Present, Ticket, last_serial}
 use Rattle.fc_registry.specs.Changes.{Change, Committed, after_changes}
 use Rattle.fc_registry.specs.Record.{IsChain, code_class}
 use Rattle.fc_registry.specs.Calls.{commit_of, is_out_at, is_post, meaning_at, outcome, outcome_by, wants}
-use Rattle.fc_registry.proofs.Installs.{serials_count}
+use Rattle.fc_registry.proofs.Installs.{serials_from}
+use Rattle.fc_store.specs.Stored.{StoredSlots}
 use Rattle.fc_core.specs.declared.event.Event.{Event}
 use Rattle.fc_core.specs.declared.event.Event.TheVariants.{Take, Commit}
 use Rattle.fc_core.specs.Stage.{Stage}
 use Rattle.fc_core.specs.Stage.{ToTake, ToCommit, ToTell}
 use Rattle.fc_core.specs.TurnStage as turns
 use Rattle.fc_core.specs.declared.policy.Policy.{Policy}
-use Rattle.fc_core.specs.History.{around, Entry, History, Begins, Then, Seen, seen, and_then, begun, did, job, inputs, slot_at, stage, watch}
+use Rattle.fc_core.specs.History.{first_slot, around, Entry, History, BeginsWith, Then, Seen, seen, and_then, begun, did, job, inputs, slot_at, stage, watch}
 use Rattle.fc_core.specs.Laws.{HasCome, Snapshot, finds, finds_if, gives_at, is_named, slot_of, snapshots_of}
 use Rattle.fc_laws.specs.SlotLaws.{IsUnchanged, IsWritten}
 use Rattle.fc_core.specs.Sound.{IsSoundlySeen}
@@ -37,15 +38,15 @@ use Rattle.fc_laws.proofs.jobs.Snapshots.{Took, is_told, known, more}
 
 -- ---- the chain
 
-begun_sound : (serial id : ℕ) (policy : Policy) → IsSoundlySeen (begun serial id policy)
-begun_sound serial id policy = record { chain = λ n. tt; within = λ k. (omega arith, tt); stages = λ k. tt; watched = λ n. All-nil EntryWithin }
+begun_sound : (stored : StoredSlots) (id : ℕ) (policy : Policy) → IsSoundlySeen (begun stored id policy)
+begun_sound stored id policy = record { chain = λ n. tt; within = λ k. (omega arith, tt); stages = λ k. tt; watched = λ n. All-nil EntryWithin }
 
 pub sound : (h : History) → IsSoundlySeen (seen h)
 unfolding seen
-sound (Begins serial id policy) = begun_sound serial id policy
+sound (BeginsWith stored id policy) = begun_sound stored id policy
 sound (Then h r) = still_sound r (seen h) (sound h)
 
-pub chains : (h : History) (n : ℕ) → IsChain (new_slot (seen h).first_serial) ((seen h).changes n)
+pub chains : (h : History) (n : ℕ) → IsChain (first_slot (seen h) n) ((seen h).changes n)
 chains h n = (sound h).chain n
 
 -- ---- the state of the slot that a snapshot found
@@ -55,7 +56,7 @@ chains h n = (sound h).chain n
 record IsSince (s : Seen) (k : ℕ) (t : Snapshot) : Type 0 where
   since : List Change
   is : s.changes (slot_of s k) ≡ since ++ t.changes
-  serial : t.ticket.serial ≡ (after_changes (new_slot s.first_serial) t.changes).serial
+  serial : t.ticket.serial ≡ (after_changes (first_slot s (slot_of s k)) t.changes).serial
 
 later_since : (r : Entry) (s : Seen) (k : ℕ) (t : Snapshot) → HasCome s k → IsSince s k t → IsSince (and_then r s) k t
 later_since r s k t come w =
@@ -64,7 +65,7 @@ later_since r s k t come w =
     record {
       since = g.made ++ w.since;
       is = ap (and_then r s).changes same ∙ (g.is ∙ (ap (λ (cs : List Change). g.made ++ cs) w.is ∙ sym (append_assoc g.made w.since t.changes)));
-      serial = w.serial;
+      serial = w.serial ∙ ap (λ (m : ℕ). (after_changes (first_slot s m) t.changes).serial) (sym same);
     }
 
 all_later : (r : Entry) (s : Seen) (k : ℕ) (ts : List Snapshot) → HasCome s k → Each (IsSince s k) ts → Each (IsSince (and_then r s) k) ts
@@ -101,24 +102,24 @@ since_after h r k w = ⊎_elim
 
 all_since : (h : History) (k : ℕ) → Each (IsSince (seen h) k) (snapshots_of h k)
 unfolding seen
-all_since (Begins serial id policy) k = tt
+all_since (BeginsWith stored id policy) k = tt
 all_since (Then h r) k = since_after h r k (all_since h k)
 
 -- ---- the commit
 
-none_since : (first : ℕ) (cs ds since : List Change) → cs ≡ since ++ ds → (after_changes (new_slot first) cs).serial ≡ (after_changes (new_slot first) ds).serial → cs ≡ ds
+none_since : (first : Slot) (cs ds since : List Change) → cs ≡ since ++ ds → (after_changes first cs).serial ≡ (after_changes first ds).serial → cs ≡ ds
 none_since first cs ds since is same =
     let long : length cs ≡ length since + length ds = ap length is ∙ length-append since ds in
-    let none : length since ≡ 0 = omega (arith, serials_count first cs, serials_count first ds) in
+    let none : length since ≡ 0 = omega (arith, serials_from first cs, serials_from first ds) in
     is ∙ ap (λ (l : List Change). l ++ ds) (nil_from_length since none)
 
 unchanged_by : (s : Seen) (k n : ℕ) (t : Ticket) (ts : List Snapshot) → Took ts (ToCommit n t) → Each (IsSince s k) ts → (slot_at s (slot_of s k)).serial ≡ t.serial → IsUnchanged ts (s.changes (slot_of s k))
 unchanged_by s k n t [] took w same = absurd took.2
-unchanged_by s k n t (x ∷ xs) took w same = none_since s.first_serial (s.changes (slot_of s k)) x.changes w.0.since w.0.is (same ∙ (ap (λ (y : Ticket). y.serial) (sym took.2) ∙ w.0.serial))
+unchanged_by s k n t (x ∷ xs) took w same = none_since (first_slot s (slot_of s k)) (s.changes (slot_of s k)) x.changes w.0.since w.0.is (same ∙ (ap (λ (y : Ticket). y.serial) (sym took.2) ∙ w.0.serial))
 
 serial_by : (s : Seen) (k n : ℕ) (t : Ticket) (ts : List Snapshot) → Took ts (ToCommit n t) → Each (IsSince s k) ts → IsUnchanged ts (s.changes (slot_of s k)) → (slot_at s (slot_of s k)).serial ≡ t.serial
 serial_by s k n t [] took w same = absurd took.2
-serial_by s k n t (x ∷ xs) took w same = ap (λ (cs : List Change). (after_changes (new_slot s.first_serial) cs).serial) same ∙ (sym w.0.serial ∙ ap (λ (y : Ticket). y.serial) took.2)
+serial_by s k n t (x ∷ xs) took w same = ap (λ (cs : List Change). (after_changes (first_slot s (slot_of s k)) cs).serial) same ∙ (sym w.0.serial ∙ ap (λ (y : Ticket). y.serial) took.2)
 
 took_at : (h : History) (k n : ℕ) (t : Ticket) → stage (seen h) k ≡ ToCommit n t → Took (snapshots_of h k) (ToCommit n t)
 took_at h k n t is = subst (Took (snapshots_of h k)) is (known h k)

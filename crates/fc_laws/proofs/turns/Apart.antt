@@ -15,7 +15,7 @@ use Rattle.fc_core.specs.declared.stage.Task.{Task}
 use Rattle.fc_core.specs.TurnStage.{TurnStage}
 use Rattle.fc_core.specs.TurnStage as turns
 use Rattle.fc_core.specs.Fits.{FitsStage}
-use Rattle.fc_core.specs.History.{Entry, History, Begins, Then, Seen, seen, and_then, around, did, job, no_task, slot_at, stage, task_at}
+use Rattle.fc_core.specs.History.{Entry, History, BeginsWith, Then, Seen, seen, and_then, around, did, job, no_task, slot_at, stage, task_at}
 use Rattle.fc_core.specs.Laws.{HasCome, followed_by, slot_of}
 use Rattle.fc_core.specs.Stages.{first_or_turn, first_stage, turn_took}
 use Rattle.fc_core.specs.Transitions.{Around, Inputs, names, transition}
@@ -42,7 +42,7 @@ module _ (Q : Job → Stage → Type 0) (gone : (j : Job) → Q j Gone) (first :
 
   pub every : (h : History) (k : ℕ) → Q (job (seen h) k) (stage (seen h) k)
   unfolding seen
-  every (Begins serial id policy) k = gone no_task.job
+  every (BeginsWith stored id policy) k = gone no_task.job
   every (Then h r) k = every_by r (seen h) k (task_at (and_then r (seen h)).tasks k) (becomes r (seen h) k) (every h k)
 
 -- ---- the job of a lease

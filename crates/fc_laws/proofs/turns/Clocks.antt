@@ -20,7 +20,7 @@ use Rattle.fc_core.specs.declared.event.Event.{Event}
 use Rattle.fc_core.specs.declared.event.Event.TheVariants.{Due, ShardTick, Signal}
 use Rattle.fc_core.specs.Stage.{Stage}
 use Rattle.fc_core.specs.Stage.{ToInstall}
-use Rattle.fc_core.specs.History.{Entry, History, Begins, Then, Seen, seen, and_then, around, calls_named, due_in, is_due_at, is_overdue_at, is_place_of, job, overdue_in, inputs, shard_time_after, slot_at, stage, watch, at_shard, hands_by, calls_by}
+use Rattle.fc_core.specs.History.{Entry, History, BeginsWith, Then, Seen, seen, and_then, around, calls_named, due_in, is_due_at, is_overdue_at, is_place_of, job, overdue_in, inputs, shard_time_after, slot_at, stage, watch, at_shard, hands_by, calls_by}
 use Rattle.fc_core.specs.Laws.{slot_of}
 use Rattle.fc_core.specs.Transitions.{Around, Inputs, handed, names, transition}
 use Rattle.fc_laws.specs.TurnLaws.{time_at}
@@ -221,7 +221,7 @@ module _ (s : Seen) where
 
 pub follows_shard : (h : History) (n : ℕ) → (watch (seen h) n).time ≤ (seen h).shard_time (n % 8)
 unfolding seen
-follows_shard (Begins serial id policy) n = omega arith
+follows_shard (BeginsWith stored id policy) n = omega arith
 follows_shard (Then h r) n = follows_after (seen h) r n (follows_shard h n)
 
 -- if the time of a slot's shard is passed to the slot's observers, their time is that of the shard.

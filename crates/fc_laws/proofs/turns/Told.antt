@@ -18,7 +18,7 @@ use Rattle.fc_registry.specs.declared.job.Opening.{Opening}
 use Rattle.fc_registry.specs.Calls.{is_out_at, mark_missing_calls, turn_of, turn_snapshot, readings_if}
 use Rattle.fc_registry.specs.Slots.{Present, Slot, Ticket}
 use Rattle.fc_registry.specs.Turns.{job_of_turn, turn_job}
-use Rattle.fc_registry.proofs.Noticed.{noticed_within}
+use Rattle.fc_registry.proofs.Noticed.{noticed_from}
 use Rattle.fc_core.specs.declared.event.Event.{Event}
 use Rattle.fc_core.specs.declared.event.Event.TheVariants.{Deliver, Due, Fire}
 use Rattle.fc_core.specs.Stage.{Stage}
@@ -27,7 +27,7 @@ use Rattle.fc_core.specs.declared.stage.Task.{Task}
 use Rattle.fc_core.specs.TurnStage.{TurnStage}
 use Rattle.fc_core.specs.TurnStage as turns
 use Rattle.fc_core.specs.Fits.{FitsStage}
-use Rattle.fc_core.specs.History.{Entry, History, Begins, Then, Seen, seen, and_then, around, calls_by, calls_named, common, due_in, front_at, is_place_of, job, no_task, received_at, inputs, slot_at, stage, task_at, tasks_brought, tasks_moved, turn_at, watch, at_shard}
+use Rattle.fc_core.specs.History.{first_slot, Entry, History, BeginsWith, Then, Seen, seen, and_then, around, calls_by, calls_named, common, due_in, front_at, is_place_of, job, no_task, received_at, inputs, slot_at, stage, task_at, tasks_brought, tasks_moved, turn_at, watch, at_shard}
 use Rattle.fc_core.specs.Laws.{slot_of}
 use Rattle.fc_core.specs.Receiving.{Received, Opened, brought, job_of, next_opening}
 use Rattle.fc_core.specs.Sound.{IsSoundlySeen}
@@ -219,7 +219,7 @@ module _ (r : Entry) (s : Seen) where
         let w = newly_given t notify_serial (noticed_for t.turns n s.policy.confirm_after (s.calls n)) (gives_turn notify_serial t) gives in
         let same = w.1 in
         let rises = serial_rises n in
-        let within = noticed_within s.first_serial (s.changes n) in
+        let within = noticed_from (first_slot s n) (s.changes n) (omega arith) in
         subst (λ (cs : List ObserverCall). Knows n s.policy.confirm_after cs (slot_at after n).serial (ToTell (record { slot = n; number = t.turns }) turns.ToTake)) (sym due_calls) (w.0, omega (arith, same, rises, within))
 
     told_of : (x : Option Interest) → gives_turn notify_serial t ≡ true → Each (KnowsTask after) (map new_task (option_to_list (option_map (turn_job n t.turns) x)) ++ [])
@@ -252,7 +252,7 @@ module _ (r : Entry) (s : Seen) where
 
 pub known : (h : History) (k : ℕ) → Knows (slot_of (seen h) k) (seen h).policy.confirm_after ((seen h).calls (slot_of (seen h) k)) (slot_at (seen h) (slot_of (seen h) k)).serial (stage (seen h) k)
 unfolding seen
-known (Begins serial id policy) k = tt
+known (BeginsWith stored id policy) k = tt
 known (Then h r) k = all_known r (seen h) (sound h) (is_told_of h) (known h) k
 
 -- ---- a lease that is to notify

@@ -26,7 +26,7 @@ use Rattle.fc_core.specs.Stage.{ToTell}
 use Rattle.fc_core.specs.declared.stage.Task.{Task}
 use Rattle.fc_core.specs.TurnStage as turns
 use Rattle.fc_core.specs.Fits.{FitsStage}
-use Rattle.fc_core.specs.History.{History, Begins, Then, Seen, seen, due_in, front_at, job, no_task, received_at, inputs, slot_at, stage, task_at, tasks_brought, tasks_moved, turn_at, watch}
+use Rattle.fc_core.specs.History.{History, BeginsWith, Then, Seen, seen, due_in, front_at, job, no_task, received_at, inputs, slot_at, stage, task_at, tasks_brought, tasks_moved, turn_at, watch}
 use Rattle.fc_core.specs.Laws.{slot_of}
 use Rattle.fc_laws.specs.ObserveLaws.{IsFirst}
 use Rattle.fc_core.specs.Receiving.{Received, Opened, brought, next_opening}
@@ -81,7 +81,7 @@ all_moved e s (Some j) before k = written_all (λ t. AsksFirst t.job) s.tasks j 
 
 asks_first : (h : History) (k : ℕ) → AsksFirst (job (seen h) k)
 unfolding seen
-asks_first (Begins serial id policy) k = λ number is. absurd (cc is)
+asks_first (BeginsWith stored id policy) k = λ number is. absurd (cc is)
 asks_first (Then h r) k = appended_all (λ (t : Task). AsksFirst t.job) (tasks_moved (names r.event) r.event (seen h)) (tasks_brought r.event (seen h)) no_task (all_moved r.event (seen h) (names r.event) (asks_first h)) (all_brought r.event (seen h)) k
 
 -- ---- the block of a lease's ticket

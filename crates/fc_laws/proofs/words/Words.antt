@@ -4,11 +4,13 @@ use Rattle.std.proofs.Common.{◌≡◌, ℕ, ◌+◌, ◌*◌, ◌<◌, ◌≤�
 use Rattle.std.specs.Prelude.{◌/◌, ◌%◌, ◌==◌, ◌&&◌, ◌||◌}
 use Rattle.std.specs.List.{list_any}
 use Rattle.std.proofs.lemmas.Bool.{cases_eq, eq-eqb, ne_eqb}
-use Rattle.std.proofs.lemmas.List.{get_or-replicate, get_or-set_same, get_or-set_other, length-replicate}
+use Rattle.std.proofs.lemmas.List.{get_or-set_same, get_or-set_other}
+use Rattle.std.proofs.lemmas.List.FromFn.{get_or-map-range_with_len, length-map-range_with_len}
 use Rattle.coap_msg.specs.declared.types.Emission.{Emission}
 use Rattle.fc_registry.specs.Calls.{initial_vars_of}
 use Rattle.fc_registry.specs.declared.job.InitialVars.{InitialVars}
 use Rattle.fc_registry.specs.declared.job.Job.{Job}
+use Rattle.fc_registry.specs.Restored.{restored_slot}
 use Rattle.fc_registry.specs.Slots.{Slot}
 use Rattle.fc_verify.specs.Accepted.{Judgement, Accepts, Breaks, Untypable}
 use Rattle.fc_verify.specs.Judged.{judged}
@@ -19,8 +21,8 @@ use Rattle.fc_core.specs.declared.event.Event.TheVariants.{Peek, Take, Commit, I
 use Rattle.fc_core.specs.Stage.{Stage}
 use Rattle.fc_core.specs.Stage.{ToMatch, ToInstall, ToRaise, ToAnswer}
 use Rattle.fc_laws.specs.HeadLaws.{raises_of, word_to_raise, words_raised}
-use Rattle.fc_core.specs.Heads.{head_word, is_match, published, serial_in, word_at, word_raised}
-use Rattle.fc_core.specs.History.{around, Entry, History, Begins, Then, Seen, seen, and_then, did, job, inputs, slot_at, stage, words_seen}
+use Rattle.fc_core.specs.Heads.{first_word, head_word, is_match, published, serial_in, word_at, word_raised}
+use Rattle.fc_core.specs.History.{around, Entry, History, BeginsWith, Then, Seen, seen, and_then, did, job, inputs, slot_at, stage, words_seen}
 use Rattle.fc_core.specs.Laws.{slot_of}
 use Rattle.fc_core.specs.Stages.{image_of, matched_by, matched}
 use Rattle.fc_core.specs.Transitions.{Around, Inputs, names, transition, call_if, install_call, install_if, effect_of}
@@ -73,7 +75,7 @@ words_length (Some k) e s = published_length (transition e (inputs s k)).raises 
 
 sixty_four : (h : History) → length (seen h).words ≡ 64
 unfolding seen
-sixty_four (Begins serial id policy) = length-replicate {A = ℕ} 64 0
+sixty_four (BeginsWith stored id policy) = length-map-range_with_len {X = ℕ} (λ n. first_word (restored_slot (stored n))) 0 64
 sixty_four (Then h r) = words_length (names r.event) r.event (seen h) ∙ sixty_four h
 
 -- the head words that are raised, from an option of one.
@@ -136,9 +138,14 @@ greatest_append : (xs ys : List ℕ) → greatest (xs ++ ys) ≡ max (greatest y
 greatest_append [] ys = above_zero (greatest ys)
 greatest_append (x ∷ xs) ys = omega (arith, greatest_append xs ys)
 
+raised_first : (w : ℕ) → w ≡ greatest (w ∷ [])
+raised_first w = omega arith
+
 pub word_is_greatest : (h : History) (n : ℕ) → n < 64 → word_at (seen h).words n ≡ greatest (raises_of n h)
 unfolding seen
-word_is_greatest (Begins serial id policy) n lt = get_or-replicate 64 n 0 0 lt
+word_is_greatest (BeginsWith stored id policy) n lt =
+    get_or-map-range_with_len (λ (i : ℕ). first_word (restored_slot (stored i))) 0 64 n n 0 lt (omega arith)
+    ∙ raised_first (first_word (restored_slot (stored n)))
 word_is_greatest (Then h r) n lt =
     word_after r.event (seen h) n (subst (λ (i : ℕ). n < i) (sym (sixty_four h)) lt)
     ∙ (ap (λ (w : ℕ). max w (greatest (words_raised n r.event (seen h)))) (word_is_greatest h n lt)

@@ -1,9 +1,10 @@
-use Rattle.std.proofs.Common.{◌≡◌, ℕ, ◌≤◌, ◌∙◌, ap, refl, subst, sym, List}
+use Rattle.std.proofs.Common.{◌≡◌, ℕ, ◌∙◌, ap, subst, List}
 use Rattle.std.specs.Prelude.{IfErr, Result, Ok, Err, OnErr, OnOk}
 use Rattle.std.proofs.lemmas.List.{set-get_or}
-use Rattle.fc_registry.specs.Slots.{Shard, Slot, new_slot, slot_in}
+use Rattle.fc_registry.specs.Slots.{Slot, new_slot, slot_in}
 use Rattle.fc_registry.specs.Views.{as_seen}
-use Rattle.fc_registry.specs.Plans.{IsRestoreError}
+use Rattle.fc_registry.specs.Restored.{restored_slot}
+use Rattle.fc_registry.specs.Starts.{IsRestoreError}
 use Rattle.fc_registry.proofs.Ahead.{slot_sent}
 use Rattle.fc_registry.proofs.Rings.{record_either, written_rings}
 use Rattle.fc_registry.proofs.Writes.{slot_read, slot_write, now_is, slot_in_place, written}
@@ -25,14 +26,12 @@ found c =
 pub returns-clause-restored : goal.returns-clause-restored
 returns-clause-restored c =
     let in_ = c.self.inside in
-    then_ok c.restore.result c.restore.ensures.restored (λ is. (
-      as_seen c.restore.new.slot,
-      is,
-      slot_write in_.index in_.now in_.slots.items in_.watches.items c.args.self.now c.self.view_is c.self.invariant.0 c.place.result in_.now c.args.self.now.now c.restore.new.slot (as_seen c.restore.new.slot)
-          (now_is in_.index in_.now in_.slots.items in_.watches.items c.args.self.now c.self.view_is c.self.invariant.0)
-          refl
-          ∙ ap (λ (j : ℕ). written c.args.self.now c.args.self.now.now j (as_seen c.restore.new.slot)) c.place.ensures.place,
-    ))
+    let new = restored_slot c.args.stored.now in
+    then_ok c.restore.result c.restore.ensures.restored (λ is.
+    slot_write in_.index in_.now in_.slots.items in_.watches.items c.args.self.now c.self.view_is c.self.invariant.0 c.place.result in_.now c.args.self.now.now c.restore.new.slot new
+    (now_is in_.index in_.now in_.slots.items in_.watches.items c.args.self.now c.self.view_is c.self.invariant.0)
+    is
+    ∙ ap (λ (j : ℕ). written c.args.self.now c.args.self.now.now j new) c.place.ensures.place)
 
 pub returns-clause-unchanged : goal.returns-clause-unchanged
 returns-clause-unchanged c =
