@@ -8,9 +8,9 @@ use Rattle.fc_jobs.specs.declared.protocol.Hand.{Hand}
 use Rattle.fc_jobs.specs.declared.protocol.Numbered.{Numbered}
 use Rattle.fc_jobs.specs.Ends.{Channel}
 
-abbrev pub channel_of : Pass Numbered Hand → Channel
+abbrev pub channel_of : {T : Type 0} → Pass (Numbered T) (Hand T) → Channel T
 channel_of p = record { stamps = p.table_id; messages = p.me.0.of }
 
-module _ {Q M L A : Type 0} where
-  abbrev pub channel_at : Rows (Badge (Key Numbered)) (Doing Numbered Hand) Q M (Key Numbered) L A → Channel
+module _ {T Q M L A : Type 0} where
+  abbrev pub channel_at : Rows (Badge (Key (Numbered T))) (Doing (Numbered T) (Hand T)) Q M (Key (Numbered T)) L A → Channel T
   channel_at c = record { stamps = c.stamps.shared.table_id; messages = c.stamps.shared.key }

@@ -11,15 +11,15 @@ use std::sync::OnceLock;
 /// memory to start the workers couldn't be allocated. In contracts a `Jobs` is the identity of its
 /// channel.
 #[derive(Drop)]
-pub struct Jobs {
-    pub(crate) receiver: RuledReceiver<Numbered, Hand, OnceEach>,
+pub struct Jobs<M: Drop> {
+    pub(crate) receiver: RuledReceiver<Numbered<M>, Hand<M>, OnceEach>,
     pub(crate) served: OnceLock<bool>,
 }
 
-impl Model for Jobs {
+impl<M: Drop> Model for Jobs<M> {
     ghost use Rattle.fc_jobs.specs.Ends.{Channel};
 
-    ghost Value = { Channel };
+    ghost Value = { Channel M };
 
     ghost use Rattle.crossbeam_channel.specs.Claims.{IsKeyed};
     ghost use Rattle.crossbeam_channel.specs.Ends.{receives_on};
@@ -34,16 +34,16 @@ impl Model for Jobs {
 ///
 /// The channel is closed when its sending end is dropped.
 #[derive(Drop)]
-pub struct Sent {
-    pub(crate) sender: RuledSender<Numbered, Hand, OnceEach>,
-    pub(crate) pass: Pass<Numbered, Hand>,
+pub struct Sent<M: Drop> {
+    pub(crate) sender: RuledSender<Numbered<M>, Hand<M>, OnceEach>,
+    pub(crate) pass: Pass<Numbered<M>, Hand<M>>,
     pub(crate) next: u64,
 }
 
-impl Model for Sent {
+impl<M: Drop> Model for Sent<M> {
     ghost use Rattle.fc_jobs.specs.Ends.{Sent as Sending};
 
-    ghost Value = { Sending };
+    ghost Value = { Sending M };
 
     ghost use Rattle.std.specs.Prelude.{◌≡◌, length};
     ghost use Rattle.crossbeam_channel.specs.Claims.{view as view_of, IsSeatAt};
@@ -60,14 +60,14 @@ impl Model for Sent {
 
 /// A worker's place at the channel, with a list of the jobs that it received.
 #[derive(Drop)]
-pub struct Got {
-    pub(crate) pass: Pass<Numbered, Hand>,
+pub struct Got<M: Drop> {
+    pub(crate) pass: Pass<Numbered<M>, Hand<M>>,
 }
 
-impl Model for Got {
+impl<M: Drop> Model for Got<M> {
     ghost use Rattle.fc_jobs.specs.Ends.{Got as Getting};
 
-    ghost Value = { Getting };
+    ghost Value = { Getting M };
 
     ghost use Rattle.std.specs.Prelude.{◌≡◌, []};
     ghost use Rattle.crossbeam_channel.specs.Claims.{view as view_of};

@@ -6,7 +6,6 @@ ghost use Rattle.fc_jobs.specs.Ends.{nothing_sent, nothing_got, with_sent, with_
 use crate::ends::{Got, Jobs, Sent};
 use crate::protocol::{Hires, Numbered, Puts, Takes};
 use crossbeam_channel::{SendError, bounded_with};
-use fc_registry::Job;
 use std::alloc::{AllocError, Global};
 use std::sync::{OnceLock, Wait};
 
@@ -16,12 +15,12 @@ const PLACES: usize = 256;
 /// The number of the first job that is not sent.
 const LAST: u64 = 1 << 61;
 
-impl Jobs {
+impl<M: Drop> Jobs<M> {
     /// Makes a channel of 256 places, with its sending end and a `Got` for each worker.
     ///
     /// # Errors
     /// Returns `AllocError` if memory can't be allocated.
-    pub fn new(alloc: Global, workers: usize) -> Result<(Jobs, Sent, Vec<Got>), AllocError>
+    pub fn new(alloc: Global, workers: usize) -> Result<(Jobs<M>, Sent<M>, Vec<Got<M>>), AllocError>
         ensures sent { IfOk result (λ r. r.1 ≡ nothing_sent r.0) }
         ensures got { IfOk result (λ r. r.2.items ≡ replicate workers (nothing_got r.0)) }
     {
@@ -44,17 +43,17 @@ impl Jobs {
     /// Returns `None` if the job was sent. The call waits while the channel is full. The numbers
     /// end at 2^61, from which on each job is returned. If a job is returned, `sent` is unchanged;
     /// the dispatcher then runs the job itself.
-    pub fn send<R: Wait>(&self, rt: &R, job: Job, sent: &mut Sent) -> Option<Job>
+    pub fn send<R: Wait>(&self, rt: &R, message: M, sent: &mut Sent<M>) -> Option<M>
         requires { sent.old.channel ≡ self.now }
-        ensures sent { MatchOption result (sent.new ≡ with_sent sent.old job)
-            (λ back. (back ≡ job) × (sent.new ≡ sent.old)) }
-        ensures end { 2 ^ 61 ≤ length sent.old.sent → result ≡ Some job }
+        ensures sent { MatchOption result (sent.new ≡ with_sent sent.old message)
+            (λ back. (back ≡ message) × (sent.new ≡ sent.old)) }
+        ensures end { 2 ^ 61 ≤ length sent.old.sent → result ≡ Some message }
     {
         if sent.next >= LAST {
-            return Some(job);
+            return Some(message);
         }
         let number = sent.next;
-        sent.send(rt, Numbered { number, job })
+        sent.send(rt, Numbered { number, message })
     }
 
     /// Receives the next job with its number, which is new to the worker.
@@ -62,7 +61,7 @@ impl Jobs {
     /// Returns `None` if the sender is gone and no job is left; then `got` is unchanged. The call
     /// waits while the channel is empty. It records that a worker has asked for a job: see
     /// [`Jobs::is_served`].
-    pub fn next<R: Wait>(&self, rt: &R, got: &mut Got) -> Option<(u64, Job)>
+    pub fn next<R: Wait>(&self, rt: &R, got: &mut Got<M>) -> Option<(u64, M)>
         requires { got.old.channel ≡ self.now }
         ensures got { MatchOption result (got.new ≡ got.old) (λ r. got.new ≡ with_got got.old r.0 r.1) }
         ensures once { IfSome result (λ r. times r.0 got.old.got ≡ 0) }
@@ -71,13 +70,13 @@ impl Jobs {
             let _ = self.served.set(rt, true);
         }
         match self.receiver.recv_as::<Takes, R>(rt, &mut got.pass) {
-            Ok(Numbered { number, job }) => Some((number, job)),
+            Ok(Numbered { number, message }) => Some((number, message)),
             Err(_) => None,
         }
     }
 }
 
-impl Jobs {
+impl<M: Drop> Jobs<M> {
     /// Returns whether a worker has asked for a job yet.
     ///
     /// If no worker has asked, perhaps none ever will: the thread that was to start the workers may
@@ -103,7 +102,7 @@ impl Jobs {
     }
 }
 
-impl Sent {
+impl<M: Drop> Sent<M> {
     /// Returns the number of jobs that were sent, which is the number of the next job.
     pub fn count(&self) -> u64
         ensures { result ≡ length self.now.sent }
@@ -113,23 +112,23 @@ impl Sent {
 
     // Sends a numbered job, or returns the job if the channel can't take it. If the job is
     // returned, the next job gets the same number.
-    fn send<R: Wait>(&mut self, rt: &R, numbered: Numbered) -> Option<Job>
+    fn send<R: Wait>(&mut self, rt: &R, numbered: Numbered<M>) -> Option<M>
         requires { (numbered.number ≡ length self.old.sent) × (numbered.number < 2 ^ 61) }
-        ensures { MatchOption result (self.new ≡ with_sent self.old numbered.job)
-            (λ back. (back ≡ numbered.job) × (self.new ≡ self.old)) }
+        ensures { MatchOption result (self.new ≡ with_sent self.old numbered.message)
+            (λ back. (back ≡ numbered.message) × (self.new ≡ self.old)) }
     {
         match self.sender.send_as::<Puts, R>(rt, &mut self.pass, numbered) {
             Ok(()) => {
                 self.next += 1;
                 None
             }
-            Err(SendError::Disconnected(back)) => Some(back.job),
-            Err(SendError::OutOfMemory(back)) => Some(back.job),
+            Err(SendError::Disconnected(back)) => Some(back.message),
+            Err(SendError::OutOfMemory(back)) => Some(back.message),
         }
     }
 
     // Makes a place for another worker.
-    fn hire(&mut self) -> Got
+    fn hire(&mut self) -> Got<M>
         ensures same { self.new ≡ self.old }
         ensures got { result ≡ nothing_got self.old.channel }
     {
@@ -139,7 +138,11 @@ impl Sent {
 }
 
 // Makes a place for each worker. Returns an error if memory can't be allocated.
-fn hire(alloc: Global, sent: &mut Sent, workers: usize) -> Result<Vec<Got>, AllocError>
+fn hire<M: Drop>(
+    alloc: Global,
+    sent: &mut Sent<M>,
+    workers: usize,
+) -> Result<Vec<Got<M>>, AllocError>
     ensures same { sent.new ≡ sent.old }
     ensures got { IfOk result (λ v. v.items ≡ replicate workers (nothing_got sent.old.channel)) }
 {

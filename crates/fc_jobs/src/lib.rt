@@ -6,21 +6,23 @@
 //! holds under every schedule. A job that a worker receives was sent under its number, and no
 //! number is received twice, by one worker or by two. The contracts don't say that a call returns.
 //!
+//! A job travels in a message of type `M`, which the caller chooses. A fact of each message can be
+//! an invariant of its type; the worker that receives the message then knows this fact.
+//!
 //! ```rust
 //! ghost use Rattle.std.specs.Prelude.{◌≡◌, ℕ, ◌+◌, length, MatchOption};
 //!
 //! use fc_jobs::{Got, Jobs};
-//! use fc_registry::SlotNumber;
 //! use std::sync::Wait;
 //!
-//! /// Returns the slot of the next job, if one is left; the worker's list then has one job more.
-//! fn next_slot<R: Wait>(rt: &R, jobs: &Jobs, got: &mut Got) -> Option<SlotNumber>
+//! /// Returns the number of the next job, if one is left; the worker's list then has one job more.
+//! fn next_number<M: Drop, R: Wait>(rt: &R, jobs: &Jobs<M>, got: &mut Got<M>) -> Option<u64>
 //!     requires { got.old.channel ≡ jobs.now }
 //!     ensures { MatchOption result (got.new ≡ got.old)
-//!         (λ slot. length got.new.got ≡ length got.old.got + 1) }
+//!         (λ number. length got.new.got ≡ length got.old.got + 1) }
 //! {
-//!     let (_number, job) = jobs.next(rt, got)?;
-//!     Some(job.origin.slot)
+//!     let (number, _message) = jobs.next(rt, got)?;
+//!     Some(number)
 //! }
 //! ```
 //!

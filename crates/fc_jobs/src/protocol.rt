@@ -1,28 +1,29 @@
 //! The rule of the channel, and the moves under it.
 use crossbeam_channel::protocol::{Lesson, Outcome, Protocol, Split};
-use fc_registry::Job;
 use std::collections::LinkedList;
 
 /// A job with its number.
+///
+/// The message is of the caller's type. It has the job, and what travels with the job.
 #[derive(Drop)]
-pub struct Numbered {
+pub struct Numbered<M: Drop> {
     pub number: u64,
-    pub job: Job,
+    pub message: M,
 }
 
 /// The view of a pass: the jobs that the sender sent, or that a worker received.
 ///
 /// Only contracts use this type; no value of it is made.
-pub struct Hand {
+pub struct Hand<M: Drop> {
     pub sends: bool,
-    pub sent: LinkedList<Numbered>,
-    pub got: LinkedList<Numbered>,
+    pub sent: LinkedList<Numbered<M>>,
+    pub got: LinkedList<Numbered<M>>,
 }
 
 /// The rule that each number is received once.
 pub struct OnceEach;
 
-impl Protocol<Numbered, Hand> for OnceEach {
+impl<M: Drop> Protocol<Numbered<M>, Hand<M>> for OnceEach {
     ghost use Rattle.std.specs.Prelude.{[]};
     ghost use Rattle.fc_jobs.specs.Once.{Once, sends_view};
 
@@ -34,14 +35,14 @@ impl Protocol<Numbered, Hand> for OnceEach {
 /// A send: the sender's view lists the jobs that it sent.
 pub(crate) struct Puts;
 
-impl Outcome<Numbered, Hand> for Puts {
+impl<M: Drop> Outcome<Numbered<M>, Hand<M>> for Puts {
     ghost use Rattle.std.specs.Prelude.{◌≡◌, ◌++◌, [], ◌∷◌};
     ghost use Rattle.fc_jobs.specs.Once.{sends_view};
 
     ghost then = { λ v x w. w ≡ sends_view (v.sent ++ x ∷ []) };
 }
 
-impl Lesson<Numbered, Hand> for Puts {
+impl<M: Drop> Lesson<Numbered<M>, Hand<M>> for Puts {
     ghost use Rattle.std.specs.Prelude.{⊤};
 
     ghost fact = { λ _ _. ⊤ };
@@ -50,14 +51,14 @@ impl Lesson<Numbered, Hand> for Puts {
 /// A receive: the worker's view lists the jobs that it received, with new numbers.
 pub(crate) struct Takes;
 
-impl Outcome<Numbered, Hand> for Takes {
+impl<M: Drop> Outcome<Numbered<M>, Hand<M>> for Takes {
     ghost use Rattle.std.specs.Prelude.{◌≡◌, ◌++◌, [], ◌∷◌};
     ghost use Rattle.fc_jobs.specs.Once.{gets_view, times};
 
     ghost then = { λ v x w. (w ≡ gets_view (v.got ++ x ∷ [])) × (times x.number v.got ≡ 0) };
 }
 
-impl Lesson<Numbered, Hand> for Takes {
+impl<M: Drop> Lesson<Numbered<M>, Hand<M>> for Takes {
     ghost use Rattle.std.specs.Prelude.{⊤};
 
     ghost fact = { λ _ _. ⊤ };
@@ -66,7 +67,7 @@ impl Lesson<Numbered, Hand> for Takes {
 /// Another worker's pass, split from the sender's; it has received nothing yet.
 pub(crate) struct Hires;
 
-impl Split<Hand> for Hires {
+impl<M: Drop> Split<Hand<M>> for Hires {
     ghost use Rattle.std.specs.Prelude.{[]};
     ghost use Rattle.fc_jobs.specs.Once.{gets_view};
 
