@@ -6,7 +6,7 @@ use lib.ListN.{get_elem?}
 use Rattle.atomic_table.proofs.Lists.{set_again}
 use Rattle.fc_book.specs.declared.view.Track.{Track}
 use Rattle.fc_book.specs.declared.view.BookView.{BookView}
-use Rattle.fc_book.specs.Tracks.{EntryKeys, is_on, on, HasKey, AreOn, AreSingle, OwnsTrack, HasTrack, IsViewOf, AreViewsOf, first_view, no_tracks, part_view, own_view, filed_with, with_filed, without_locked, locked_of, with_next, with_begun, without_first, first_own, other_tracks, first_track, merged_with, with_part}
+use Rattle.fc_book.specs.Tracks.{EntryKeys, is_on, on, HasKey, AreOn, AreSingle, OwnsTrack, HasTrack, IsViewOf, AreViewsOf, first_view, no_tracks, part_view, own_view, filed_on_all, filed_with, with_filed, with_locked, without_locked, locked_of, with_next, with_begun, without_first, first_own, other_tracks, first_track, merged_with, with_part}
 use Rattle.fc_book.proofs.Keys.{on-append, has-append, has-with, stays, with_is, on-before, is_off, are-append, single-with, single-append}
 use Rattle.fc_book.proofs.Moves.{nothing_is, owns_nothing, others_stay, joins, splits, changes}
 
@@ -67,6 +67,59 @@ module _ {E : Type 0} (keys : E → EntryKeys) where
         → AreViewsOf keys (log ++ e ∷ []) (set (set views id (filed_with keys e v w)) other no_tracks)
     files log views id other h at apart there = joins keys views id other v w (filed_with keys e v w) log (log ++ e ∷ []) h at apart there
         (λ u n x. others_stay keys log (e ∷ []) u (λ k o. files_miss k (n k o).0 (n k o).1) x) files_keep (files_mine log)
+
+  -- ---- a part's track is taken over, and an entry is filed on it
+
+  module _ (v w : BookView E) where
+    part_keep : (k : ℕ) → HasTrack k (with_locked v w) → HasTrack k v ⊎ HasTrack k w
+    part_keep k (inl h) = inr (inl h)
+    part_keep k (inr o) = inl (inr o)
+
+    part_mine : (log : List E) → IsViewOf keys log v → IsViewOf keys log w → ((k : ℕ) → HasTrack k v → HasTrack k w → ⊥) → IsViewOf keys log (with_locked v w)
+    part_mine log a b parted = record {
+      locked = b.locked;
+      own = a.own;
+      unbegun = a.unbegun;
+      fresh = a.fresh;
+      unlike = λ k s o. parted k (inr o) (inl s);
+      single = a.single;
+    }
+
+    pub takes_part : (log : List E) (views : List (BookView E)) (id other : ℕ) → AreViewsOf keys log views → get_elem? views id ≡ some v → other ≢ id → get_elem? (set views id (with_locked v w)) other ≡ some w
+        → AreViewsOf keys log (set (set views id (with_locked v w)) other no_tracks)
+    takes_part log views id other h at apart there = joins keys views id other v w (with_locked v w) log log h at apart there (λ u n x. x) part_keep (part_mine log)
+
+  module _ (e : E) (v : BookView E) (part : HasKey (keys e).part v.locked) (who : HasKey (keys e).who v.own) (job : HasKey (keys e).job v.own) where
+    all_miss : (k : ℕ) → (HasTrack k v → ⊥) → on keys k (e ∷ []) ≡ []
+    all_miss k nv = on-before keys k e (is_off keys k e
+        (λ p. nv (inl (subst (λ (i : ℕ). HasKey i v.locked) p part)))
+        (λ p. nv (inr (inl (subst (λ (i : ℕ). HasKey i v.own) p who))))
+        (λ p. nv (inr (inl (subst (λ (i : ℕ). HasKey i v.own) p job)))))
+
+    all_own : (k : ℕ) → OwnsTrack k (filed_on_all keys e v) → OwnsTrack k v
+    all_own k (inl h) = inl (has-with keys k e v.own h)
+    all_own k (inr m) = inr m
+
+    all_keep : (k : ℕ) → HasTrack k (filed_on_all keys e v) → HasTrack k v
+    all_keep k (inl h) = inl (has-with keys k e v.locked h)
+    all_keep k (inr o) = inr (all_own k o)
+
+    all_is : (log : List E) → IsViewOf keys log v → IsViewOf keys (log ++ e ∷ []) (filed_on_all keys e v)
+    all_is log a = record {
+      locked = with_is keys log e v.locked a.locked;
+      own = with_is keys log e v.own a.own;
+      unbegun = λ m k le. on-append keys k log (e ∷ []) ∙ (ap (λ (l : List E). l ++ on keys k (e ∷ [])) (a.unbegun m k le) ∙ on-before keys k e (is_off keys k e
+          (λ p. a.unlike k (subst (λ (i : ℕ). HasKey i v.locked) p part) (inr (m, le)))
+          (λ p. let lt : k < v.next = a.fresh m k (subst (λ (i : ℕ). HasKey i v.own) p who) in absurd (omega arith))
+          (λ p. let lt : k < v.next = a.fresh m k (subst (λ (i : ℕ). HasKey i v.own) p job) in absurd (omega arith))));
+      fresh = λ m k h. a.fresh m k (has-with keys k e v.own h);
+      unlike = λ k s o. a.unlike k (has-with keys k e v.locked s) (all_own k o);
+      single = single-with keys e v.own a.single;
+    }
+
+    pub files_on_all : (log : List E) (views : List (BookView E)) (id : ℕ) → AreViewsOf keys log views → get_elem? views id ≡ some v → AreViewsOf keys (log ++ e ∷ []) (set views id (filed_on_all keys e v))
+    files_on_all log views id h at = changes keys views id v (filed_on_all keys e v) log (log ++ e ∷ []) h at
+        (λ u n x. others_stay keys log (e ∷ []) u (λ k o. all_miss k (n k o)) x) all_keep (all_is log)
 
   -- ---- a part's track is returned
 

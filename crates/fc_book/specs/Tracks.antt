@@ -137,11 +137,19 @@ module _ {E : Type 0} (keys : E → EntryKeys) where
   abbrev pub filed_with : E → BookView E → BookView E → BookView E
   filed_with e v w = record { locked = with_entry keys e w.locked; own = with_entry keys e v.own; may_begin = v.may_begin; next = v.next }
 
+  -- an owner's view after an entry is filed on all its tracks, the part's among them.
+  abbrev pub filed_on_all : E → BookView E → BookView E
+  filed_on_all e v = filed_with e v v
+
   -- an owner's view after an entry is filed on the owner's own tracks.
   abbrev pub with_filed : E → BookView E → BookView E
   with_filed e v = record v { own = with_entry keys e v.own }
 
 module _ {E : Type 0} where
+  -- the owner's view after it takes over a part's track.
+  abbrev pub with_locked : BookView E → BookView E → BookView E
+  with_locked v w = record v { locked = w.locked }
+
   -- the owner's view without the part's track.
   abbrev pub without_locked : BookView E → BookView E
   without_locked v = record v { locked = [] }

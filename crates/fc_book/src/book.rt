@@ -25,11 +25,15 @@ impl BookName for Brand {
 
 /// A part of a book: the book's table, and the key of the part's track.
 pub trait Part {
-    ghost use Rattle.std.specs.Prelude.{ℕ};
+    ghost use Rattle.std.specs.Prelude.{◌≡◌, ℕ};
 
     ghost table: { TableId };
 
     ghost key: { ℕ };
+
+    /// Returns the key of the part's track.
+    fn track_key() -> u64
+        ensures { result ≡ key };
 }
 
 /// The part with this key, of the book with this name.
@@ -41,6 +45,10 @@ impl<J: BookName, const KEY: u64> Part for PartOf<J, KEY> {
     ghost table = { J.table };
 
     ghost key = { KEY };
+
+    fn track_key() -> u64 {
+        KEY
+    }
 }
 
 /// A book with an empty history and no name yet.

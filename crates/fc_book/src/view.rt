@@ -66,6 +66,17 @@ impl<X: EntryName> Join<BookView<CallEntry>> for Files<X> {
     ghost spent = { no_tracks };
 }
 
+/// Takes over a part's track, and files nothing.
+pub struct TakesPart;
+
+impl<E> Join<BookView<E>> for TakesPart {
+    ghost use Rattle.fc_book.specs.Tracks.{no_tracks, with_locked};
+
+    ghost both = { with_locked };
+
+    ghost spent = { no_tracks };
+}
+
 /// Returns the part's track.
 pub struct ReturnsPart;
 

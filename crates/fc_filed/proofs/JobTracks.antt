@@ -1,7 +1,9 @@
 -- Operations of a job that a thread files are the last entries on the tracks of both.
 use Rattle.std.proofs.Common.{◌≡◌, ◌≢◌, ℕ, ◌<◌, ◌≤◌, Bool, true, false, if◌then◌else◌, List, [], ◌∷◌, ◌++◌, refl, sym, ap, ◌∙◌, subst, inl, inr, arith, append_assoc}
 use Rattle.std.specs.Prelude.{◌==◌, ◌||◌, None, is_some}
+use Rattle.std.specs.List.{All}
 use Rattle.std.proofs.lemmas.List.{append-nil}
+use Rattle.std.proofs.lemmas.List.Elements.{All-append, All-cons, All-nil}
 use Rattle.std.proofs.lemmas.Bool.Decides.{nat_tests}
 use Rattle.fc_registry.specs.declared.job.Job.{Job}
 use Rattle.fc_book.specs.declared.view.Track.{Track}
@@ -83,19 +85,23 @@ module _ {E : Type 0} (keys : E → EntryKeys) where
 
 -- ---- a thread files an operation of the job whose track is first
 
-on_second : (a b c k : ℕ) → b ≡ k → ((a == k) || ((b == k) || (c == k))) ≡ true
+pub on_second : (a b c k : ℕ) → b ≡ k → ((a == k) || ((b == k) || (c == k))) ≡ true
 on_second a b c k e = grind (e, arith, nat_tests)
 
-on_third : (a b c k : ℕ) → c ≡ k → ((a == k) || ((b == k) || (c == k))) ≡ true
+pub on_third : (a b c k : ℕ) → c ≡ k → ((a == k) || ((b == k) || (c == k))) ≡ true
 on_third a b c k e = grind (e, arith, nat_tests)
 
-first_grows : (e : FiledEntry) (ts : List (Track FiledEntry)) (k : ℕ) → HasKey k ts → is_on entry_keys (key_of_first ts) e ≡ true → entries_of (with_entry entry_keys e ts) ≡ entries_of ts ++ e ∷ []
+pub first_grows : (e : FiledEntry) (ts : List (Track FiledEntry)) (k : ℕ) → HasKey k ts → is_on entry_keys (key_of_first ts) e ≡ true → entries_of (with_entry entry_keys e ts) ≡ entries_of ts ++ e ∷ []
 first_grows e [] k h on = absurd h
 first_grows e (t ∷ ts) k h on = ap (λ (x : Bool). entries_with x t.entries e) on
 
-first_stays : (e : FiledEntry) (ts : List (Track FiledEntry)) → key_of_first (with_entry entry_keys e ts) ≡ key_of_first ts
+pub first_stays : (e : FiledEntry) (ts : List (Track FiledEntry)) → key_of_first (with_entry entry_keys e ts) ≡ key_of_first ts
 first_stays e [] = refl
 first_stays e (t ∷ ts) = refl
+
+-- the entry has the key of the first track, as that of its job.
+abbrev HasJobKey : BookView FiledEntry → FiledEntry → Type 0
+HasJobKey before e = e.job ≡ key_of_first before.own
 
 module _ (first_job who : ℕ) (job : Job) where
   module _ (s t : Stage) (operation : Operation) (before : BookView FiledEntry) (own : HasOwnTrack first_job who before) (has : HasJobFirst first_job before) (moves : StageMoves operation job s t) where
@@ -130,6 +136,7 @@ module _ (first_job who : ℕ) (job : Job) where
     files_here = record {
       entries = filed ∷ [];
       led = (t, moves, refl);
+      keyed = All-cons (HasJobKey before) filed [] job_is (All-nil (HasJobKey before));
       first = first_stays filed before.own;
       track = first_grows filed before.own who own.own on_job;
       thread = at_with entry_keys who true filed before.own on_own own.own;
@@ -148,6 +155,7 @@ module _ (first_job who : ℕ) (job : Job) where
   files_none s before after is = subst (λ (v : BookView FiledEntry). FilesForJob first_job who job s s before v) (sym is) (record {
     entries = [];
     led = refl;
+    keyed = All-nil (HasJobKey before);
     first = refl;
     track = sym (append-nil (entries_of before.own));
     thread = sym (append-nil (entries_at who before.own));
@@ -168,6 +176,7 @@ module _ (first_job who : ℕ) (job : Job) where
   files_more s m t u v w a b = record {
     entries = a.entries ++ b.entries;
     led = lead_more a.entries b.entries s m t a.led b.led;
+    keyed = All-append (HasJobKey u) a.entries b.entries a.keyed (subst (λ (k : ℕ). All (λ (e : FiledEntry). e.job ≡ k) b.entries) a.first b.keyed);
     first = b.first ∙ a.first;
     track = grown (entries_of u.own) (entries_of v.own) (entries_of w.own) a.entries b.entries a.track b.track;
     thread = grown (entries_at who u.own) (entries_at who v.own) (entries_at who w.own) a.entries b.entries a.thread b.thread;

@@ -1,5 +1,6 @@
 pub mod Keyed
 pub mod Sent
+pub mod Idle
 pub mod Rule
 pub mod Closing
 pub mod Leading

@@ -1,6 +1,6 @@
 -- The rule of a server's book, and the book's attested history. The words of the book's table are
--- eight words of padding, and the head words.
-use Rattle.std.specs.Prelude.{◌≡◌, ℕ, ◌<◌, ◌≤◌, List, [], ◌∷◌, drop, length}
+-- eight words of padding, the idle words of eight shards, and the head words.
+use Rattle.std.specs.Prelude.{◌≡◌, ℕ, ◌+◌, ◌<◌, ◌≤◌, List, [], ◌∷◌, drop, length}
 use lib.ListN.{get_elem?}
 use mathlib.Core.Option.{some}
 use Rattle.atomic_table.specs.Seated.{TableId}
@@ -8,18 +8,25 @@ use Rattle.fc_book.specs.declared.view.Track.{Track}
 use Rattle.fc_book.specs.declared.view.BookView.{BookView}
 use Rattle.fc_book.specs.Tracks.{AreViewsOf, HasKey, IsViewOf, on}
 use Rattle.fc_core.specs.Heads.{no_words}
-use Rattle.fc_linear.specs.Parts.{BringsItsJob}
+use Rattle.fc_registry.specs.Shards.{shard_at}
+use Rattle.fc_server.specs.declared.server.Begin.{Begin}
+use Rattle.fc_linear.specs.Parts.{BringsItsJob, first_server}
 use Rattle.fc_filed.specs.declared.entry.FiledEntry.{FiledEntry}
+use Rattle.fc_filed.specs.declared.book_begin.BookBegin.{BookBegin}
 use Rattle.fc_filed.specs.Entries.{AreKeyed, ChangesWords, OperationsLead, entry_keys, log_of}
+use Rattle.fc_filed.specs.Idle.{AreIdleWords, LeadToIdle}
 
--- a book, as contracts see it: its table, and the key of the first job's track.
+-- a book, as contracts see it: its table, the first key of a job's track, and the state that the
+-- server begins with.
 pub record SeenBook : Type 0 where
   pub table : TableId
   pub first_job : ℕ
+  pub begin : Begin
 
--- the table's words after the first eight, which are padding: the head words of slots 0 to 63.
+-- the table's words after the first sixteen, which are padding and idle words: the head words of
+-- slots 0 to 63.
 abbrev pub heads_in : List ℕ → List ℕ
-heads_in words = drop 8 words
+heads_in words = drop 16 words
 
 -- a track is right for its job: the first entry produces the job, and the others follow its stages.
 abbrev pub IsRightForJob : ℕ → List FiledEntry → Type 0
@@ -48,15 +55,17 @@ IsFirstSent first_job (t ∷ ts) = (first_job ≤ t.key) × IsRightForJob first_
 -- ---- the rule
 
 -- there is one history, each view is a view of it, and no two views have the same track. The
--- history's operations of the head words lead these from 0 to the table's words. The keys of each
--- entry are right (`IsKeyed`). A job's track that no thread has is right for its job.
-pub record HaveServerHistory (first_job : ℕ) (words : List ℕ) (views : List (BookView FiledEntry)) : Type 0 where
+-- history's operations of the head words lead these from 0 to the table's words. The idle words are
+-- right after the history. The keys of each entry are right (`IsKeyed`). A job's track that no
+-- thread has is right for its job.
+pub record HaveServerHistory (start : BookBegin) (words : List ℕ) (views : List (BookView FiledEntry)) : Type 0 where
   pub log : List FiledEntry
   pub views_of : AreViewsOf entry_keys log views
-  pub size : length words ≡ 72
+  pub size : length words ≡ 80
   pub heads : OperationsLead ChangesWords log no_words (heads_in words)
-  pub keyed : AreKeyed first_job log
-  pub sent : AreSent first_job log views
+  pub idle : AreIdleWords start.begin log words
+  pub keyed : AreKeyed start.first_job log
+  pub sent : AreSent start.first_job log views
 
 -- the view is a view of such a history. If the view has the tracks of all threads, each job's track
 -- that the view doesn't have is right for that job.
@@ -67,3 +76,10 @@ pub record HasServerHistory (first_job : ℕ) (v : BookView FiledEntry) : Type 0
   pub heads : OperationsLead ChangesWords log no_words words
   pub keyed : AreKeyed first_job log
   pub sent : ((t : ℕ) → 9 ≤ t → t < first_job → HasKey t v.own) → (k : ℕ) → first_job ≤ k → (HasKey k v.own → ⊥) → IsRightForJob first_job (on entry_keys k log)
+
+-- some such history fits the view. Its operations of the shard with this index lead from the
+-- server's first shard to one that is idle at `now`. The view doesn't say which calls other owners
+-- made.
+pub record HasIdleShard (first_job : ℕ) (begin : Begin) (index now : ℕ) (v : BookView FiledEntry) : Type 0 where
+  pub history : HasServerHistory first_job v
+  pub leads : LeadToIdle (shard_at (first_server begin).shards index) (on entry_keys (index + 1) history.log) now

@@ -1,5 +1,6 @@
 -- The track of a job: the operations that led the job from the call that produced it to a stage.
 use Rattle.std.specs.Prelude.{◌≡◌, ◌≢◌, ℕ, ◌≤◌, List, [], ◌∷◌, ◌++◌, Some}
+use Rattle.std.specs.List.{All}
 use Rattle.fc_registry.specs.declared.job.Job.{Job}
 use Rattle.fc_book.specs.declared.view.BookView.{BookView}
 use Rattle.fc_book.specs.Tracks.{HasKey, entries_at, entries_of}
@@ -26,11 +27,13 @@ pub record HasJobAt (first_job : ℕ) (job : Job) (stage : Stage) (v : BookView 
   pub led : HasLedJob job stage (entries_of v.own)
 
 -- thread `who` filed operations of the job whose track is first, and nothing else. They lead the
--- job from one stage to another. They are the last entries on the tracks of the job and of the
--- thread. The tracks of other jobs are unchanged, and the owner has no other tracks than before.
+-- job from one stage to another. Each has the key of the job's track. They are the last entries on
+-- the tracks of the job and of the thread. The tracks of other jobs are unchanged, and the owner
+-- has no other tracks than before.
 pub record FilesForJob (first_job who : ℕ) (job : Job) (s t : Stage) (before after : BookView FiledEntry) : Type 0 where
   pub entries : List FiledEntry
   pub led : LeadJob job entries s t
+  pub keyed : All (λ (e : FiledEntry). e.job ≡ key_of_first before.own) entries
   pub first : key_of_first after.own ≡ key_of_first before.own
   pub track : entries_of after.own ≡ entries_of before.own ++ entries
   pub thread : entries_at who after.own ≡ entries_at who before.own ++ entries

@@ -1,5 +1,6 @@
 pub mod Blank
 pub mod Entries
+pub mod Idle
 pub mod Books
 pub mod Threads
 pub mod Parts

@@ -1,5 +1,5 @@
 -- The views of a front and a shard that are under a lock with the track of their calls.
-use Rattle.std.specs.Prelude.{◌≡◌, ℕ, ◌+◌, ◌<◌, ◌≤◌, Bool, true, false, List, refl}
+use Rattle.std.specs.Prelude.{◌≡◌, ℕ, ◌+◌, ◌<◌, ◌≤◌, Bool, true, false, is_some, List, Option, Some, None, refl}
 use Rattle.fc_registry.specs.declared.job.Job.{Job}
 use Rattle.fc_registry.specs.declared.shard.Taken.{Taken}
 use Rattle.fc_registry.specs.declared.shard.Taken.TheVariants.{Given}
@@ -7,15 +7,16 @@ use Rattle.fc_registry.specs.Calls.{TakesAt}
 use Rattle.fc_registry.specs.Taken.{SlotSnapshot}
 use Rattle.fc_registry.specs.Views.{taken_with}
 use Rattle.fc_core.specs.Exchanges.{FrontState}
-use Rattle.fc_registry.specs.Slots.{Shard}
+use Rattle.fc_registry.specs.Slots.{IsOwned, Shard}
 use Rattle.fc_registry.specs.Shards.{shard_at}
 use Rattle.fc_server.specs.declared.server.Begin.{Begin}
-use Rattle.fc_calls.specs.Doings.{PassesIfIdle}
+use Rattle.fc_calls.specs.Doings.{PassesIfIdle, TakesInto}
 use Rattle.fc_calls.specs.Kept.{HasEightSlots, confirm_times, serials}
-use Rattle.fc_calls.specs.Logged.{AdvancesIdle}
+use Rattle.fc_calls.specs.Logged.{AdvancesIdle, TakesForJob}
 use Rattle.fc_linear.specs.Parts.{first_server}
 use Rattle.fc_linear.specs.Operations.{Logged, Operation, ShardPart, IsEvent, ShardDoes, part_of}
 use Rattle.fc_filed.specs.declared.entry.FiledEntry.{FiledEntry}
+use Rattle.fc_filed.specs.Blank.{no_operation}
 use Rattle.fc_filed.specs.Entries.{OperationsLead, is_of_job}
 
 -- a front, and the operations that led to it from the server's first front.
@@ -62,9 +63,9 @@ pub record KeepsShard (changes : ℕ) (before after : Shard) : Type 0 where
   pub slots : changes ≡ 0 → after.slots ≡ before.slots
   pub risen : serials after ≡ serials before + changes
 
--- ---- the cost of a snapshot's program
+-- ---- a snapshot unless its program is expensive
 
--- the snapshot has a program that takes this number of steps or more.
+-- the snapshot has a program that may take this number of instructions or more.
 abbrev pub CostsFrom : ℕ → Taken → Type 0
 CostsFrom least (Given program) = least ≤ program.value.cost
 CostsFrom least other = ⊥
@@ -74,9 +75,27 @@ abbrev pub IsCheap : ℕ → Taken → Type 0
 IsCheap least (Given program) = program.value.cost < least
 IsCheap least other = Unit {0}
 
--- a snapshot for the job would have a program that takes this number of steps or more.
+-- a snapshot for the job would have a program that may take this number of instructions or more.
 pub record IsExpensiveIn (least : ℕ) (job : Job) (readings : List ℕ) (shard : Shard) : Type 0 where
   pub taken : Taken
   pub found : SlotSnapshot
   pub takes : TakesAt job readings shard (taken_with taken found)
   pub costs : CostsFrom least taken
+
+-- a job takes a snapshot, unless the slot has a program that may take this number of instructions
+-- or more. Then the job takes none, the shard is unchanged, and `found` has any contents.
+abbrev pub TakesIfCheap : ℕ → Job → List ℕ → Shard → Option Taken → SlotSnapshot → Shard → Type 0
+TakesIfCheap least job readings before (Some taken) found after = TakesInto job readings before taken found after × IsCheap least taken
+TakesIfCheap least job readings before None found after = IsExpensiveIn least job readings before × (after ≡ before)
+
+-- the operation of such a snapshot; a snapshot that isn't taken is no operation, and is not filed.
+abbrev pub cheap_operation : Job → List ℕ → Option Taken → SlotSnapshot → Operation
+cheap_operation job readings (Some taken) found = Logged (TakesForJob job readings (taken_with taken found))
+cheap_operation job readings None found = no_operation
+
+-- a snapshot that is taken is filed.
+pub cheap_filed : (least : ℕ) (job : Job) (readings : List ℕ) (before : Shard) (taken : Option Taken) (found : SlotSnapshot) (after : Shard)
+    → IsOwned before job.origin.slot → TakesIfCheap least job readings before taken found after
+    → IsFiledAs (is_some taken) true (cheap_operation job readings taken found) before after
+cheap_filed least job readings before (Some taken) found after owned does = record { does = does.0.0; part = λ i. ShardPart (owned.index i); job = λ is. is; event = λ low. tt }
+cheap_filed least job readings before None found after owned does = does.1

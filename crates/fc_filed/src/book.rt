@@ -1,20 +1,25 @@
 //! The book of a server's history, and the owners of its tracks.
-ghost use Rattle.std.specs.Prelude.{◌≡◌, ◌+◌, ◌<◌, ◌≤◌, ◌++◌, ◌∷◌, [], true, false, IfOk};
+ghost use Rattle.std.specs.Prelude.{◌≡◌, ◌+◌, ◌<◌, ◌≤◌, ◌++◌, ◌∷◌, ℕ, [], true, false, IfOk};
 ghost use Rattle.atomic_table.specs.Seated.{TableId};
 ghost use Rattle.fc_book.specs.Tracks.{first_own, first_view, merged_with, own_view, part_view, with_begun, with_next, with_part, without_first};
-ghost use Rattle.fc_server.specs.declared.server.Begin.{Begin};
+ghost use Rattle.fc_server.specs.declared.server.Begin.{Begin as Initial};
 ghost use Rattle.fc_calls.specs.Logged.{LooksAt, RaisesWord};
 ghost use Rattle.fc_linear.specs.Operations.{LacksMemory, Logged, NoPart, RejectsImage, is_words, part_of};
-ghost use Rattle.fc_filed.specs.Books.{HasServerHistory, IsFirstSent};
+ghost use Rattle.fc_registry.specs.Shards.{shard_at};
+ghost use Rattle.fc_linear.specs.Parts.{first_server};
+ghost use Rattle.fc_filed.specs.Books.{HasIdleShard, HasServerHistory, IsFirstSent};
+ghost use Rattle.fc_filed.specs.Idle.{LeadToIdle};
 ghost use Rattle.fc_filed.specs.Entries.{part_key};
 ghost use Rattle.fc_filed.specs.Threads.{HasJobFirst, HasOwnTrack, MayFile, did_by, entry_by, known_word};
 
+use crate::book_begin::BookBegin;
 use crate::steps::{self, FiledSeat, FiledWords};
 use crate::view::FiledName;
 use atomic_table::Table;
 use fc_book::Part;
 use fc_core::Answer;
 use fc_registry::Job;
+use fc_server::Begin;
 use std::alloc::{AllocError, Global};
 use std::marker::{Brand, Model, PhantomData};
 use std::mem::replace;
@@ -30,7 +35,7 @@ pub trait ServerName {
 
     ghost first_job: { ℕ };
 
-    ghost begin: { Begin };
+    ghost begin: { Initial };
 }
 
 impl ServerName for Brand {
@@ -46,7 +51,8 @@ impl ServerName for Brand {
 
 /// A book with an empty history and without a name yet.
 ///
-/// Contracts see the book's table, and the key of the first job's track.
+/// Contracts see the book's table, the first key of a job's track, and the state that the server
+/// begins with.
 #[derive(Drop)]
 pub struct NewServerBook {
     words: FiledWords,
@@ -62,16 +68,18 @@ impl Model for NewServerBook {
     ghost use Rattle.std.specs.Prelude.{◌≡◌, ◌+◌, []};
     ghost use Rattle.fc_book.specs.Tracks.{first_view};
 
-    ghost view = { λ b. record { table = b.words.shared.table_id; first_job = b.words.shared.key } };
+    ghost view = { λ b. record { table = b.words.shared.table_id; first_job = b.words.shared.key.first_job; begin = b.words.shared.key.begin } };
 
-    ghost invariant = { λ b. (b.seat.table_id ≡ b.words.shared.table_id) × (b.words.shared.table_id.words ≡ 72)
-        × (b.seat.me ≡ (first_view, [])) × (b.words.shared.key ≡ 9 + b.threads) };
+    ghost invariant = { λ b. (b.seat.table_id ≡ b.words.shared.table_id) × (b.words.shared.table_id.words ≡ 80)
+        × (b.seat.me ≡ (first_view, [])) × (b.words.shared.key.first_job ≡ 9 + b.threads) };
 }
 
-/// A server's book: eight words of padding, and the head words of slots 0 to 63.
+/// A server's book: eight words of padding, the idle words of eight shards, and the head words.
 ///
-/// The padding is never written. A step that needs no head word loads the first word of the
-/// padding. Contracts see the table, and the key of the first job's track.
+/// The padding is never written. A step that needs no idle word and no head word loads the first
+/// word of the padding. A shard's idle word is a time in milliseconds, before which the shard is
+/// idle. The step that files a call of the shard resets the word to 0. Contracts see the table, the
+/// first key of a job's track, and the state that the server begins with.
 #[derive(Drop)]
 pub struct ServerBook<J: ServerName> {
     words: FiledWords,
@@ -85,9 +93,9 @@ impl<J: ServerName> Model for ServerBook<J> {
 
     ghost use Rattle.std.specs.Prelude.{◌≡◌};
 
-    ghost view = { λ b. record { table = b.words.shared.table_id; first_job = b.words.shared.key } };
+    ghost view = { λ b. record { table = b.words.shared.table_id; first_job = b.words.shared.key.first_job; begin = b.words.shared.key.begin } };
 
-    ghost invariant = { λ b. (b.words.shared.table_id ≡ J.table) × (b.words.shared.key ≡ J.first_job) × (b.words.shared.table_id.words ≡ 72) };
+    ghost invariant = { λ b. (b.words.shared.table_id ≡ J.table) × (b.words.shared.key.first_job ≡ J.first_job) × (b.words.shared.key.begin ≡ J.begin) × (b.words.shared.table_id.words ≡ 80) };
 }
 
 /// The tracks that a thread or a message owns.
@@ -136,15 +144,20 @@ impl<P: Part> Model for FiledTrack<P> {
 impl NewServerBook {
     /// Makes a book with an empty history, for `threads` threads.
     ///
-    /// The key of the first job's track is `9 + threads`.
+    /// `begin` is the state that the server begins with. The first key of a job's track is
+    /// `9 + threads`.
     ///
     /// # Errors
     /// Returns `AllocError` if memory can't be allocated.
-    pub fn new(alloc: Global, threads: u16) -> Result<NewServerBook, AllocError>
-        ensures { IfOk result (λ b. b.first_job ≡ 9 + threads) }
+    pub fn new(alloc: Global, threads: u16, begin: &Begin) -> Result<NewServerBook, AllocError>
+        ensures first_job { IfOk result (λ b. b.first_job ≡ 9 + threads) }
+        ensures begin { IfOk result (λ b. b.begin ≡ begin.now) }
     {
-        let first_job = 9 + u64::from(threads);
-        let (words, seat) = Table::of_words(alloc, &[0; 72], &first_job)?;
+        let start = BookBegin {
+            first_job: 9 + u64::from(threads),
+            begin: *begin,
+        };
+        let (words, seat) = Table::of_words(alloc, &[0; 80], &start)?;
         Ok(NewServerBook {
             words,
             seat,
@@ -165,6 +178,7 @@ impl NewServerBook {
     pub fn with_name<J: ServerName>(self) -> (ServerBook<J>, ServerTracks<J>)
         requires named { self.table ≡ J.table }
         requires key { self.first_job ≡ J.first_job }
+        requires book_begins { self.begin ≡ J.begin }
         ensures { result.1 ≡ first_view }
     {
         let NewServerBook { words, seat, .. } = self;
@@ -260,6 +274,17 @@ impl<J: ServerName> ServerTracks<J> {
         steps::attest::<J>(&book.words, &mut self.seat);
     }
 
+    /// Returns the head word of `slot`, 0 to 63, and files nothing.
+    ///
+    /// See [`ServerTracks::look`], which files the read.
+    pub fn read_word(&mut self, book: &ServerBook<J>, slot: usize) -> u64
+        requires slot { slot < 64 }
+        ensures rises { known_word slot self.old.own ≤ result }
+        ensures kept { self.new ≡ self.old }
+    {
+        steps::read_word(&book.words, &mut self.seat, slot)
+    }
+
     /// Returns the head word of `slot`, 0 to 63, and files the read.
     ///
     /// The result is at least every word of the slot that the entries on these tracks read, or to
@@ -273,6 +298,20 @@ impl<J: ServerName> ServerTracks<J> {
         ensures filed { self.new ≡ did_by who (Logged (LooksAt slot result)) self.old }
     {
         look_as::<Brand, J>(book, self, who, slot)
+    }
+
+    /// Returns a time before which the shard of an index, 0 to 7, is idle, or 0.
+    ///
+    /// The time is in milliseconds. Before it, the shard is idle after its filed calls: no
+    /// notification has timed out, and no observer has a pending one. The contract says so of some
+    /// history that fits these tracks. By the rule of the book (`AreIdleWords`) this is the history
+    /// at this step. No lock is taken, and nothing is filed.
+    pub fn idle_until(&mut self, book: &ServerBook<J>, index: usize) -> u64
+        requires index { index < 8 }
+        ensures idle { (now : ℕ) → now < result → HasIdleShard J.first_job J.begin index now self.old }
+        ensures kept { self.new ≡ self.old }
+    {
+        steps::idle_until::<J>(&book.words, &mut self.seat, index)
     }
 
     /// Raises the head word of `slot`, 0 to 63, to `word` if `word` is greater.
@@ -308,6 +347,25 @@ impl<J: ServerName> ServerTracks<J> {
         ensures filed { self.new ≡ did_by who (LacksMemory job.now) self.old }
     {
         lack_as::<Brand, J>(book, self, who, job);
+    }
+}
+
+impl<P: Part> FiledTrack<P> {
+    /// Notes in the book that the shard of this track is idle before `until`, in milliseconds.
+    ///
+    /// Requires that the track's operations lead to such a shard. The caller holds its lock.
+    pub(crate) fn note_idle<J: ServerName>(
+        &mut self,
+        book: &ServerBook<J>,
+        index: usize,
+        until: u64,
+    )
+        requires same { P.table ≡ J.table }
+        requires index { (index < 8) × (P.key ≡ index + 1) }
+        requires idle { (now : ℕ) → now < until → LeadToIdle (shard_at (first_server J.begin).shards index) self.old now }
+        ensures kept { self.new ≡ self.old }
+    {
+        steps::note_idle(&book.words, &mut self.seat, index, until);
     }
 }
 
@@ -389,7 +447,7 @@ pub fn file_as<X: FiledName, J: ServerName, P: Part>(
     let _ = who;
     let spare = steps::empty_seat(&book.words, &mut tracks.seat);
     let seat = replace(&mut part.seat, spare);
-    steps::file::<X>(&book.words, &mut tracks.seat, seat);
+    steps::file::<X>(&book.words, &mut tracks.seat, seat, P::track_key());
     let back = steps::return_part(&book.words, &mut tracks.seat);
     let _spent = replace(&mut part.seat, back);
 }

@@ -1,15 +1,20 @@
 //! The calls of a shard, and the operations that are filed for them.
 //!
-//! [`crate::FiledShard::ask`] makes them. An advance is filed only if the shard is idle. A lease
-//! that begins a track, and a snapshot that may be dropped, are methods of `FiledShard`.
-ghost use Rattle.std.specs.Prelude.{◌≡◌, true, false, ⊤, refl};
+//! [`crate::FiledShard::ask`] makes them. An advance is filed only if the shard is idle, and a
+//! snapshot that may be dropped ([`TakeIfCheap`]) only if it is taken. A lease that begins a track
+//! is a method of `FiledShard`.
+ghost use Rattle.std.specs.Prelude.{◌≡◌, true, false, None, is_some, ⊤, refl, MatchBool};
 ghost use Rattle.fc_registry.specs.Slots.{IsOwned};
 ghost use Rattle.fc_linear.specs.Operations.{Logged, ShardPart};
+ghost use Rattle.fc_filed.specs.Parts.{CostsFrom, IsCheap};
 
 use crate::shard::FiledCall;
+use fc_calls::ShardCall;
 use fc_calls::calls::{
     AdvanceIfIdle, Commit, Describe, GiveUp, Install, NextDue, Note, Remove, Signal, Take, Tick,
 };
+use fc_help::Readings;
+use fc_registry::{Job, Shard, SlotSnapshot, Taken};
 
 impl<'a> FiledCall for Take<'a> {
     ghost use Rattle.fc_registry.specs.Views.{taken_with};
@@ -30,6 +35,62 @@ impl<'a> FiledCall for Take<'a> {
 
     ghost right = { λ call before answer room after is does.
         record { does = does.0; part = λ i. ShardPart (is.index i); job = λ is. is; event = λ low. tt } };
+}
+
+/// Takes a snapshot of a request's slot unless the slot's program is expensive.
+///
+/// The slot is that of `job`, which has no lease. See [`Shard::take_into`]. If the program may take
+/// `least` instructions or more, the snapshot is dropped, the shard is unchanged, and nothing is
+/// filed. Then the result is `None`, and a worker has to take its own snapshot.
+#[derive(Drop)]
+pub struct TakeIfCheap<'a> {
+    pub job: &'a Job,
+    pub readings: &'a Readings,
+    pub least: u32,
+}
+
+impl<'a> ShardCall for TakeIfCheap<'a> {
+    ghost use Rattle.fc_registry.specs.Slots.{IsOwned};
+    ghost use Rattle.fc_filed.specs.Parts.{TakesIfCheap};
+
+    type Answer = Option<Taken>;
+
+    type Room = SlotSnapshot;
+
+    ghost may_ask = { λ call shard. IsOwned shard call.job.now.origin.slot × (call.job.now.turn ≡ None) };
+
+    ghost does = { λ call before answer room after. TakesIfCheap call.least call.job.now call.readings.now before answer room after };
+
+    fn call(self, shard: &mut Shard, room: &mut SlotSnapshot) -> Option<Taken> {
+        let taken = shard.take_into(self.job, self.readings, room);
+        if is_expensive(&taken, self.least) {
+            None
+        } else {
+            Some(taken)
+        }
+    }
+}
+
+/// It is filed only if the snapshot is taken; else the shard is unchanged.
+impl<'a> FiledCall for TakeIfCheap<'a> {
+    ghost use Rattle.fc_filed.specs.Parts.{cheap_filed, cheap_operation};
+
+    ghost is_of = { λ call shard. IsOwned shard call.job.now.origin.slot };
+
+    ghost of_job = { true };
+
+    ghost files = { λ answer. is_some answer };
+
+    ghost operation = { λ index call answer room. cheap_operation call.job.now call.readings.now answer room };
+
+    fn is_filed(answer: &Option<Taken>) -> bool
+        ensures { result ≡ is_some answer.now }
+    {
+        answer.is_some()
+    }
+
+    ghost right = { λ call before answer room after is does.
+        cheap_filed call.least call.job.now call.readings.now before answer room after is does };
 }
 
 impl<'a> FiledCall for Commit<'a> {
@@ -224,4 +285,14 @@ impl FiledCall for AdvanceIfIdle {
     }
 
     ghost right = { λ call before answer room after is does. advance_filed call.now before after answer does };
+}
+
+// Returns whether a snapshot has a program that may take `least` instructions or more.
+fn is_expensive(taken: &Taken, least: u32) -> bool
+    ensures { MatchBool result (CostsFrom least taken.now) (IsCheap least taken.now) }
+{
+    match taken {
+        Taken::Given(program) => program.cost() >= least,
+        Taken::Missing | Taken::Stale | Taken::Refused => false,
+    }
 }

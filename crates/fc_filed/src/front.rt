@@ -30,6 +30,10 @@ impl<J: ServerName> Part for FrontOf<J> {
     ghost table = { J.table };
 
     ghost key = { 0 };
+
+    fn track_key() -> u64 {
+        0
+    }
 }
 
 /// A front and the track of its calls.

@@ -5,17 +5,22 @@
 //! [fc_book](../../fc_book/src/lib.rt) keeps one history by tracks that change owners. This crate
 //! has such a book of a server's operations. The front and each shard are under their locks
 //! together with the tracks of their calls ([`FiledFront`], [`FiledShard`]). So each call is filed
-//! before the lock is free. The table's words are the head words, so a look or a raise is filed in
-//! the step that makes it ([`ServerTracks::look`]). A filed call costs three loads of one word; a
-//! look or a raise costs nothing more than the step itself.
+//! before the lock is free. The head words are words of the book's table, so a look or a raise is
+//! filed in the step that makes it ([`ServerTracks::look`]). A filed call of the front costs three
+//! loads of one word. A filed call of a shard also costs a store of another word. A look or a raise
+//! costs nothing more than the step itself.
+//!
+//! The table also has an idle word for each shard: a time before which the shard is idle. The step
+//! that files a call of the shard resets the word, and an advance of the idle shard writes it. So a
+//! thread can learn without a lock that a shard is idle ([`ServerTracks::idle_until`]).
 //!
 //! The front's track has key 0, shard i's track key `i + 1`, and the threads' tracks keys from 9
 //! on. From the *first job's* key on, each job has a key of its own. The rule is
 //! `HaveServerHistory` (`specs/Books.antt`).
 //!
 //! The server of `fc_workers` has its front and its shards under their locks in this form, and its
-//! head words are those of its book. Its jobs have no tracks of their own yet. So no contract
-//! guarantees that the calls of all its threads are one legal history.
+//! head words are those of its book. Each of its jobs has a track of its own. At the end of a pool
+//! the filed calls are one legal history (`run_pool` of `fc_service`).
 //!
 //! ```rust
 //! ghost use Rattle.std.specs.Prelude.{◌≡◌};
@@ -48,29 +53,31 @@
 //! - Each call of a front or a shard becomes the last entry on the tracks of its part, thread and
 //!   job. The entry has its arguments and its answer. A part's calls lead from the server's first
 //!   front, or shard, to the one under the lock.
-//! - Two kinds of calls leave the shard unchanged and aren't filed: an advance of a shard that
-//!   isn't idle, and a call by `FiledShard::inspect`.
+//! - Three kinds of calls leave the shard unchanged and aren't filed: an advance of a shard that
+//!   isn't idle, a snapshot that is dropped, and a call by `FiledShard::inspect`.
 //! - A look at a head word and a raise are entries too, made in the step itself. The history's
 //!   looks and raises lead the head words from 0 to those of the table. A look returns at least
-//!   every word of its slot in the entries on the owner's tracks, whichever track it is on. A
-//!   rejected image and refused memory are also entries; they belong to no part.
+//!   every word of its slot in the entries on the owner's tracks, whichever track it is on. So does
+//!   a read that isn't filed (`ServerTracks::read_word`). A rejected image and refused memory are
+//!   also entries; they belong to no part.
+//! - Before the time in a shard's idle word, the shard is idle after its entries in the history: no
+//!   notification has timed out, and no observer has a pending one. This is the rule of the book.
+//!   The contract of a read says so of *some* history that fits the owner's tracks.
 //! - Under every schedule there is one history, and each track has exactly the entries with its
 //!   key. No track has two owners. The keys of each entry are of their kind.
 //! - A job's track that no thread has, such as that of a lost message, is right for its job.
-//! - A request's snapshot of an expensive program is dropped under the lock. It changes nothing and
-//!   is not filed.
+//! - A snapshot of an expensive program can be dropped under the lock (`calls::TakeIfCheap`). It
+//!   then changes nothing and isn't filed. A snapshot that isn't dropped is filed.
 //! - A history of a new server is legal if each of its tracks is right. It leaves the server in the
 //!   state of its parts.
 //! - The same holds for an attested history if its owner has the tracks of all parts and threads,
 //!   and the jobs came in the order of their keys.
 //!
-//! Not proved yet: that a server's threads make such tracks for its jobs. `fc_workers` proves that
-//! a worker keeps a job's track right if it received the track at the job's first stage.
-//!
 //! By the contracts of `FiledFront`, `FiledShard`, `FiledCall`, `ServerTracks`, `file_as`, `laws`.
 #![tactic(auto)]
 
 pub mod book;
+pub mod book_begin;
 pub mod calls;
 pub mod entry;
 pub mod front;
@@ -80,6 +87,7 @@ mod steps;
 pub mod view;
 
 pub use book::{FiledTrack, NewServerBook, ServerBook, ServerName, ServerTracks, file_as};
+pub use book_begin::BookBegin;
 pub use entry::{FiledEntry, FiledOperation};
 pub use front::{FiledFront, FrontOf};
 pub use shard::{FiledCall, FiledShard, OperationName, ShardOf};

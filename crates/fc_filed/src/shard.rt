@@ -1,25 +1,25 @@
 //! A shard under its lock, together with the track of its calls.
-ghost use Rattle.std.specs.Prelude.{◌≡◌, ◌+◌, ◌%◌, ◌<◌, ◌≤◌, ◌++◌, ◌∷◌, [], ℕ, Bool, true, false, None, MatchBool, MatchOption};
+ghost use Rattle.std.specs.Prelude.{◌≡◌, ◌+◌, ◌%◌, ◌<◌, ◌≤◌, ◌++◌, ◌∷◌, [], ℕ, Bool, true, false};
 ghost use Rattle.fc_registry.specs.Shards.{shard_at};
-ghost use Rattle.fc_registry.specs.Slots.{IsOwned, Shard as Seen};
+ghost use Rattle.fc_registry.specs.Slots.{Shard as Seen};
 ghost use Rattle.fc_registry.specs.Turns.{written_if};
-ghost use Rattle.fc_registry.specs.Views.{taken_with};
+ghost use Rattle.fc_registry.specs.Watches.{is_idle};
 ghost use Rattle.fc_book.specs.Tracks.{part_view, with_part};
-ghost use Rattle.fc_calls.specs.Logged.{GivesTurn, TakesForJob};
+ghost use Rattle.fc_calls.specs.Doings.{PassesIfIdle};
+ghost use Rattle.fc_calls.specs.Logged.{AdvancesIdle, GivesTurn};
 ghost use Rattle.fc_calls.specs.Kept.{HasEightSlots};
 ghost use Rattle.fc_linear.specs.Operations.{Logged, Operation, ShardDoes, is_words, part_of};
 ghost use Rattle.fc_linear.specs.Parts.{first_server};
 ghost use Rattle.fc_filed.specs.Entries.{OperationsLead, part_key};
-ghost use Rattle.fc_filed.specs.Parts.{CostsFrom, IsCheap, IsExpensiveIn, IsFiledAs, KeepsShard};
+ghost use Rattle.fc_filed.specs.Parts.{IsFiledAs, KeepsShard};
 ghost use Rattle.fc_filed.specs.Threads.{HasJobFirst, HasOwnTrack, MayFile, begun_if, did_by, did_if, entry_by};
 
 use crate::book::{FiledTrack, ServerBook, ServerName, ServerTracks, file_as};
 use crate::view::FiledName;
 use fc_book::Part;
 use fc_calls::ShardCall;
-use fc_calls::calls::{NextDue, Take};
-use fc_help::Readings;
-use fc_registry::{Job, Shard, SlotSnapshot, Taken};
+use fc_calls::calls::{AdvanceIfIdle, NextDue};
+use fc_registry::{Job, Shard};
 use std::marker::{Brand, Model, PhantomData};
 
 /// A call of a shard, and the operation that is filed for it.
@@ -70,6 +70,10 @@ impl<J: ServerName, const INDEX: u8> Part for ShardOf<J, INDEX> {
     ghost table = { J.table };
 
     ghost key = { INDEX + 1 };
+
+    fn track_key() -> u64 {
+        u64::from(INDEX) + 1
+    }
 }
 
 /// A shard and the track of its calls.
@@ -133,6 +137,7 @@ impl<J: ServerName, P: Part> FiledShard<J, P> {
         ensures does { C.does call self.old.shard result room.new self.new.shard }
         ensures kept { KeepsShard (C.changes result) self.old.shard self.new.shard }
         ensures filed { tracks.new ≡ did_if (C.files result) who (C.operation self.old.shard.index call result room.new) tracks.old }
+        ensures unfiled { C.files result ≡ false → self.new ≡ self.old }
     {
         ask_as::<C, J, P, Brand>(self, book, tracks, who, call, room)
     }
@@ -145,6 +150,41 @@ impl<J: ServerName, P: Part> FiledShard<J, P> {
         ensures unchanged { self.new ≡ self.old }
     {
         call.call(&mut self.shard, room)
+    }
+
+    /// Advances the shard to `now` ms if it is idle then, and files that.
+    ///
+    /// See [`Shard::advance_if_idle`]. Returns whether the shard was advanced; if not, nothing
+    /// changes. An advance also notes in the book until when the shard is idle.
+    pub fn advance_if_idle(
+        &mut self,
+        book: &ServerBook<J>,
+        tracks: &mut ServerTracks<J>,
+        who: u64,
+        now: u64,
+    ) -> bool
+        requires same { P.table ≡ J.table }
+        requires thread { HasOwnTrack J.first_job who tracks.old }
+        ensures does { PassesIfIdle now self.old.shard result self.new.shard }
+        ensures kept { KeepsShard 0 self.old.shard self.new.shard }
+        ensures filed { tracks.new ≡ did_if result who (Logged (AdvancesIdle self.old.shard.index now)) tracks.old }
+    {
+        let idle = self.ask(book, tracks, who, AdvanceIfIdle { now }, &mut ());
+        if idle {
+            self.note_idle(book);
+        }
+        idle
+    }
+
+    // Notes in the book until when the shard, which is idle, stays idle.
+    fn note_idle(&mut self, book: &ServerBook<J>)
+        requires same { P.table ≡ J.table }
+        requires idle { is_idle self.old.shard ≡ true }
+        ensures { self.new ≡ self.old }
+    {
+        let until = self.shard.idle_until();
+        let index = P::track_key() - 1;
+        self.track.note_idle(book, index as usize, until);
     }
 
     /// Leases the first pending notification at `now` ms, and files that.
@@ -179,47 +219,6 @@ impl<J: ServerName, P: Part> FiledShard<J, P> {
             job,
         );
         is_due
-    }
-
-    /// Takes a snapshot of a request's slot unless the slot's program is expensive.
-    ///
-    /// See [`Shard::take_into`]. The slot is that of `job`. If the program may take `least` steps
-    /// or more, the snapshot is dropped and nothing is filed. Then the result is `None`: a worker
-    /// is to take its own snapshot.
-    pub fn take_unless_expensive(
-        &mut self,
-        book: &ServerBook<J>,
-        tracks: &mut ServerTracks<J>,
-        who: u64,
-        job: &Job,
-        readings: &Readings,
-        least: u32,
-        found: &mut SlotSnapshot,
-    ) -> Option<Taken>
-        requires same { P.table ≡ J.table }
-        requires request { job.now.turn ≡ None }
-        requires may { IsOwned self.old.shard job.now.origin.slot }
-        requires thread { HasOwnTrack J.first_job who tracks.old }
-        requires job { HasJobFirst J.first_job tracks.old }
-        ensures filed { MatchOption result
-            ((tracks.new ≡ tracks.old) × (self.new ≡ self.old) × IsExpensiveIn least job.now readings.now self.old.shard)
-            (λ taken. (tracks.new ≡ did_by who (Logged (TakesForJob job.now readings.now (taken_with taken found.new))) tracks.old) × IsCheap least taken) }
-    {
-        let taken = Take { job, readings }.call(&mut self.shard, found);
-        if is_expensive(&taken, least) {
-            return None;
-        }
-        file_taken::<Brand, J, P>(
-            book,
-            tracks,
-            &mut self.track,
-            who,
-            job,
-            readings,
-            &taken,
-            found,
-        );
-        Some(taken)
     }
 
     /// Moves the shard's track to `tracks`, and returns the shard.
@@ -259,6 +258,7 @@ fn ask_as<C: FiledCall, J: ServerName, P: Part, X: OperationName<C::Answer, C::R
     ensures does { C.does call this.old.shard result room.new this.new.shard }
     ensures kept { KeepsShard (C.changes result) this.old.shard this.new.shard }
     ensures filed { tracks.new ≡ did_if (C.files result) who (C.operation this.old.shard.index call result room.new) tracks.old }
+    ensures unfiled { C.files result ≡ false → this.new ≡ this.old }
 {
     let answer = call.call(&mut this.shard, room);
     if C::is_filed(&answer) {
@@ -308,16 +308,6 @@ fn begin_if<J: ServerName>(book: &ServerBook<J>, tracks: &mut ServerTracks<J>, i
     }
 }
 
-/// Returns whether a snapshot has a program that may take `least` steps or more.
-fn is_expensive(taken: &Taken, least: u32) -> bool
-    ensures { MatchBool result (CostsFrom least taken.now) (IsCheap least taken.now) }
-{
-    match taken {
-        Taken::Given(program) => program.cost() >= least,
-        Taken::Missing | Taken::Stale | Taken::Refused => false,
-    }
-}
-
 /// Files the result of a request for a lease, with the entry named by `X`.
 ///
 /// See [`FiledShard::next_due`]. Only the clauses use the shard, the time and the job.
@@ -342,32 +332,5 @@ fn file_due<X: FiledName, J: ServerName, P: Part>(
     let _ = now;
     let _ = is_due;
     let _ = job;
-    file_as::<X, J, P>(book, tracks, track, who);
-}
-
-/// Files the snapshot of a request's job, with the entry named by `X`.
-///
-/// See [`FiledShard::take_unless_expensive`]. Only the clauses use the job and the snapshot.
-fn file_taken<X: FiledName, J: ServerName, P: Part>(
-    book: &ServerBook<J>,
-    tracks: &mut ServerTracks<J>,
-    track: &mut FiledTrack<P>,
-    who: u64,
-    job: &Job,
-    readings: &Readings,
-    taken: &Taken,
-    found: &SlotSnapshot,
-)
-    requires entry { X.entry ≡ entry_by who tracks.old (Logged (TakesForJob job.now readings.now (taken_with taken.now found.now))) }
-    requires same { P.table ≡ J.table }
-    requires part { job.now.origin.slot % 8 + 1 ≡ P.key }
-    requires may { MayFile J.first_job who tracks.old (Logged (TakesForJob job.now readings.now (taken_with taken.now found.now))) }
-    ensures track { track.new ≡ track.old ++ X.entry ∷ [] }
-    ensures filed { tracks.new ≡ did_by who X.entry.operation tracks.old }
-{
-    let _ = job;
-    let _ = readings;
-    let _ = taken;
-    let _ = found;
     file_as::<X, J, P>(book, tracks, track, who);
 }

@@ -4,39 +4,47 @@
 //! These are the owner's own tracks, and a part's track while the owner has taken it over. The
 //! functions of `book.rt` are made of these steps.
 //!
-//! A step splits a seat off, joins a seat to another one, or loads or raises a word of the table. A
-//! load that needs no head word loads the first word of the padding.
-ghost use Rattle.std.specs.Prelude.{◌≡◌, ◌<◌, ◌≤◌, [], true, false};
-ghost use Rattle.fc_book.specs.Tracks.{AreSingle, HasKey, filed_with, first_own, locked_of, merged_with, no_tracks, own_view, part_view, with_begun, with_filed, with_next, with_part, without_first, without_locked};
+//! A step splits a seat off, joins a seat to another one, or loads or writes a word of the table. A
+//! load that needs no idle word and no head word loads the first word of the padding.
+ghost use Rattle.std.specs.Prelude.{◌≡◌, ◌≢◌, ◌+◌, ◌<◌, ◌≤◌, ℕ, [], true, false};
+ghost use Rattle.fc_book.specs.Tracks.{AreSingle, HasKey, entries_of, filed_on_all, filed_with, first_own, locked_of, merged_with, no_tracks, own_view, part_view, with_begun, with_filed, with_locked, with_next, with_part, without_first, without_locked};
+ghost use Rattle.fc_registry.specs.Shards.{shard_at};
 ghost use Rattle.fc_linear.specs.Operations.{NoPart, is_words, part_of};
-ghost use Rattle.fc_filed.specs.Books.{HasServerHistory, IsFirstSent};
+ghost use Rattle.fc_linear.specs.Parts.{first_server};
+ghost use Rattle.fc_filed.specs.Books.{HasIdleShard, HasServerHistory, IsFirstSent};
 ghost use Rattle.fc_filed.specs.Entries.{IsKeyed, entry_keys};
+ghost use Rattle.fc_filed.specs.Idle.{LeadToIdle};
 ghost use Rattle.fc_filed.specs.Threads.{entry_of_look, entry_of_raise, known_word};
 
 use crate::book::ServerName;
+use crate::book_begin::BookBegin;
 use crate::entry::FiledEntry;
 use crate::view::{
-    AttestsServer, FiledName, FilesAlone, FilesEntry, LooksAtWord, RaisesHead, ServerRule,
+    AttestsServer, FiledName, FilesAlone, FilesEntry, FilesForShard, LooksAtWord, NotesIdle,
+    RaisesHead, ReadsIdle, ReadsWord, ServerRule,
 };
 use atomic_table::{Seat, Table};
 use fc_book::view::{
     Begins, BeginsPart, BeginsTracks, BookView, Closes, MakesEmpty, Merges, ReturnsPart,
-    SplitsFirst,
+    SplitsFirst, TakesPart,
 };
 use std::alloc::Global;
 
 pub(crate) type FiledSeat = Seat<u8, BookView<FiledEntry>>;
 
-pub(crate) type FiledWords = Table<u8, BookView<FiledEntry>, u64, ServerRule, Global>;
+pub(crate) type FiledWords = Table<u8, BookView<FiledEntry>, BookBegin, ServerRule, Global>;
 
-/// Number of words of padding at the start of the table.
-const PADDING: usize = 8;
+/// The place of the first idle word: the table begins with eight words of padding.
+const IDLE: usize = 8;
+
+/// The place of the first head word, after the idle words of eight shards.
+const HEADS: usize = 16;
 
 /// Makes a seat with no track.
 ///
 /// `file_as` puts it in the place of a part's seat while the part's track is taken over.
 pub(crate) fn empty_seat(words: &FiledWords, seat: &mut FiledSeat) -> FiledSeat
-    requires size { words.now.shared.table_id.words ≡ 72 }
+    requires size { words.now.shared.table_id.words ≡ 80 }
     requires table { seat.old.table_id ≡ words.now.shared.table_id }
     ensures kept { (seat.new.table_id ≡ seat.old.table_id) × (seat.new.me ≡ seat.old.me) }
     ensures new { (result.table_id ≡ words.now.shared.table_id) × (result.me ≡ (no_tracks, [])) }
@@ -46,30 +54,130 @@ pub(crate) fn empty_seat(words: &FiledWords, seat: &mut FiledSeat) -> FiledSeat
 
 /// Takes over the track of a part's seat, and files the entry that `X` names.
 ///
-/// The track stays at the owner's seat until [`return_part`].
-pub(crate) fn file<X: FiledName>(words: &FiledWords, seat: &mut FiledSeat, part: FiledSeat)
-    requires size { words.now.shared.table_id.words ≡ 72 }
+/// `key` is the key of the part's track. The track stays at the owner's seat until [`return_part`].
+/// If the part is a shard, the step that files the entry resets the shard's idle word.
+pub(crate) fn file<X: FiledName>(
+    words: &FiledWords,
+    seat: &mut FiledSeat,
+    part: FiledSeat,
+    key: u64,
+)
+    requires size { words.now.shared.table_id.words ≡ 80 }
     requires table { seat.old.table_id ≡ words.now.shared.table_id }
     requires part_table { part.table_id ≡ words.now.shared.table_id }
     requires free { seat.old.me.0.locked ≡ [] }
     requires part { (part.me.0.own ≡ []) × (part.me.0.may_begin ≡ false) × (part.me.1 ≡ []) }
+    requires key { key ≡ (entry_keys X.entry).part }
     requires on_part { HasKey (entry_keys X.entry).part part.me.0.locked }
     requires on { HasKey X.entry.who seat.old.me.0.own × HasKey X.entry.job seat.old.me.0.own }
     requires no_words { is_words (part_of X.entry.operation) ≡ false }
-    requires keyed { IsKeyed words.now.shared.key X.entry }
+    requires keyed { IsKeyed words.now.shared.key.first_job X.entry }
+    ensures table { seat.new.table_id ≡ seat.old.table_id }
+    ensures filed { seat.new.me ≡ (filed_with entry_keys X.entry seat.old.me.0 part.me.0, seat.old.me.1) }
+{
+    if key == 0 || key > 8 {
+        file_for_other::<X>(words, seat, part);
+    } else {
+        file_for_shard::<X>(words, seat, part, (key - 1) as usize);
+    }
+}
+
+/// Files the entry that `X` names, of a part that isn't a shard. See [`file`].
+fn file_for_other<X: FiledName>(words: &FiledWords, seat: &mut FiledSeat, part: FiledSeat)
+    requires size { words.now.shared.table_id.words ≡ 80 }
+    requires table { seat.old.table_id ≡ words.now.shared.table_id }
+    requires part_table { part.table_id ≡ words.now.shared.table_id }
+    requires free { seat.old.me.0.locked ≡ [] }
+    requires part { (part.me.0.own ≡ []) × (part.me.0.may_begin ≡ false) × (part.me.1 ≡ []) }
+    requires other { (index : ℕ) → index < 8 → (entry_keys X.entry).part ≢ index + 1 }
+    requires on_part { HasKey (entry_keys X.entry).part part.me.0.locked }
+    requires on { HasKey X.entry.who seat.old.me.0.own × HasKey X.entry.job seat.old.me.0.own }
+    requires no_words { is_words (part_of X.entry.operation) ≡ false }
+    requires keyed { IsKeyed words.now.shared.key.first_job X.entry }
     ensures table { seat.new.table_id ≡ seat.old.table_id }
     ensures filed { seat.new.me ≡ (filed_with entry_keys X.entry seat.old.me.0 part.me.0, seat.old.me.1) }
 {
     words.shared.join_seat::<FilesEntry<X>>(seat, part);
 }
 
+/// Files the entry that `X` names, of the shard with this index, and resets the shard's idle word.
+///
+/// See [`file`].
+fn file_for_shard<X: FiledName>(
+    words: &FiledWords,
+    seat: &mut FiledSeat,
+    part: FiledSeat,
+    index: usize,
+)
+    requires size { words.now.shared.table_id.words ≡ 80 }
+    requires table { seat.old.table_id ≡ words.now.shared.table_id }
+    requires part_table { part.table_id ≡ words.now.shared.table_id }
+    requires part { (part.me.0.own ≡ []) × (part.me.0.may_begin ≡ false) × (part.me.1 ≡ []) }
+    requires index { (index < 8) × ((entry_keys X.entry).part ≡ index + 1) }
+    requires on_part { HasKey (entry_keys X.entry).part part.me.0.locked }
+    requires on { HasKey X.entry.who seat.old.me.0.own × HasKey X.entry.job seat.old.me.0.own }
+    requires no_words { is_words (part_of X.entry.operation) ≡ false }
+    requires keyed { IsKeyed words.now.shared.key.first_job X.entry }
+    ensures table { seat.new.table_id ≡ seat.old.table_id }
+    ensures filed { seat.new.me ≡ (filed_with entry_keys X.entry seat.old.me.0 part.me.0, seat.old.me.1) }
+{
+    take_part(words, seat, part);
+    words
+        .shared
+        .store::<FilesForShard<X>>(seat, IDLE + index, 0);
+}
+
+/// Takes over the track of a part's seat.
+fn take_part(words: &FiledWords, seat: &mut FiledSeat, part: FiledSeat)
+    requires size { words.now.shared.table_id.words ≡ 80 }
+    requires table { seat.old.table_id ≡ words.now.shared.table_id }
+    requires part_table { part.table_id ≡ words.now.shared.table_id }
+    requires part { (part.me.0.own ≡ []) × (part.me.0.may_begin ≡ false) × (part.me.1 ≡ []) }
+    ensures table { seat.new.table_id ≡ seat.old.table_id }
+    ensures taken { seat.new.me ≡ (with_locked seat.old.me.0 part.me.0, seat.old.me.1) }
+{
+    words.shared.join_seat::<TakesPart>(seat, part);
+}
+
+/// Writes the idle word of the shard with this index, at the seat of the shard's track.
+///
+/// Requires that the track's operations lead to a shard that is idle at each time before `until`.
+pub(crate) fn note_idle(words: &FiledWords, seat: &mut FiledSeat, index: usize, until: u64)
+    requires size { words.now.shared.table_id.words ≡ 80 }
+    requires table { seat.old.table_id ≡ words.now.shared.table_id }
+    requires index { index < 8 }
+    requires part { seat.old.me ≡ (part_view (index + 1) (entries_of seat.old.me.0.locked), []) }
+    requires idle { (now : ℕ) → now < until → LeadToIdle (shard_at (first_server words.now.shared.key.begin).shards index) (entries_of seat.old.me.0.locked) now }
+    ensures kept { (seat.new.table_id ≡ seat.old.table_id) × (seat.new.me ≡ seat.old.me) }
+{
+    words.shared.store::<NotesIdle>(seat, IDLE + index, until);
+}
+
+/// Returns the idle word of the shard with this index.
+///
+/// Before the returned time the shard is idle, after its operations in the history at this step.
+pub(crate) fn idle_until<J: ServerName>(
+    words: &FiledWords,
+    seat: &mut FiledSeat,
+    index: usize,
+) -> u64
+    requires size { words.now.shared.table_id.words ≡ 80 }
+    requires table { seat.old.table_id ≡ words.now.shared.table_id }
+    requires key { (words.now.shared.key.first_job ≡ J.first_job) × (words.now.shared.key.begin ≡ J.begin) }
+    requires index { index < 8 }
+    ensures kept { (seat.new.table_id ≡ seat.old.table_id) × (seat.new.me ≡ seat.old.me) }
+    ensures idle { (now : ℕ) → now < result → HasIdleShard J.first_job J.begin index now seat.old.me.0 }
+{
+    words.shared.load::<ReadsIdle<J>>(seat, IDLE + index)
+}
+
 /// Files the entry that `X` names, which belongs to no part.
 pub(crate) fn file_alone<X: FiledName>(words: &FiledWords, seat: &mut FiledSeat)
-    requires size { words.now.shared.table_id.words ≡ 72 }
+    requires size { words.now.shared.table_id.words ≡ 80 }
     requires table { seat.old.table_id ≡ words.now.shared.table_id }
     requires no_part { part_of X.entry.operation ≡ NoPart }
     requires on { HasKey X.entry.who seat.old.me.0.own × HasKey X.entry.job seat.old.me.0.own }
-    requires keyed { IsKeyed words.now.shared.key X.entry }
+    requires keyed { IsKeyed words.now.shared.key.first_job X.entry }
     ensures table { seat.new.table_id ≡ seat.old.table_id }
     ensures filed { seat.new.me ≡ (with_filed entry_keys X.entry seat.old.me.0, seat.old.me.1) }
 {
@@ -78,7 +186,7 @@ pub(crate) fn file_alone<X: FiledName>(words: &FiledWords, seat: &mut FiledSeat)
 
 /// Splits off the part's track that [`file`] took over, and returns it as a seat.
 pub(crate) fn return_part(words: &FiledWords, seat: &mut FiledSeat) -> FiledSeat
-    requires size { words.now.shared.table_id.words ≡ 72 }
+    requires size { words.now.shared.table_id.words ≡ 80 }
     requires table { seat.old.table_id ≡ words.now.shared.table_id }
     ensures kept { (seat.new.table_id ≡ seat.old.table_id) × (seat.new.me ≡ (without_locked seat.old.me.0, seat.old.me.1)) }
     ensures back { (result.table_id ≡ words.now.shared.table_id) × (result.me ≡ (locked_of seat.old.me.0, [])) }
@@ -88,7 +196,7 @@ pub(crate) fn return_part(words: &FiledWords, seat: &mut FiledSeat) -> FiledSeat
 
 /// Begins the next track, for a part, and returns the part's seat.
 pub(crate) fn begin_part(words: &FiledWords, seat: &mut FiledSeat) -> FiledSeat
-    requires size { words.now.shared.table_id.words ≡ 72 }
+    requires size { words.now.shared.table_id.words ≡ 80 }
     requires table { seat.old.table_id ≡ words.now.shared.table_id }
     requires may_begin { seat.old.me.0.may_begin ≡ true }
     ensures kept { (seat.new.table_id ≡ seat.old.table_id) × (seat.new.me ≡ (with_next seat.old.me.0, seat.old.me.1)) }
@@ -99,7 +207,7 @@ pub(crate) fn begin_part(words: &FiledWords, seat: &mut FiledSeat) -> FiledSeat
 
 /// Begins the next track, for a new owner, and returns that owner's seat.
 pub(crate) fn begin_tracks(words: &FiledWords, seat: &mut FiledSeat) -> FiledSeat
-    requires size { words.now.shared.table_id.words ≡ 72 }
+    requires size { words.now.shared.table_id.words ≡ 80 }
     requires table { seat.old.table_id ≡ words.now.shared.table_id }
     requires may_begin { seat.old.me.0.may_begin ≡ true }
     ensures kept { (seat.new.table_id ≡ seat.old.table_id) × (seat.new.me ≡ (with_next seat.old.me.0, seat.old.me.1)) }
@@ -110,7 +218,7 @@ pub(crate) fn begin_tracks(words: &FiledWords, seat: &mut FiledSeat) -> FiledSea
 
 /// Begins the next track, and puts it first among the owner's tracks.
 pub(crate) fn begin(words: &FiledWords, seat: &mut FiledSeat)
-    requires size { words.now.shared.table_id.words ≡ 72 }
+    requires size { words.now.shared.table_id.words ≡ 80 }
     requires table { seat.old.table_id ≡ words.now.shared.table_id }
     requires may_begin { seat.old.me.0.may_begin ≡ true }
     ensures table { seat.new.table_id ≡ seat.old.table_id }
@@ -121,9 +229,9 @@ pub(crate) fn begin(words: &FiledWords, seat: &mut FiledSeat)
 
 /// Splits off the owner's first track, a job's, and returns a seat for a message.
 pub(crate) fn split_first(words: &FiledWords, seat: &mut FiledSeat) -> FiledSeat
-    requires size { words.now.shared.table_id.words ≡ 72 }
+    requires size { words.now.shared.table_id.words ≡ 80 }
     requires table { seat.old.table_id ≡ words.now.shared.table_id }
-    requires sent { IsFirstSent words.now.shared.key seat.old.me.0.own }
+    requires sent { IsFirstSent words.now.shared.key.first_job seat.old.me.0.own }
     ensures kept { (seat.new.table_id ≡ seat.old.table_id) × (seat.new.me ≡ (without_first seat.old.me.0, seat.old.me.1)) }
     ensures first { (result.table_id ≡ words.now.shared.table_id) × (result.me ≡ (first_own seat.old.me.0, [])) }
 {
@@ -132,7 +240,7 @@ pub(crate) fn split_first(words: &FiledWords, seat: &mut FiledSeat) -> FiledSeat
 
 /// Merges another owner's tracks into the owner's.
 pub(crate) fn merge(words: &FiledWords, seat: &mut FiledSeat, other: FiledSeat)
-    requires size { words.now.shared.table_id.words ≡ 72 }
+    requires size { words.now.shared.table_id.words ≡ 80 }
     requires table { seat.old.table_id ≡ words.now.shared.table_id }
     requires other_table { other.table_id ≡ words.now.shared.table_id }
     requires other { (other.me.0.locked ≡ []) × (other.me.0.may_begin ≡ false) × (other.me.1 ≡ []) }
@@ -144,7 +252,7 @@ pub(crate) fn merge(words: &FiledWords, seat: &mut FiledSeat, other: FiledSeat)
 
 /// Makes a part's track one of the owner's tracks.
 pub(crate) fn close(words: &FiledWords, seat: &mut FiledSeat, part: FiledSeat)
-    requires size { words.now.shared.table_id.words ≡ 72 }
+    requires size { words.now.shared.table_id.words ≡ 80 }
     requires table { seat.old.table_id ≡ words.now.shared.table_id }
     requires part_table { part.table_id ≡ words.now.shared.table_id }
     requires part { (part.me.0.own ≡ []) × (part.me.0.may_begin ≡ false) × (part.me.1 ≡ []) × AreSingle part.me.0.locked }
@@ -156,44 +264,55 @@ pub(crate) fn close(words: &FiledWords, seat: &mut FiledSeat, part: FiledSeat)
 
 /// Attests that there is one history, of which the owner's tracks are subhistories.
 pub(crate) fn attest<J: ServerName>(words: &FiledWords, seat: &mut FiledSeat)
-    requires size { words.now.shared.table_id.words ≡ 72 }
+    requires size { words.now.shared.table_id.words ≡ 80 }
     requires table { seat.old.table_id ≡ words.now.shared.table_id }
-    requires key { words.now.shared.key ≡ J.first_job }
+    requires key { words.now.shared.key.first_job ≡ J.first_job }
     ensures kept { (seat.new.table_id ≡ seat.old.table_id) × (seat.new.me ≡ seat.old.me) }
     ensures one { HasServerHistory J.first_job seat.old.me.0 }
 {
     let _ = words.shared.load::<AttestsServer<J>>(seat, 0);
 }
 
+/// Returns the head word of `slot`, and files nothing.
+pub(crate) fn read_word(words: &FiledWords, seat: &mut FiledSeat, slot: usize) -> u64
+    requires size { words.now.shared.table_id.words ≡ 80 }
+    requires table { seat.old.table_id ≡ words.now.shared.table_id }
+    requires slot { slot < 64 }
+    ensures rises { known_word slot seat.old.me.0.own ≤ result }
+    ensures kept { (seat.new.table_id ≡ seat.old.table_id) × (seat.new.me ≡ seat.old.me) }
+{
+    words.shared.load::<ReadsWord>(seat, HEADS + slot)
+}
+
 /// Returns the head word of `slot`, and files the read.
 ///
 /// The filed entry has the thread and the job of the entry that `X` names.
 pub(crate) fn look<X: FiledName>(words: &FiledWords, seat: &mut FiledSeat, slot: usize) -> u64
-    requires size { words.now.shared.table_id.words ≡ 72 }
+    requires size { words.now.shared.table_id.words ≡ 80 }
     requires table { seat.old.table_id ≡ words.now.shared.table_id }
     requires slot { slot < 64 }
     requires on { HasKey X.entry.who seat.old.me.0.own × HasKey X.entry.job seat.old.me.0.own }
-    requires keyed { (9 ≤ X.entry.who) × (X.entry.who < words.now.shared.key) × (words.now.shared.key ≤ X.entry.job) }
+    requires keyed { (9 ≤ X.entry.who) × (X.entry.who < words.now.shared.key.first_job) × (words.now.shared.key.first_job ≤ X.entry.job) }
     ensures table { seat.new.table_id ≡ seat.old.table_id }
     ensures rises { known_word slot seat.old.me.0.own ≤ result }
     ensures filed { seat.new.me ≡ (with_filed entry_keys (entry_of_look X.entry slot result) seat.old.me.0, seat.old.me.1) }
 {
-    words.shared.load::<LooksAtWord<X>>(seat, PADDING + slot)
+    words.shared.load::<LooksAtWord<X>>(seat, HEADS + slot)
 }
 
 /// Raises the head word of `slot` to at least `word`, and files the raise.
 ///
 /// The filed entry has the thread and the job of the entry that `X` names.
 pub(crate) fn raise<X: FiledName>(words: &FiledWords, seat: &mut FiledSeat, slot: usize, word: u64)
-    requires size { words.now.shared.table_id.words ≡ 72 }
+    requires size { words.now.shared.table_id.words ≡ 80 }
     requires table { seat.old.table_id ≡ words.now.shared.table_id }
     requires slot { slot < 64 }
     requires on { HasKey X.entry.who seat.old.me.0.own × HasKey X.entry.job seat.old.me.0.own }
-    requires keyed { (9 ≤ X.entry.who) × (X.entry.who < words.now.shared.key) × (words.now.shared.key ≤ X.entry.job) }
+    requires keyed { (9 ≤ X.entry.who) × (X.entry.who < words.now.shared.key.first_job) × (words.now.shared.key.first_job ≤ X.entry.job) }
     ensures table { seat.new.table_id ≡ seat.old.table_id }
     ensures filed { seat.new.me ≡ (with_filed entry_keys (entry_of_raise X.entry slot word) seat.old.me.0, seat.old.me.1) }
 {
     words
         .shared
-        .fetch_max::<RaisesHead<X>>(seat, PADDING + slot, word);
+        .fetch_max::<RaisesHead<X>>(seat, HEADS + slot, word);
 }

@@ -2,21 +2,22 @@
 ghost use Rattle.std.specs.Prelude.{◌≡◌};
 
 use crate::book::ServerName;
+use crate::book_begin::BookBegin;
 use crate::entry::FiledEntry;
 use atomic_table::{Join, Play, TableRule};
 use fc_book::view::BookView;
 use std::marker::{Brand, PhantomData};
 
-/// The rule of a server's book, by the key of its first job's track.
+/// The rule of a server's book. Its key says what the book begins with.
 pub struct ServerRule;
 
-impl TableRule<u8, BookView<FiledEntry>, u64> for ServerRule {
+impl TableRule<u8, BookView<FiledEntry>, BookBegin> for ServerRule {
     ghost use Rattle.fc_book.specs.Tracks.{first_view};
     ghost use Rattle.fc_filed.specs.Books.{HaveServerHistory};
 
-    ghost holds = { λ first_job s. HaveServerHistory first_job s.words s.views };
+    ghost holds = { λ start s. HaveServerHistory start s.words s.views };
 
-    ghost first = { λ first_job. first_view };
+    ghost first = { λ start. first_view };
 }
 
 /// The name of an entry that is filed.
@@ -48,6 +49,42 @@ impl<X: FiledName> Join<BookView<FiledEntry>> for FilesEntry<X> {
     ghost spent = { no_tracks };
 }
 
+/// Files an entry of a shard whose track the owner has taken over, and resets the idle word.
+///
+/// The move stores 0 in the shard's idle word: the call may have changed the shard.
+pub(crate) struct FilesForShard<X: FiledName> {
+    of: PhantomData<X>,
+}
+
+impl<X: FiledName> Play<u8, BookView<FiledEntry>> for FilesForShard<X> {
+    ghost use Rattle.std.specs.Prelude.{◌≡◌};
+    ghost use Rattle.fc_book.specs.Tracks.{filed_on_all};
+    ghost use Rattle.fc_filed.specs.Entries.{entry_keys};
+
+    ghost then = { λ s v found w. w ≡ (filed_on_all entry_keys X.entry v.0, v.1) };
+}
+
+/// Writes an idle word, and leaves the view unchanged.
+pub(crate) struct NotesIdle;
+
+impl Play<u8, BookView<FiledEntry>> for NotesIdle {
+    ghost use Rattle.std.specs.Prelude.{◌≡◌};
+
+    ghost then = { λ s v found w. w ≡ v };
+}
+
+/// Reads an idle word, and shows that the shard is idle before that time.
+pub(crate) struct ReadsIdle<J: ServerName> {
+    of: PhantomData<J>,
+}
+
+impl<J: ServerName> Play<u8, BookView<FiledEntry>> for ReadsIdle<J> {
+    ghost use Rattle.std.specs.Prelude.{◌≡◌, ◌<◌, ◌-◌, ℕ};
+    ghost use Rattle.fc_filed.specs.Books.{HasIdleShard};
+
+    ghost then = { λ s v found w. (w ≡ v) × ((now : ℕ) → now < found → HasIdleShard J.first_job J.begin (s.word - 8) now v.0) };
+}
+
 /// Files an entry that belongs to no part.
 ///
 /// The move loads a word of the padding, which is never written.
@@ -75,6 +112,16 @@ impl<J: ServerName> Play<u8, BookView<FiledEntry>> for AttestsServer<J> {
     ghost then = { λ s v found w. (w ≡ v) × HasServerHistory J.first_job v.0 };
 }
 
+/// Reads a head word, and files nothing.
+pub(crate) struct ReadsWord;
+
+impl Play<u8, BookView<FiledEntry>> for ReadsWord {
+    ghost use Rattle.std.specs.Prelude.{◌≡◌, ◌≤◌, ◌-◌};
+    ghost use Rattle.fc_filed.specs.Threads.{known_word};
+
+    ghost then = { λ s v found w. (known_word (s.word - 16) v.0.own ≤ found) × (w ≡ v) };
+}
+
 /// Reads a head word, and files the read in the same step.
 pub(crate) struct LooksAtWord<X: FiledName> {
     of: PhantomData<X>,
@@ -86,8 +133,8 @@ impl<X: FiledName> Play<u8, BookView<FiledEntry>> for LooksAtWord<X> {
     ghost use Rattle.fc_filed.specs.Entries.{entry_keys};
     ghost use Rattle.fc_filed.specs.Threads.{entry_of_look, known_word};
 
-    ghost then = { λ s v found w. (known_word (s.word - 8) v.0.own ≤ found)
-        × (w ≡ (with_filed entry_keys (entry_of_look X.entry (s.word - 8) found) v.0, v.1)) };
+    ghost then = { λ s v found w. (known_word (s.word - 16) v.0.own ≤ found)
+        × (w ≡ (with_filed entry_keys (entry_of_look X.entry (s.word - 16) found) v.0, v.1)) };
 }
 
 /// Raises a head word, and files the raise in the same step.
@@ -101,5 +148,5 @@ impl<X: FiledName> Play<u8, BookView<FiledEntry>> for RaisesHead<X> {
     ghost use Rattle.fc_filed.specs.Entries.{entry_keys};
     ghost use Rattle.fc_filed.specs.Threads.{entry_of_raise};
 
-    ghost then = { λ s v found w. w ≡ (with_filed entry_keys (entry_of_raise X.entry (s.word - 8) s.first) v.0, v.1) };
+    ghost then = { λ s v found w. w ≡ (with_filed entry_keys (entry_of_raise X.entry (s.word - 16) s.first) v.0, v.1) };
 }

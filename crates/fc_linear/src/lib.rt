@@ -18,10 +18,10 @@
 //!   It isn't a call of a part of the server. An install, or a change that was made, can't fail to
 //!   be saved.
 //!
-//! No contract guarantees yet that a server's threads make such a log. The book of
-//! [fc_filed](../../fc_filed/src/lib.rt) provides one order of all filed calls, which is right for
-//! each part. That it is right for each job isn't proved: each job needs a right track of its own
-//! (`right_tracks_make_a_legal_order` of `fc_workers`).
+//! A server's threads make such a log. The book of [fc_filed](../../fc_filed/src/lib.rt) provides
+//! one order of all filed calls, which is right for each part. The logs and messages of
+//! `fc_workers` keep each job's track right (`right_tracks_make_a_legal_order`). So `run_pool` of
+//! `fc_service` guarantees that the calls of a pool are one legal history.
 //!
 //! By the contracts of `laws`.
 #![tactic(auto)]

@@ -1,7 +1,7 @@
 use Rattle.std.proofs.Common.{ℕ, refl, subst, arith}
 use Rattle.atomic_table.specs.Table.{keeps}
 use Rattle.fc_filed.specs.Books.{HasServerHistory}
-use Rattle.fc_filed.proofs.Rule.{held_looks, seen_by}
+use Rattle.fc_filed.proofs.Rule.{held_reads, seen_by}
 use Rattle.fc_filed.proofs.steps.attest.Goals as goal
 
 pub load-requires : goal.load-requires
@@ -10,5 +10,5 @@ load-requires g c =
     let key = c.args.words.now.shared.key in (
       c.requires.table,
       (let s = c.requires.size in omega arith),
-      λ s h n at fits. (v, keeps, tt, held_looks key s.words s.views _ v h at, (refl, subst (λ (k : ℕ). HasServerHistory k v) c.requires.key (seen_by key s.words s.views _ v h at))),
+      λ s h n at fits. (v, keeps, tt, held_reads key s.words s.views _ v h at 0, (refl, subst (λ (k : ℕ). HasServerHistory k v) c.requires.key (seen_by key s.words s.views _ v h at))),
     )

@@ -4,7 +4,7 @@ use Rattle.atomic_table.specs.Table.{keeps}
 use Rattle.fc_book.specs.Tracks.{with_filed}
 use Rattle.fc_filed.specs.Entries.{entry_keys}
 use Rattle.fc_filed.specs.Threads.{entry_of_look, known_word}
-use Rattle.fc_filed.proofs.Rule.{after_padding, held_looks_at, rises_at}
+use Rattle.fc_filed.proofs.Rule.{after_idle_words, held_looks_at, rises_at}
 use Rattle.fc_filed.proofs.steps.look.Goals as goal
 
 pub load-requires : goal.load-requires
@@ -15,14 +15,14 @@ load-requires g c =
       c.requires.table,
       (let s = c.requires.size in let e = c.requires.slot in let w = ap (λ t. t.words) c.requires.table in omega arith),
       λ s h n at fits. (
-        with_filed entry_keys (entry_of_look g.X.FiledName.entry slot (slice_index s.words (8 + slot))) v,
+        with_filed entry_keys (entry_of_look g.X.FiledName.entry slot (slice_index s.words (16 + slot))) v,
         keeps,
         tt,
         held_looks_at c.args.words.now.shared.key s.words s.views _ v h at g.X.FiledName.entry slot on.0 on.1 c.requires.keyed,
         (
-          subst (λ (k : ℕ). known_word k v.own ≤ slice_index s.words (8 + slot)) (after_padding slot)
+          subst (λ (k : ℕ). known_word k v.own ≤ slice_index s.words (16 + slot)) (after_idle_words slot)
               (rises_at c.args.words.now.shared.key s.words s.views _ v h at g.X.FiledName.entry slot on.0 on.1 c.requires.keyed c.requires.slot),
-          ap (λ (n : ℕ). (with_filed entry_keys (entry_of_look g.X.FiledName.entry n (slice_index s.words (8 + slot))) v, c.args.seat.now.me.1)) (after_padding slot),
+          ap (λ (n : ℕ). (with_filed entry_keys (entry_of_look g.X.FiledName.entry n (slice_index s.words (16 + slot))) v, c.args.seat.now.me.1)) (after_idle_words slot),
         ),
       ),
     )

@@ -3,7 +3,7 @@ use Rattle.atomic_table.specs.Table.{keeps}
 use Rattle.fc_book.specs.Tracks.{with_filed}
 use Rattle.fc_filed.specs.Entries.{entry_keys}
 use Rattle.fc_filed.specs.Threads.{entry_of_raise}
-use Rattle.fc_filed.proofs.Rule.{after_padding, held_raises}
+use Rattle.fc_filed.proofs.Rule.{after_idle_words, held_raises}
 use Rattle.fc_filed.proofs.steps.raise.Goals as goal
 
 pub fetch_max-requires : goal.fetch_max-requires
@@ -18,6 +18,6 @@ fetch_max-requires g c =
         keeps,
         tt,
         held_raises c.args.words.now.shared.key s.words s.views _ v h at g.X.FiledName.entry slot on.0 on.1 c.requires.keyed c.args.word,
-        ap (λ (n : ℕ). (with_filed entry_keys (entry_of_raise g.X.FiledName.entry n c.args.word) v, c.args.seat.now.me.1)) (after_padding slot),
+        ap (λ (n : ℕ). (with_filed entry_keys (entry_of_raise g.X.FiledName.entry n c.args.word) v, c.args.seat.now.me.1)) (after_idle_words slot),
       ),
     )
