@@ -4,6 +4,7 @@ ghost use Rattle.fc_record.specs.Recording.{IsRecordedCall, recorded_files};
 use crate::recorder::{Recorder, record_answer};
 use coap_msg::{Emission, Endpoint};
 use fc_core::{Answer, FrontGauges, Handled};
+use fc_filed::ServerBook;
 use fc_help::Readings;
 use fc_machine::Outcome;
 use fc_observe::{Ticked, Turn};
@@ -39,6 +40,10 @@ impl<'a, B: Bench, C: Recorder> Bench for RecordedBench<'a, B, C> {
     ghost logged = { IsRecordedCall B.logged C.recorded };
 
     ghost files = { recorded_files B.logged C.recorded B.files };
+
+    fn book(&self) -> &ServerBook<B::Book> {
+        self.bench.book()
+    }
 
     fn handle<R: Wait>(
         &self,
@@ -88,6 +93,19 @@ impl<'a, B: Bench, C: Recorder> Bench for RecordedBench<'a, B, C> {
         self.bench.take(rt, job, readings, found, tallies, log)
     }
 
+    fn take_if_cheap<R: Wait>(
+        &self,
+        rt: &R,
+        least: u32,
+        job: &Job,
+        readings: &Readings,
+        found: &mut SlotSnapshot,
+        log: &mut TrackLog<B::Book>,
+    ) -> Option<Taken> {
+        self.bench
+            .take_if_cheap(rt, least, job, readings, found, log)
+    }
+
     fn signal<R: Wait>(
         &self,
         rt: &R,
@@ -118,6 +136,10 @@ impl<'a, B: Bench, C: Recorder> Bench for RecordedBench<'a, B, C> {
         log: &mut TrackLog<B::Book>,
     ) -> bool {
         self.bench.advance_if_idle(rt, shard, now, log)
+    }
+
+    fn is_known_idle(&self, shard: u8, now: u64, log: &mut TrackLog<B::Book>) -> bool {
+        self.bench.is_known_idle(shard, now, log)
     }
 
     fn idle_until<R: Wait>(&self, rt: &R, shard: u8) -> u64 {
@@ -207,8 +229,16 @@ impl<'a, B: Bench, C: Recorder> Bench for RecordedBench<'a, B, C> {
         self.bench.receipt(rt, job, log)
     }
 
+    fn read_receipt<R: Wait>(&self, rt: &R, job: &Job) -> Option<Receipt> {
+        self.bench.read_receipt(rt, job)
+    }
+
     fn peek(&self, slot: SlotNumber, log: &mut TrackLog<B::Book>) -> u64 {
         self.bench.peek(slot, log)
+    }
+
+    fn read_word(&self, slot: SlotNumber, log: &mut TrackLog<B::Book>) -> u64 {
+        self.bench.read_word(slot, log)
     }
 
     fn raise(&self, job: &Job, word: u64, log: &mut TrackLog<B::Book>) {

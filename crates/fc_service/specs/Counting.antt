@@ -18,18 +18,18 @@ counted None r = r
 counted (Some true) r = record r { sent = saturated (r.sent + 1) }
 counted (Some false) r = record r { failed = saturated (r.failed + 1) }
 
-abbrev pub sent_by : {T L : Type 0} → Share T L → ℕ
+abbrev pub sent_by : {T L M : Type 0} → Share T L M → ℕ
 sent_by share = share.sent
 
-abbrev pub failed_by : {T L : Type 0} → Share T L → ℕ
+abbrev pub failed_by : {T L M : Type 0} → Share T L M → ℕ
 failed_by share = share.failed
 
 -- the number of replies that a share's worker sent, and the number that it failed to send.
-abbrev pub replies_by : {T L : Type 0} → Share T L → Replies
+abbrev pub replies_by : {T L M : Type 0} → Share T L M → Replies
 replies_by share = record { sent = sent_by share; failed = failed_by share }
 
 -- the sums of these counts for the workers of these shares; each sum stops at 2^64 - 1.
-abbrev pub replies_of : {T L : Type 0} → List (Share T L) → Replies
+abbrev pub replies_of : {T L M : Type 0} → List (Share T L M) → Replies
 replies_of shares = record { sent = saturated (sum_by sent_by shares); failed = saturated (sum_by failed_by shares) }
 
 -- the text of counts of replies, such as `sent 2 failed 0`.

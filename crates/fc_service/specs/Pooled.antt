@@ -1,5 +1,5 @@
 -- Effects of a pool's dispatcher and of its driver.
-use Rattle.std.specs.Prelude.{◌≡◌, ◌⊎◌, ⊤, ℕ, Bool, List, length, slice_index, None, Some, true, false}
+use Rattle.std.specs.Prelude.{◌≡◌, ◌⊎◌, ◌+◌, ⊤, ℕ, Bool, List, length, slice_index, None, Some, true, false}
 use Rattle.std.specs.List.{All}
 use Rattle.std.specs.Borrow.{Bor}
 use Rattle.coap_msg.specs.declared.types.Emission.{Emission}
@@ -9,17 +9,19 @@ use Rattle.fc_observe.specs.declared.observers.Ticked.{Ticked}
 use Rattle.fc_server.specs.Notified.{Notified, is_given, notification_in}
 use Rattle.fc_workers.specs.Answers.{IsSomeIdle, IsSomeTick}
 use Rattle.fc_workers.specs.Asked.{IsLoggedCall, IsServerCall}
-use Rattle.fc_calls.specs.Logged.{AdvancesFront, AdvancesIdle, AdvancesShard, LoggedCall}
+use Rattle.fc_calls.specs.Logged.{AdvancesFront, AdvancesShard, LoggedCall}
 use Rattle.fc_workers.specs.Called.{BenchCall, CountsObservers, LooksAhead, ReadsGauges, WorkerView, WireCall, worker_view}
 use Rattle.fc_workers.specs.Counts.{Tallies}
 use Rattle.fc_workers.specs.Fronts.{Beginning}
-use Rattle.fc_workers.specs.Dispatch.{HasCalled, IsTakenIn, IsTimerFired, IsTurnAsked}
+use Rattle.fc_workers.specs.Dispatch.{HasCalled, IsAdvancedOrSkipped, IsTakenIn, IsTimerFired, IsTurnAsked}
 use Rattle.fc_workers.specs.Shares.{AreSharesOf, new_share}
 use Rattle.fc_jobs.specs.Ends.{Channel, nothing_got, nothing_sent}
 use Rattle.fc_workers.specs.declared.call_log.CallLog.{CallLog}
 use Rattle.fc_workers.specs.declared.closed.ClosedServer.{ClosedServer}
 use Rattle.fc_workers.specs.Logs.{TrackedLog}
-use Rattle.fc_workers.specs.OneOrder.{HaveOneOrder, IsNewLog, logs_of}
+use Rattle.fc_workers.specs.LegalOrder.{HaveLegalOrder}
+use Rattle.fc_workers.specs.Messages.{TrackedJob}
+use Rattle.fc_workers.specs.OneOrder.{IsNewLog, logs_of}
 use Rattle.fc_workers.specs.Workers.{Dispatched, WorkerSeed, Share}
 use Rattle.fc_workers.specs.declared.dispatcher.Offload.{Offload}
 use Rattle.fc_workers.specs.declared.dispatcher.Offload.TheVariants.{Never}
@@ -44,7 +46,7 @@ offload_where false offload = Never
 
 -- a dispatcher with this policy that has sent nothing by this channel, and done nothing, with a new
 -- log.
-pub record IsNew {T : Type 0} (channel : Channel) (offload : Offload) (d : PooledIngress T) : Type 0 where
+pub record IsNew {T : Type 0} (channel : Channel TrackedJob) (offload : Offload) (d : PooledIngress T) : Type 0 where
   pub offload_is : d.offload ≡ offload
   pub tallies : T
   pub log : TrackedLog
@@ -69,9 +71,9 @@ module _ {T : Type 0} (s : WorkerView T) where
   ResendsPooled shard now old new ticked =
       IsSomeTick now ticked × s.logged (AdvancesShard shard now ticked) old.done.share.log new.done.share.log × HasCalled old.done new.done × (new.offload ≡ old.offload)
 
+  -- an idle shard was advanced, or it is known to be idle and wasn't called.
   abbrev pub PassesOverPooled : ℕ → ℕ → PooledIngress T → PooledIngress T → Type 0
-  PassesOverPooled shard now old new =
-      IsSomeIdle now true × s.logged (AdvancesIdle shard now) old.done.share.log new.done.share.log × HasCalled old.done new.done × (new.offload ≡ old.offload)
+  PassesOverPooled shard now old new = IsSomeIdle now true × IsAdvancedOrSkipped s shard now old.done new.done × (new.offload ≡ old.offload)
 
   abbrev pub NotifiesPooled : ℕ → ℕ → PooledIngress T → PooledIngress T → Notified → Type 0
   NotifiesPooled shard now old new told =
@@ -98,15 +100,15 @@ module _ {T : Type 0} (s : WorkerView T) where
 
   -- these are the shares of as many workers. They got exactly the jobs of this channel that they
   -- ran and ended, each with a new log of its own.
-  pub record AreSharesAt (channel : Channel) (shares : List (Share T)) : Type 0 where
+  pub record AreSharesAt (first_job : ℕ) (channel : Channel TrackedJob) (shares : List (Share T)) : Type 0 where
     pub seats : List (WorkerSeed T)
     pub new : All (λ (seat : WorkerSeed T). seat.got ≡ nothing_got channel) seats
     pub new_logs : All (λ (seat : WorkerSeed T). IsNewLog seat.log) seats
-    pub worked : AreSharesOf s seats shares
+    pub worked : AreSharesOf first_job s seats shares
 
   -- a driver fed a new dispatcher of this channel and policy, and returned this. The dispatcher has
   -- this share in the end.
-  pub record DrivesTo {F X : Type 0} (Drives : IngressCalls (PooledIngress T) → F → PooledIngress T → PooledIngress T → X → Type 0) (channel : Channel) (offload : Offload) (driver : F) (given : X) (own : Share T) : Type 0 where
+  pub record DrivesTo {F X : Type 0} (Drives : IngressCalls (PooledIngress T) → F → PooledIngress T → PooledIngress T → X → Type 0) (channel : Channel TrackedJob) (offload : Offload) (driver : F) (given : X) (own : Share T) : Type 0 where
     pub first : PooledIngress T
     pub last : PooledIngress T
     pub new : IsNew channel offload first
@@ -115,22 +117,21 @@ module _ {T : Type 0} (s : WorkerView T) where
 
   -- the driver fed the dispatcher in this way, and the workers of its channel have these shares in
   -- the end.
-  pub record IsFed {F X : Type 0} (Drives : IngressCalls (PooledIngress T) → F → PooledIngress T → PooledIngress T → X → Type 0) (offload : Offload) (driver : F) (given : X) (own : Share T) (shares : List (Share T)) : Type 0 where
-    pub channel : Channel
+  pub record IsFed {F X : Type 0} (first_job : ℕ) (Drives : IngressCalls (PooledIngress T) → F → PooledIngress T → PooledIngress T → X → Type 0) (offload : Offload) (driver : F) (given : X) (own : Share T) (shares : List (Share T)) : Type 0 where
+    pub channel : Channel TrackedJob
     pub fed : DrivesTo Drives channel offload driver given own
-    pub shares_are : AreSharesAt channel shares
+    pub shares_are : AreSharesAt first_job channel shares
 
   -- the driver fed the dispatcher in this way, with this number of workers. The replies are those
   -- of the dispatcher's own jobs and of the workers'. The calls that the workers and the dispatcher
-  -- filed have one order. The front's, and each shard's, led from the first one of the server to
-  -- the closed server's. The looks at head words and the raises led the words from 64 zeros.
+  -- filed have one order, which is a legal history. It led from the new server to the closed one.
   pub record IsFedBeside {F X : Type 0} (Drives : IngressCalls (PooledIngress T) → F → PooledIngress T → PooledIngress T → X → Type 0) (begin : Begin) (offload : Offload) (workers : ℕ) (driver : F) (given : X) (replies : Replies) (closed : ClosedServer) : Type 0 where
     pub own : Share T
     pub shares : List (Share T)
-    pub fed : IsFed Drives offload driver given own shares
+    pub fed : IsFed (9 + (workers + 1)) Drives offload driver given own shares
     pub count : length shares ≡ workers
     pub counted : replies ≡ both_replies (replies_of shares) (replies_by own)
-    pub order : HaveOneOrder begin (logs_of shares own) closed
+    pub order : HaveLegalOrder begin (logs_of shares own) closed
 
 -- a worker context whose jobs are never delayed.
 abbrev pub open_view : {T : Type 0} → (T → ℕ → ℕ) → (T → ℕ) → (BenchCall → Type 0) → (LoggedCall → TrackedLog → TrackedLog → Type 0)

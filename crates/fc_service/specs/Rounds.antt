@@ -1,5 +1,5 @@
 -- Rounds of a server that receives datagrams, and a server on one thread.
-use Rattle.std.specs.Prelude.{◌≡◌, ◌-◌, ◌<◌, ◌⊎◌, ⊤, ℕ, max, min, nat_lt, if◌then◌else◌, List, [], ◌∷◌, ◌++◌, length, map, Bool, false, true, Option, Some, None, is_none}
+use Rattle.std.specs.Prelude.{◌≡◌, ◌+◌, ◌-◌, ◌<◌, ◌⊎◌, ⊤, ℕ, max, min, nat_lt, if◌then◌else◌, List, [], ◌∷◌, ◌++◌, length, map, Bool, false, true, Option, Some, None, is_none}
 use Rattle.std.specs.Option.{option_to_list}
 use Rattle.coap_msg.specs.declared.types.Emission.{Emission}
 use Rattle.fc_workers.specs.Counts.{Tallies}
@@ -9,7 +9,9 @@ use Rattle.fc_jobs.specs.Ends.{Channel}
 use Rattle.fc_workers.specs.declared.call_log.CallLog.{CallLog}
 use Rattle.fc_workers.specs.Called.{WorkerView}
 use Rattle.fc_workers.specs.Fronts.{Beginning, beginning}
-use Rattle.fc_workers.specs.OneOrder.{HaveOneOrder, logs_of}
+use Rattle.fc_workers.specs.LegalOrder.{HaveLegalOrder}
+use Rattle.fc_workers.specs.Messages.{TrackedJob}
+use Rattle.fc_workers.specs.OneOrder.{logs_of}
 use Rattle.fc_workers.specs.declared.closed.ClosedServer.{ClosedServer}
 use Rattle.fc_server.specs.Ingresses.{IngressCalls, never}
 use Rattle.fc_server.specs.Serving.{Serves}
@@ -253,10 +255,10 @@ served_view sensors e Recorded begin = locked_view begin (AreReadAt e.time senso
 -- this number of datagrams was received, each in a round of one dispatcher, which began new. Runs
 -- of 6,000 instructions and more may be sent to the workers, or no job if no worker was started.
 -- The replies are those of the rounds, of the jobs of this number of workers, and of the
--- dispatcher's jobs. The calls that the workers and the dispatcher filed have one order. The
--- front's, and each shard's, led from the first one of the server to a closed server's.
+-- dispatcher's jobs. The calls that the workers and the dispatcher filed have one order, which is a
+-- legal history. It led from the new server to a closed one.
 pub record HasServedPooled (s : WorkerView Tallies) (timers : List Timer) (every : Option ℕ) (Reported : Report → CallLog → CallLog → Type 0) (e : RoundCalls) (workers limit : ℕ) (begin : Begin) (before after : Option (List Receive)) (replies : Replies) : Type 0 where
-  pub channel : Channel
+  pub channel : Channel TrackedJob
   pub first : PooledIngress Tallies
   pub last : PooledIngress Tallies
   pub has_workers : Bool
@@ -264,11 +266,11 @@ pub record HasServedPooled (s : WorkerView Tallies) (timers : List Timer) (every
   pub at_once : Replies
   pub run : HasReceivedWith timers every Reported (λ now old new. new ≡ old) (pooled_calls s) e limit before after first last at_once
   pub shares : List (Share Tallies)
-  pub worked : AreSharesAt s channel shares
+  pub worked : AreSharesAt s (9 + (workers + 1)) channel shares
   pub count : length shares ≡ workers
   pub all : replies ≡ both_replies at_once (both_replies (replies_of shares) (replies_by last.done.share))
   pub closed : ClosedServer
-  pub order : HaveOneOrder begin (logs_of shares last.done.share) closed
+  pub order : HaveLegalOrder begin (logs_of shares last.done.share) closed
 
 -- ---- a server with this number of workers: one is the receiving thread. Its slots begin at the
 -- serial of its start

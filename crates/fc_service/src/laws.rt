@@ -34,7 +34,8 @@ ghost use Rattle.fc_service.specs.Logs.{ArePeriods, IsReportText};
 ghost use Rattle.fc_service.specs.Reporting.{AreGaugesOf, Reporting, ReportsIfDue, reported_calls, reporting_from};
 ghost use Rattle.fc_workers.specs.Counts.{Tallies};
 ghost use Rattle.fc_workers.specs.Fronts.{Beginning};
-ghost use Rattle.fc_workers.specs.OneOrder.{HaveOneOrder, logs_of};
+ghost use Rattle.fc_workers.specs.LegalOrder.{HaveLegalOrder};
+ghost use Rattle.fc_workers.specs.OneOrder.{logs_of};
 ghost use Rattle.fc_workers.specs.Workers.{Share};
 ghost use Rattle.fc_workers.specs.declared.call_log.CallLog.{CallLog};
 ghost use Rattle.fc_service.specs.Pooled.{PooledIngress, pooled_calls};
@@ -382,7 +383,8 @@ pub fn replies_of_all_threads_are_counted<
         → w.last.done.share.sent ≡ 4 → w.last.done.share.failed ≡ 16 → replies ≡ record { sent = 7; failed = 24 } }
 {}
 
-/// The one order of a server with workers has its dispatcher's calls, with timers and reports too.
+/// The one history of a server with workers has its dispatcher's calls, with timers and reports
+/// too.
 ///
 /// The dispatcher's log is the one that the last round left. `reported` is of a server with
 /// reports, `timed` of one with timers, and `both` of one with both.
@@ -396,13 +398,13 @@ pub fn the_order_has_the_dispatchers_calls<
 >()
     ensures reported { (first : Beginning) (every workers limit : ℕ) (begin : Begin) (before after : Option (List Receive)) (replies : Replies)
         → (w : HasServedPooled (served_view Z.are_sensed (round_calls S.received M.is_time K.went) C.recorded first) [] (Some every) Q.reported (round_calls S.received M.is_time K.went) workers limit begin before after replies)
-        → HaveOneOrder begin (logs_of w.shares w.run.reporting.ingress.done.share) w.closed }
+        → HaveLegalOrder begin (logs_of w.shares w.run.reporting.ingress.done.share) w.closed }
     ensures timed { (first : Beginning) (t : Timer) (ts : List Timer) (workers limit : ℕ) (begin : Begin) (before after : Option (List Receive)) (replies : Replies)
         → (w : HasServedPooled (served_view Z.are_sensed (round_calls S.received M.is_time K.went) C.recorded first) (t ∷ ts) None Q.reported (round_calls S.received M.is_time K.went) workers limit begin before after replies)
-        → HaveOneOrder begin (logs_of w.shares w.run.firing.ingress.done.share) w.closed }
+        → HaveLegalOrder begin (logs_of w.shares w.run.firing.ingress.done.share) w.closed }
     ensures both { (first : Beginning) (t : Timer) (ts : List Timer) (every workers limit : ℕ) (begin : Begin) (before after : Option (List Receive)) (replies : Replies)
         → (w : HasServedPooled (served_view Z.are_sensed (round_calls S.received M.is_time K.went) C.recorded first) (t ∷ ts) (Some every) Q.reported (round_calls S.received M.is_time K.went) workers limit begin before after replies)
-        → HaveOneOrder begin (logs_of w.shares w.run.run.reporting.ingress.ingress.done.share) w.closed }
+        → HaveLegalOrder begin (logs_of w.shares w.run.run.reporting.ingress.ingress.done.share) w.closed }
 {}
 
 /// The gauges of a server on one thread are its own.

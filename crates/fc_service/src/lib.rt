@@ -80,18 +80,14 @@
 //!   dispatcher is new: it has sent nothing, and its log is new. It sends runs of 6,000
 //!   instructions and more to the workers, if it sends any.
 //! - **Shares**: the contract names one share for each worker, of some handles at the dispatcher's
-//!   channel (`AreSharesAt`). It doesn't say that they are those of the started threads. The
-//!   contract doesn't say that all calls use the same shards, nor that a sent job is received. For
-//!   a dispatcher over any backend, `fc_workers` shows that it calls its own backend. A worker's
-//!   emission is passed to the sink once, by the worker's own log (`Wire::called`). The contract
-//!   doesn't say in which order several threads pass theirs.
-//! - **One order**: the calls of the front, of the eight shards and of the head words that the
-//!   workers and the dispatcher filed have one order, with each thread's calls in its own order.
-//!   The front's lead from the server's first front to its last, and each shard's from its first
-//!   shard to its last. The looks and the raises lead the head words from 64 zeros (`run_pool`, by
-//!   `HaveOneOrder`). `serve_at` says so of its dispatcher and of *some* shares of its workers, to
-//!   *some* closed server, and so does `play_by_workers`. With reports and timers too, the
-//!   dispatcher's log is the one that its last round left (`laws`).
+//!   channel (`AreSharesAt`). It doesn't say that they are those of the started threads, nor that a
+//!   sent job is received. A worker's emission is passed to the sink once, by the worker's own log
+//!   (`Wire::called`). The contract doesn't say in which order several threads pass theirs.
+//! - **One history with workers**: the calls that the dispatcher and these shares' workers filed
+//!   are one legal history, with each thread's calls in its own order. It leads from the new server
+//!   to the closed one (`run_pool`, by `HaveLegalOrder`). `serve_at` and `play_by_workers` say so
+//!   too, of *some* closed server. With reports and timers too, the dispatcher's log is the one
+//!   that its last round left (`laws`).
 //! - **A pool** returns at its end the front and eight shards. For each shard it also returns the
 //!   serial that its slots began with, and the number of their changes. The serials of each shard
 //!   have risen by exactly these numbers, which are reported up to 2^64 - 1. The filed

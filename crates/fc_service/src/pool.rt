@@ -13,14 +13,15 @@ ghost use Rattle.fc_service.specs.Pooled.{DrivesTo, IsFed, IsFedBeside, offload_
 ghost use Rattle.fc_workers.specs.Called.{worker_view};
 ghost use Rattle.fc_workers.specs.Closing.{HasCountedAll};
 ghost use Rattle.fc_workers.specs.Naming.{AreNamed};
-ghost use Rattle.fc_workers.specs.Shares.{AreNewSeats};
-ghost use Rattle.fc_workers.specs.OneOrder.{HaveOneOrder, IsNewLog, logs_of};
+ghost use Rattle.fc_workers.specs.LegalOrder.{HaveLegalOrder};
+ghost use Rattle.fc_workers.specs.Messages.{first_brought};
+ghost use Rattle.fc_workers.specs.OneOrder.{IsNewLog, logs_of};
+ghost use Rattle.fc_workers.specs.Producing.{HasRightOrder, IsRightWorker};
 
 use crate::replies::Replies;
 use coap_msg::{Emission, Endpoint};
 use fc_core::{FrontGauges, Handled};
-use fc_filed::{NewServerBook, ServerName};
-use fc_jobs::{Jobs, Sent};
+use fc_filed::NewServerBook;
 use fc_observe::Ticked;
 use fc_record::{RecordedBench, Recorder};
 use fc_registry::{PLACES, SlotNumber};
@@ -28,9 +29,9 @@ use fc_server::Begin;
 pub use fc_server::Ingress;
 use fc_server::engine::{FireOutcome, NotifyOutcome};
 use fc_workers::{
-    Bench, Blanks, Books, CallLog, ClosedServer, Context, Device, Dispatcher, Gate, Locked,
-    Offload, ServerOf, Share, Tallies, TimeSource, TrackLog, Unassigned, Wire, WorkerSeed,
-    drive_workers, make_seats,
+    Bench, Blanks, Books, CallLog, ClosedServer, Context, Device, Dispatcher, Gate, JobKeys,
+    JobMessage, Locked, Offload, ServerOf, Share, ShareOf, Tallies, TimeSource, TrackLog,
+    Unassigned, Wire, drive_workers, make_seats,
 };
 use std::alloc::{AllocError, Global};
 use std::io::Write;
@@ -88,8 +89,9 @@ impl<'a, 'b, R: Wait, B: Bench, G: Gate, W: Wire, M: TimeSource> PooledIngress<
     M,
 > {
     // Closes the dispatcher, and returns the statistics of the jobs that it ran itself.
-    fn close(self) -> Share<B::Tallies, TrackLog<B::Book>>
-        ensures { result ≡ self.entry.done.share }
+    fn close(self) -> ShareOf<B::Tallies, B::Book>
+        ensures share { result ≡ self.entry.done.share }
+        ensures order { HasRightOrder B.Book.first_job result.log }
     {
         let PooledIngress { dispatcher, .. } = self;
         dispatcher.close()
@@ -207,17 +209,21 @@ struct Begun<'a, B: Books, D: Device> {
     unassigned: Unassigned<B>,
     tallies: Vec<Tallies<B>>,
     logs: Vec<TrackLog<ServerOf<B>>>,
+    keys: JobKeys<ServerOf<B>>,
 }
 
 // The driver's result, whether workers were started, and the statistics of the driver's thread and
 // of the workers.
 #[derive(Drop)]
-struct Ended<X: Drop, T: Drop, L: Drop> {
+struct Ended<X: Drop, T: Drop, L: Drop, M: Drop> {
     given: X,
     has_workers: bool,
-    own: Share<T, L>,
-    shares: Vec<Share<T, L>>,
+    own: Share<T, L, M>,
+    shares: Vec<Share<T, L, M>>,
 }
+
+// The same, if the calls are filed in the book with the name `J`.
+type EndedOf<X, T, J> = Ended<X, T, TrackLog<J>, JobMessage<J>>;
 
 /// The parts of a pool.
 ///
@@ -251,9 +257,9 @@ impl Gate for Open {
 ///
 /// Each worker runs on its own thread, and the driver on the calling thread. Then the server is
 /// closed: the serials of each shard have risen by exactly the counted changes. The filed calls of
-/// the workers and of the driver's dispatcher have one order. It leads from the new server to the
-/// closed one (`HaveOneOrder`). If no thread can be created for a worker, the driver's thread runs
-/// all jobs, and this is written to `err`.
+/// the driver's dispatcher and of some shares of the workers are one legal history. It leads from
+/// the new server to the closed one (`HaveLegalOrder`). If no thread can be created for a worker,
+/// the driver's thread runs all jobs, and this is written to `err`.
 ///
 /// # Errors
 /// Returns `AllocError` if memory for the server, the workers or their statistics can't be
@@ -280,7 +286,7 @@ pub fn run_pool<
         IfOk result (λ fed. IsFedBeside worker_view (F.drives _) pool.now.begin (offload_where fed.has_workers pool.now.offload) pool.now.workers driver fed.given fed.replies fed.closed) }
 {
     let blanks = Blanks::new(u64::from(pool.workers) + 2);
-    let book = NewServerBook::new(alloc, u16::from(pool.workers) + 1)?;
+    let book = NewServerBook::new(alloc, u16::from(pool.workers) + 1, &pool.begin)?;
     run_named::<Brand, R, W, M, D, C, E, X, F>(rt, alloc, err, pool, driver, blanks, book)
 }
 
@@ -314,6 +320,7 @@ fn run_named<
     requires book_threads { book.first_job ≡ 9 + pool.now.workers + 1 }
     requires threads { book.first_job ≡ B.first_job }
     requires book_begin { B.begin ≡ pool.now.begin }
+    requires book_begins { book.begin ≡ pool.now.begin }
     ensures counted { IfOk result (λ fed. HasCountedAll fed.closed) }
     ensures fed { let worker_view = locked_view B.first D.are_readings M.is_time M.is_random W.called C.recorded in
         IfOk result (λ fed. IsFedBeside worker_view (F.drives _) pool.now.begin (offload_where fed.has_workers pool.now.offload) pool.now.workers driver fed.given fed.replies fed.closed) }
@@ -323,17 +330,18 @@ fn run_named<
         unassigned,
         tallies,
         logs,
+        keys,
     } = begin::<B, D>(alloc, pool.begin, pool.workers, pool.device, blanks, book)?;
     let bench = RecordedBench {
         bench: &server,
         recorder: pool.recorder,
     };
-    let ended = run_at(rt, alloc, err, pool, &bench, tallies, logs, driver)?;
+    let ended = run_at(rt, alloc, err, pool, &bench, tallies, logs, keys, driver)?;
     Ok(close(server, unassigned, ended))
 }
 
-// Makes a server, the change counters and logs of its workers and driver, and the unassigned
-// shares. Returns `AllocError` if memory for them can't be allocated.
+// Makes a server, the change counters and logs of its workers and driver, the keys of its jobs, and
+// the unassigned shares. Returns `AllocError` if memory for them can't be allocated.
 fn begin<'a, B: Books, D: Device>(
     alloc: Global,
     begin: Begin,
@@ -351,12 +359,14 @@ fn begin<'a, B: Books, D: Device>(
     requires book_threads { book.first_job ≡ 9 + workers + 1 }
     requires threads { book.first_job ≡ B.first_job }
     requires book_begin { B.begin ≡ begin }
+    requires book_begins { book.begin ≡ begin }
     ensures count { IfOk result (λ b. vec_len b.tallies ≡ workers + 1) }
     ensures logs { IfOk result (λ b. vec_len b.logs ≡ vec_len b.tallies) }
     ensures new_logs { IfOk result (λ b. All IsNewLog b.logs.items) }
+    ensures keys { IfOk result (λ b. b.keys ≡ first_brought B.first_job) }
     ensures parts { IfOk result (λ b. b.unassigned.parts + vec_len b.tallies ≡ B.parts) }
 {
-    let (server, mut unassigned, logs) = Locked::<B, D>::new(
+    let (server, mut unassigned, logs, keys) = Locked::<B, D>::new(
         alloc,
         begin.serial,
         begin.id,
@@ -371,6 +381,7 @@ fn begin<'a, B: Books, D: Device>(
         unassigned,
         tallies,
         logs,
+        keys,
     })
 }
 
@@ -379,14 +390,15 @@ fn begin<'a, B: Books, D: Device>(
 fn close<B: Books, D: Device, X: Drop>(
     server: Locked<'_, B, D>,
     mut unassigned: Unassigned<B>,
-    ended: Ended<X, Tallies<B>, TrackLog<ServerOf<B>>>,
+    ended: EndedOf<X, Tallies<B>, ServerOf<B>>,
 ) -> Fed<X>
     requires { unassigned.parts + vec_len ended.shares + 1 ≡ B.parts }
     ensures counted { HasCountedAll result.closed }
     ensures given { result.given ≡ ended.given }
     ensures workers { result.has_workers ≡ ended.has_workers }
     ensures replies { result.replies ≡ both_replies (replies_of ended.shares.items) (replies_by ended.own) }
-    ensures order { 9 + (vec_len ended.shares + 1) ≡ B.first_job → HaveOneOrder B.begin (logs_of ended.shares.items ended.own) result.closed }
+    ensures order { 9 + (vec_len ended.shares + 1) ≡ B.first_job → All (λ s. IsRightWorker B.first_job s.log) ended.shares.items → HasRightOrder B.first_job ended.own.log
+        → HaveLegalOrder B.begin (logs_of ended.shares.items ended.own) result.closed }
 {
     let Ended {
         given,
@@ -403,23 +415,6 @@ fn close<B: Books, D: Device, X: Drop>(
         replies,
         closed,
     }
-}
-
-// Makes a channel of jobs, and a seat for each of these tallies with one of the new logs. See
-// [`make_seats`].
-fn make_new_seats<T: Drop, J: ServerName>(
-    alloc: Global,
-    tallies: Vec<T>,
-    logs: Vec<TrackLog<J>>,
-) -> Result<(Jobs, Sent, Vec<WorkerSeed<T, TrackLog<J>>>), AllocError>
-    requires count { vec_len logs ≡ vec_len tallies }
-    requires new_logs { All IsNewLog logs.items }
-    ensures sent { IfOk result (λ r. r.1 ≡ nothing_sent r.0) }
-    ensures seats { IfOk result (λ r. AreNewSeats r.0 tallies.items logs.items r.2.items) }
-    ensures new_logs { IfOk result (λ r. All (λ s. IsNewLog s.log) r.2.items) }
-{
-    let (jobs, sent, seats) = make_seats(alloc, tallies, logs)?;
-    Ok((jobs, sent, seats))
 }
 
 // Runs a worker for each change counter except the last, and the driver with the last. Each has one
@@ -443,19 +438,23 @@ fn run_at<
     bench: &B,
     tallies: Vec<B::Tallies>,
     logs: Vec<TrackLog<B::Book>>,
+    keys: JobKeys<B::Book>,
     driver: F,
-) -> Result<Ended<X, B::Tallies, TrackLog<B::Book>>, AllocError>
+) -> Result<EndedOf<X, B::Tallies, B::Book>, AllocError>
 where
     B::Tallies: Send,
     B::Book: Send,
     requires some { 0 < vec_len tallies }
     requires logs { vec_len logs ≡ vec_len tallies }
     requires new_logs { All IsNewLog logs.items }
+    requires keys { keys ≡ first_brought B.Book.first_job }
     ensures shares { IfOk result (λ ended. vec_len ended.shares + 1 ≡ vec_len tallies) }
+    ensures right { IfOk result (λ ended. All (λ s. IsRightWorker B.Book.first_job s.log) ended.shares.items) }
+    ensures order { IfOk result (λ ended. HasRightOrder B.Book.first_job ended.own.log) }
     ensures fed { let worker_view = open_view B.changes B.ended B.called B.logged M.is_time M.is_random W.called in
-        IfOk result (λ ended. IsFed worker_view (F.drives _) (offload_where ended.has_workers pool.now.offload) driver ended.given ended.own ended.shares.items) }
+        IfOk result (λ ended. IsFed worker_view B.Book.first_job (F.drives _) (offload_where ended.has_workers pool.now.offload) driver ended.given ended.own ended.shares.items) }
 {
-    let (jobs, sent, mut seats) = make_new_seats(alloc, tallies, logs)?;
+    let (jobs, sent, mut seats) = make_seats(alloc, tallies, logs)?;
     let Some(own) = seats.pop() else {
         unreachable!();
     };
@@ -477,12 +476,13 @@ where
         context,
         channel,
         seats,
-        move |has_workers| -> (X, bool, Share<B::Tallies, TrackLog<B::Book>>)
+        move |has_workers| -> (X, bool, ShareOf<B::Tallies, B::Book>)
             requires sent { sent ≡ nothing_sent channel.now }
             requires got { own.got ≡ nothing_got channel.now }
             requires new_log { IsNewLog own.log }
+            requires keys { keys ≡ first_brought B.Book.first_job }
             ensures { let worker_view = open_view B.changes B.ended B.called B.logged M.is_time M.is_random W.called in
-                DrivesTo worker_view (F.drives _) channel.entry.now (offload_where result.1 offload) driver result.0 result.2 }
+                DrivesTo worker_view (F.drives _) channel.entry.now (offload_where result.1 offload) driver result.0 result.2 × HasRightOrder B.Book.first_job result.2.log }
         {
             if !has_workers {
                 tell_alone(err);
@@ -490,7 +490,7 @@ where
             let offload = offload_where(has_workers, offload);
             let ingress = PooledIngress {
                 rt,
-                dispatcher: Dispatcher::new(context, channel, sent, own, offload),
+                dispatcher: Dispatcher::new(context, channel, sent, own, keys, offload),
                 begun: 0,
                 ended,
             };

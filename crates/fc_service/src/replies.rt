@@ -23,7 +23,7 @@ impl Replies {
     }
 
     /// Returns the counts of the replies that a worker sent and failed to send.
-    pub fn by<T: Drop, L: Drop>(share: &Share<T, L>) -> Replies
+    pub fn by<T: Drop, L: Drop, M: Drop>(share: &Share<T, L, M>) -> Replies
         ensures { result ≡ replies_by share.now }
     {
         Replies {
@@ -33,7 +33,7 @@ impl Replies {
     }
 
     /// Returns the sums of the workers' counts; each sum stops at 2^64 - 1.
-    pub fn of<T: Drop, L: Drop>(shares: &[Share<T, L>]) -> Replies
+    pub fn of<T: Drop, L: Drop, M: Drop>(shares: &[Share<T, L, M>]) -> Replies
         ensures { result ≡ replies_of shares.now }
     {
         let mut replies = Replies::none();

@@ -1,5 +1,5 @@
 -- What a worker files for a job leads the job from its first stage to its end.
-use Rattle.std.proofs.Common.{◌≡◌, ◌⊎◌, ℕ, Bool, true, false, List, [], ◌∷◌, length, Option, Some, None, refl, sym, ap, ◌∙◌, subst, ⊎_elim, inl, inr, arith}
+use Rattle.std.proofs.Common.{◌≡◌, ℕ, Bool, true, false, List, [], ◌∷◌, length, Option, Some, None, refl, sym, ap, ◌∙◌, subst, ⊎_elim, inl, inr, arith}
 use Rattle.std.specs.Prelude.{◌==◌}
 use Rattle.std.proofs.lemmas.Bool.Decides.{nat_tests}
 use Rattle.coap_msg.specs.declared.types.Emission.{Emission}
@@ -42,6 +42,13 @@ use Rattle.fc_workers.specs.Workers.{Share}
 pub record MayWork (first_job : ℕ) (log : TrackedLog) : Type 0 where
   pub own : HasOwnTrack first_job log.who log.tracks
   pub first : HasJobFirst first_job log.tracks
+
+same : (n : ℕ) → (n == n) ≡ true
+same n = grind (arith, nat_tests)
+
+pub at_first : (ts : List (Track FiledEntry)) → entries_at (key_of_first ts) ts ≡ entries_of ts
+at_first [] = refl
+at_first (t ∷ ts) = rw (same t.key) refl
 
 module _ (first_job : ℕ) (job : Job) where
   abbrev Files : Stage → Stage → TrackedLog → TrackedLog → Type 0
@@ -209,13 +216,6 @@ module _ (first_job : ℕ) (job : Job) where
       (subst (λ (es : List FiledEntry). IsRightForJob first_job es) (sym (at_first after.tracks.own)) (led_right first_job before.who job (entries_of after.tracks.own) t (at_next first_job before.who job s t before.tracks after.tracks f.files at).led)))
       (λ (other : k ≡ key_of_first before.tracks.own → ⊥). subst (λ (es : List FiledEntry). IsRightForJob first_job es) (sym (f.files.others k le other)) (right k le (f.files.none_gained k has)))
       (same_or_not k (key_of_first before.tracks.own))
-    where
-      same : (n : ℕ) → (n == n) ≡ true
-      same n = grind (arith, nat_tests)
-
-      at_first : (ts : List (Track FiledEntry)) → entries_at (key_of_first ts) ts ≡ entries_of ts
-      at_first [] = refl
-      at_first (t ∷ ts) = rw (same t.key) refl
 
   module _ {T : Type 0} (w : WorkerView T) (files : FilesCalls w) where
     pub right_after : (number : ℕ) (before after : Share T) → HasOwnTrack first_job before.log.who before.log.tracks → HasJobAt first_job job (first_stage job) before.log.tracks → HasRightJobs first_job before.log.tracks → IsReplied w number job before after

@@ -1,5 +1,5 @@
 -- The head words that a worker knows: after a look, after a raise, and after any logged call.
-use Rattle.std.proofs.Common.{◌≡◌, ◌∙◌, ℕ, ◌≤◌, Bool, true, if◌then◌else◌, max, List, ap, subst, sym, arith}
+use Rattle.std.proofs.Common.{◌≡◌, ◌∙◌, ℕ, ◌≤◌, Bool, true, if◌then◌else◌, max, ap, subst, sym, arith}
 use Rattle.std.specs.Prelude.{◌==◌}
 use Rattle.std.proofs.lemmas.Bool.Decides.{nat_tests}
 use Rattle.fc_book.specs.declared.view.BookView.{BookView}

@@ -2,29 +2,28 @@
 use Rattle.std.proofs.Common.{◌≡◌, ◌≢◌, ◌⊎◌, ℕ, suc, ◌+◌, ◌<◌, ◌≤◌, Bool, true, false, if◌then◌else◌, List, [], ◌∷◌, length, refl, sym, ap, ◌∙◌, subst, ⊎_elim, inl, inr, arith}
 use Rattle.std.specs.Prelude.{◌==◌, ◌||◌, is_some}
 use Rattle.std.specs.List.{All, Any}
-use Rattle.std.proofs.lemmas.Bool.{cases_lt}
 use Rattle.std.proofs.lemmas.Bool.Decides.{nat_tests}
 use Rattle.std.proofs.lemmas.List.Elements.{All-cons, All-head, All-nil, All-tail}
 use Rattle.fc_book.specs.declared.view.Track.{Track}
-use Rattle.fc_book.specs.Tracks.{AreOn, HasKey, entries_at, is_on, on}
+use Rattle.fc_book.specs.Tracks.{AreOn, HasKey, entries_at, on}
 use Rattle.fc_book.proofs.Owners.{entries_at_key}
 use Rattle.fc_core.specs.declared.stage.Task.{Task}
 use Rattle.fc_core.specs.Stages.{new_task}
 use Rattle.fc_registry.specs.Shards.{shard_at}
 use Rattle.fc_server.specs.declared.server.Begin.{Begin}
 use Rattle.fc_server.specs.States.{begin_of}
-use Rattle.fc_linear.specs.Operations.{FrontDoes, LogEntry, ShardDoes, job_brought, part_of}
+use Rattle.fc_linear.specs.Operations.{FrontDoes, LogEntry, ShardDoes, job_brought}
 use Rattle.fc_linear.specs.Parts.{FollowsStages, HaveNextNumbers, IsHistoryOf, bringing, first_server, history_on}
 use Rattle.fc_filed.specs.declared.entry.FiledEntry.{FiledEntry}
 use Rattle.fc_filed.specs.Books.{IsRightForJob}
-use Rattle.fc_filed.specs.Entries.{AreKeyed, OperationsLead, entries_by, entry_keys, log_entry, log_of, part_key}
+use Rattle.fc_filed.specs.Entries.{AreKeyed, OperationsLead, entries_by, entry_keys, log_entry, log_of}
 use Rattle.fc_filed.specs.Tracked.{AreTracksRight}
 use Rattle.fc_filed.proofs.ByThread.{front_track, shard_track}
 use Rattle.fc_filed.proofs.Closing.{tracks_make_history}
 use Rattle.fc_filed.proofs.Sent.{same_or_not}
 use Rattle.fc_workers.specs.declared.closed.ClosedServer.{ClosedServer}
 use Rattle.fc_workers.specs.Filed.{HasRightJobs}
-use Rattle.fc_workers.specs.LegalOrder.{BringsInOrder, HaveRightTracks, brought_in, server_with}
+use Rattle.fc_workers.specs.LegalOrder.{BringsInOrder, FilesFrom, HaveRightTracks, IsFrom, brought_in, server_with}
 use Rattle.fc_workers.specs.Logs.{TrackedLog}
 use Rattle.fc_workers.specs.OneOrder.{HaveOneOrder, filed_in}
 
@@ -72,30 +71,40 @@ right_any a b (e ∷ es) r = (r.0, r.1, follows_any a b es (new_task r.0) r.2)
 
 -- ---- keys
 
-split : (b : Bool) (e : FiledEntry) (xs : List FiledEntry) → (if b then e ∷ xs else xs) ≡ [] → (b ≡ false) × (xs ≡ [])
-split true e xs is = absurd (cc is)
-split false e xs is = (refl, is)
+module _ (first : ℕ) where
+  abbrev FromBy : ℕ → List FiledEntry → Type 0
+  FromBy t [] = Unit {0}
+  FromBy t (e ∷ es) = (e.who ≡ t → IsFrom first e) × FromBy t es
 
-on_third : (a b c k : ℕ) → c ≡ k → ((a == k) || ((b == k) || (c == k))) ≡ true
-on_third a b c k e = grind (e, arith, nat_tests)
+  from_here : (b : Bool) (t : ℕ) (e : FiledEntry) (us : List FiledEntry) → (e.who == t) ≡ b → All (IsFrom first) (if b then e ∷ us else us) → (e.who ≡ t → IsFrom first e) × All (IsFrom first) us
+  from_here true t e us is all = (λ same. All-head (IsFrom first) e us all, All-tail (IsFrom first) e us all)
+  from_here false t e us is all = (λ same. (let on : (e.who == t) ≡ true = grind (same, arith, nat_tests) in absurd (cc (sym on ∙ is))), all)
 
-module _ (n first : ℕ) (above : n ≤ first) where
-  off_track : (e : FiledEntry) (es : List FiledEntry) → ((k : ℕ) → n ≤ k → k < first → on entry_keys k (e ∷ es) ≡ []) → (k : ℕ) → n ≤ k → k < first → (is_on entry_keys k e ≡ false) × (on entry_keys k es ≡ [])
-  off_track e es none k le lt = split (is_on entry_keys k e) e (on entry_keys k es) (none k le lt)
+  pub from_by : (t : ℕ) (es : List FiledEntry) → All (IsFrom first) (entries_by t es) → FromBy t es
+  from_by t [] all = tt
+  from_by t (e ∷ es) all = let h = from_here (e.who == t) t e (entries_by t es) refl all in (h.0, from_by t es h.1)
 
-  not_on : (e : FiledEntry) → is_on entry_keys e.job e ≡ false → ⊥
-  not_on e off = let on : is_on entry_keys e.job e ≡ true = on_third (part_key e.who (part_of e.operation)) e.who e.job e.job refl in absurd (cc (sym on ∙ off))
+  abbrev AllFrom : List FiledEntry → Type 0
+  AllFrom [] = Unit {0}
+  AllFrom (e ∷ es) = IsFrom first e × AllFrom es
 
-  pub keyed_from : (es : List FiledEntry) → ((k : ℕ) → n ≤ k → k < first → on entry_keys k es ≡ []) → AreKeyed n es → AreKeyed first es
-  keyed_from [] none keyed = tt
-  keyed_from (e ∷ es) none keyed = (
+  pub all_from : (logs : List TrackedLog) (es : List FiledEntry) → All (λ (e : FiledEntry). Any (λ (log : TrackedLog). log.who ≡ e.who) logs) es → ((t : ℕ) → Any (λ (log : TrackedLog). log.who ≡ t) logs → FromBy t es) → AllFrom es
+  all_from logs [] any per = tt
+  all_from logs (e ∷ es) any per = (
+    (per e.who (All-head (λ (x : FiledEntry). Any (λ (log : TrackedLog). log.who ≡ x.who) logs) e es any)).0 refl,
+    all_from logs es (All-tail (λ (x : FiledEntry). Any (λ (log : TrackedLog). log.who ≡ x.who) logs) e es any) (λ t a. (per t a).1),
+  )
+
+  pub keyed_from : (n : ℕ) → n ≤ first → (es : List FiledEntry) → AllFrom es → AreKeyed n es → AreKeyed first es
+  keyed_from n above [] from keyed = tt
+  keyed_from n above (e ∷ es) from keyed = (
     record {
       who = (keyed.0.who.0, (let lt = keyed.0.who.1 in omega (arith, lt, above)));
-      job = λ is. ⊎_elim (λ (lt : e.job < first). absurd (not_on e (off_track e es none e.job (keyed.0.job is) lt).0)) (λ (le : first ≤ e.job). le) (cases_lt e.job first);
+      job = from.0;
       none = keyed.0.none;
       event = keyed.0.event;
     },
-    keyed_from es (λ k le lt. (off_track e es none k le lt).1) keyed.1,
+    keyed_from n above es from.1 keyed.1,
   )
 
 -- ---- the entries that produce a job
@@ -157,11 +166,10 @@ module _ (begin : Begin) (logs : List TrackedLog) (closed : ClosedServer) (first
       (λ (none : All (Lacks k) logs). o.lost k le none)
       (any_or_none k logs)
 
-  abbrev IsEmpty : ℕ → TrackedLog → Type 0
-  IsEmpty k log = HasKey k log.tracks.own × (entries_at k log.tracks.own ≡ [])
-
-  empty_below : (k : ℕ) → base ≤ k → k < first → on entry_keys k o.calls ≡ []
-  empty_below k le lt = let a = r.empty k le lt in sym (track_of k a.1 (found (IsEmpty k) (IsOn) logs o.tracks_on a) a.4.0) ∙ a.4.1
+  from_thread : (t : ℕ) → Any (λ (log : TrackedLog). log.who ≡ t) logs → FromBy first t o.calls
+  from_thread t a = from_by first t o.calls
+      (subst (λ (es : List FiledEntry). All (IsFrom first) es) (found (λ (log : TrackedLog). log.who ≡ t) (λ (log : TrackedLog). filed_in log ≡ entries_by log.who o.calls) logs o.own a ∙ ap (λ (n : ℕ). entries_by n o.calls) a.4)
+      (found (λ (log : TrackedLog). log.who ≡ t) (FilesFrom first) logs r.from a))
 
   by_thread : (t : ℕ) → Any (λ (log : TrackedLog). log.who ≡ t) logs → (t ≡ r.dispatcher) ⊎ NoneBy first r.dispatcher t o.calls
   by_thread t a = ⊎_elim
@@ -186,7 +194,7 @@ module _ (begin : Begin) (logs : List TrackedLog) (closed : ClosedServer) (first
     heads = o.heads_led;
     jobs = λ k. let above = r.above in right_any base first (on entry_keys (first + k) o.calls) (job_right (first + k) (omega (arith, above)));
     numbered = numbered;
-    keyed = keyed_from base first r.above o.calls empty_below o.keyed;
+    keyed = keyed_from first base r.above o.calls (all_from first logs o.calls o.callers from_thread) o.keyed;
   }
 
   pub order_is_legal : IsHistoryOf (history_on (begin_of begin) (log_of first o.calls)) (server_with closed o.words)

@@ -6,7 +6,7 @@ use Rattle.fc_book.specs.declared.view.Track.{Track}
 use Rattle.fc_book.specs.declared.view.BookView.{BookView}
 use Rattle.fc_book.specs.Tracks.{HasKey, entries_at, entries_of, merged_with, other_tracks}
 use Rattle.std.specs.List.{All}
-use Rattle.std.proofs.lemmas.List.Elements.{All-cons, All-head, All-nil, All-tail}
+use Rattle.std.proofs.lemmas.List.Elements.{All-append, All-cons, All-nil, All-weaker}
 use Rattle.fc_book.proofs.Owners.{has_right}
 use Rattle.fc_registry.specs.declared.job.Job.{Job}
 use Rattle.fc_core.specs.Stage.{Stage}
@@ -18,21 +18,29 @@ use Rattle.fc_filed.specs.declared.entry.FiledEntry.{FiledEntry}
 use Rattle.fc_filed.specs.Books.{IsRightForJob}
 use Rattle.fc_filed.specs.Entries.{log_entry, log_of}
 use Rattle.fc_filed.specs.JobTracks.{HasJobAt, HasLedJob, LeadJob}
-use Rattle.fc_filed.specs.Threads.{HasOwnTrack, key_of_first}
+use Rattle.fc_filed.specs.Threads.{HasJobFirst, HasOwnTrack, key_of_first}
 use Rattle.fc_filed.proofs.JobTracks.{led_right, of_old_job}
+use Rattle.fc_jobs.specs.Ends.{with_got}
+use Rattle.fc_jobs.specs.declared.protocol.Numbered.{Numbered}
 use Rattle.fc_workers.specs.Called.{WorkerView}
-use Rattle.fc_workers.specs.Filed.{FilesCalls, HasRightJobs}
-use Rattle.fc_workers.specs.Received.{AreReceivedWorked, IsReceivedWorked, KeepsRightJobs, ReceivedJob, with_tracks}
+use Rattle.fc_workers.specs.Filed.{FilesCalls, HasFiledFor, HasRightJobs}
+use Rattle.fc_workers.specs.LegalOrder.{FilesFrom, IsFrom}
+use Rattle.fc_workers.specs.OneOrder.{filed_in}
+use Rattle.fc_workers.specs.Logs.{TrackedLog}
+use Rattle.fc_workers.specs.Messages.{IsNewJob, TrackedJob, first_brought, with_tracks}
+use Rattle.fc_workers.specs.Received.{KeepsRightJobs}
+use Rattle.fc_workers.specs.Shares.{AreTurns, IsTurn}
+use Rattle.fc_workers.specs.Work.{IsReplied}
 use Rattle.fc_workers.specs.Workers.{Share}
 use Rattle.fc_workers.proofs.Filed.{right_after}
 
 -- ---- the operations of a job that came before produce no job
 
-bringing_more : (first : ℕ) (xs ys : List FiledEntry) → bringing (log_of first ys) ≡ [] → bringing (log_of first (xs ++ ys)) ≡ bringing (log_of first xs)
+pub bringing_more : (first : ℕ) (xs ys : List FiledEntry) → bringing (log_of first ys) ≡ [] → bringing (log_of first (xs ++ ys)) ≡ bringing (log_of first xs)
 bringing_more first [] ys none = none
 bringing_more first (x ∷ xs) ys none = ap (λ (l : List LogEntry). if is_some (job_brought x.operation) then log_entry first x ∷ l else l) (bringing_more first xs ys none)
 
-none_led : (first : ℕ) (job : Job) (es : List FiledEntry) (s t : Stage) → LeadJob job es s t → bringing (log_of first es) ≡ []
+pub none_led : (first : ℕ) (job : Job) (es : List FiledEntry) (s t : Stage) → LeadJob job es s t → bringing (log_of first es) ≡ []
 none_led first job [] s t l = refl
 none_led first job (e ∷ es) s t l = ap (λ (o : _). if is_some o then log_entry first e ∷ bringing (log_of first es) else bringing (log_of first es)) (of_old_job e.operation job s l.0 l.1).none ∙ none_led first job es l.0 t l.2
 
@@ -77,74 +85,137 @@ module _ (first_job : ℕ) (job : Job) (stage : Stage) where
       ap (λ (l : List (Track FiledEntry)). entries_at who (t ∷ (l ++ us))) one
       ∙ ap (λ (b : Bool). if b then t.entries else entries_at who us) (other t.key who (λ e. absurd (omega (arith, e, le, lt))))
 
+-- ---- the keys of jobs
+
+-- the job's key is among those of the jobs that a server produces.
+pub at_lower : (first_job : ℕ) (job : Job) (stage : Stage) (v : BookView FiledEntry) → HasJobAt (first_brought first_job) job stage v → HasJobAt first_job job stage v
+at_lower first_job job stage v at = record { key = let le = at.key in omega (arith, le); led = at.led }
+
+-- the entry has this key, as that of its job.
+abbrev HasKeyOf : ℕ → FiledEntry → Type 0
+HasKeyOf k e = e.job ≡ k
+
+-- a new job is at its first stage.
+pub new_at : (first_job : ℕ) (m : TrackedJob) → IsNewJob first_job m → HasJobAt (first_brought first_job) m.job (first_stage m.job) m.tracks
+new_at first_job m new = subst (λ (v : BookView FiledEntry). HasJobAt (first_brought first_job) m.job (first_stage m.job) v) (sym new.tracks) (record { key = new.above; led = (new.produced, refl) })
+
+pub new_only : (first_job : ℕ) (m : TrackedJob) → IsNewJob first_job m → other_tracks m.tracks.own ≡ []
+new_only first_job m new = ap (λ (v : BookView FiledEntry). other_tracks v.own) new.tracks
+
+-- entries with one key, from the first one on.
+pub from_keyed : (first k : ℕ) (es : List FiledEntry) → first ≤ k → All (HasKeyOf k) es → All (IsFrom first) es
+from_keyed first k es le all = All-weaker (HasKeyOf k) (IsFrom first) (λ e same of. subst (λ (n : ℕ). first ≤ n) (sym same) le) es all
+
 -- ---- one job, and many
 
+-- the worker's tracks stay right by two steps if they do by each.
+pub kept_both : (first_job : ℕ) (x y z : TrackedLog) → KeepsRightJobs first_job x y → KeepsRightJobs first_job y z → KeepsRightJobs first_job x z
+kept_both first_job x y z a b = record {
+  who = b.who ∙ a.who;
+  own = b.own;
+  kept = λ k has. b.kept k (a.kept k has);
+  may_begin = b.may_begin ∙ a.may_begin;
+  right = b.right;
+  none = λ first. b.none first ∙ a.none first;
+  from = λ from. b.from (a.from from);
+}
+
 module _ {T : Type 0} (first_job : ℕ) (w : WorkerView T) (files : FilesCalls w) where
-  first_has : (r : ReceivedJob) (us : List (Track FiledEntry)) (ts : List (Track FiledEntry)) → HasLedJob r.job (first_stage r.job) (entries_of ts) → HasKey (key_of_first ts) (ts ++ us)
-  first_has r us [] led = absurd led
-  first_has r us (t ∷ ts) led = inl refl
+  abbrev first : ℕ
+  first = first_brought first_job
 
-  -- the worker has the track of the job that it received.
-  one_has : (r : ReceivedJob) (before after : Share T) → IsReceivedWorked first_job w r before after → HasOwnTrack first_job before.log.who before.log.tracks → HasRightJobs first_job before.log.tracks
-      → HasKey (key_of_first r.tracks.own) after.log.tracks.own
-  one_has r before after is own right =
-      let stage = first_stage r.job in
-      let mid : Share T = record before { log = with_tracks r.tracks before.log } in
-      let owned : HasOwnTrack first_job mid.log.who mid.log.tracks = record { key = own.key; own = has_right before.log.who r.tracks.own before.log.tracks.own own.own } in
-      let at = moved_at first_job r.job stage before.log.tracks r.tracks is.at in
-      let moved = moved_right first_job r.job stage before.log.who before.log.tracks r.tracks is.at is.one right in
-      let f = (right_after first_job r.job w files r.number mid after owned at moved is.worked).0 in
-      f.files.kept (key_of_first r.tracks.own) (first_has r before.log.tracks.own r.tracks.own is.at.led)
+  -- the job whose track is first is run to its end.
+  module _ (number : ℕ) (job : Job) (before after : Share T) (own : HasOwnTrack first_job before.log.who before.log.tracks) (at : HasJobAt first job (first_stage job) before.log.tracks) (right : HasRightJobs first_job before.log.tracks)
+      (worked : IsReplied w number job before after) where
+    done : HasFiledFor first_job job (first_stage job) Gone before.log after.log × HasJobAt first_job job Gone after.log.tracks × HasRightJobs first_job after.log.tracks
+    done = right_after first_job job w files number before after own (at_lower first_job job (first_stage job) before.log.tracks at) right worked
 
-  one_kept : (r : ReceivedJob) (before after : Share T) → IsReceivedWorked first_job w r before after → HasOwnTrack first_job before.log.who before.log.tracks → HasRightJobs first_job before.log.tracks → KeepsRightJobs first_job before.log after.log
-  one_kept r before after is own right =
-      let stage = first_stage r.job in
-      let mid : Share T = record before { log = with_tracks r.tracks before.log } in
-      let owned : HasOwnTrack first_job mid.log.who mid.log.tracks = record { key = own.key; own = has_right before.log.who r.tracks.own before.log.tracks.own own.own } in
-      let at = moved_at first_job r.job stage before.log.tracks r.tracks is.at in
-      let moved = moved_right first_job r.job stage before.log.who before.log.tracks r.tracks is.at is.one right in
-      let done = right_after first_job r.job w files r.number mid after owned at moved is.worked in
-      let f = done.0 in
-      record {
-        who = f.who;
-        kept = λ k has. f.files.kept k (has_right k r.tracks.own before.log.tracks.own has);
-        may_begin = f.files.begins.0;
-        own = record { key = subst (λ (n : ℕ). (9 ≤ n) × (n < first_job)) (sym f.who) own.key; own = subst (λ (n : ℕ). HasKey n after.log.tracks.own) (sym f.who) (f.files.kept before.log.who owned.own) };
-        right = done.2;
-        none = λ first. ap (λ (n : ℕ). bringing (log_of first (entries_at n after.log.tracks.own))) f.who
-            ∙ (ap (λ (es : List FiledEntry). bringing (log_of first es)) f.files.thread
-            ∙ (bringing_more first (entries_at before.log.who mid.log.tracks.own) f.files.entries (none_led first r.job f.files.entries stage Gone f.files.led)
-            ∙ ap (λ (es : List FiledEntry). bringing (log_of first es)) (one_thread first_job r.job stage r.tracks.own before.log.tracks.own before.log.who is.at.led is.at.key own.key.1 is.one)));
-      }
+    filed_is : filed_in after.log ≡ filed_in before.log ++ done.0.files.entries
+    filed_is = ap (λ (k : ℕ). entries_at k after.log.tracks.own) done.0.who ∙ done.0.files.thread
 
-  pub received_kept : (rs : List ReceivedJob) (before after : Share T) → AreReceivedWorked first_job w rs before after → HasOwnTrack first_job before.log.who before.log.tracks → HasRightJobs first_job before.log.tracks → KeepsRightJobs first_job before.log after.log
-  unfolding AreReceivedWorked
-  received_kept [] before after is own right = subst (λ (p : Share T). KeepsRightJobs first_job before.log p.log) (sym is) (record { who = refl; own = own; kept = λ k has. has; may_begin = refl; right = right; none = λ first. refl })
-  received_kept (r ∷ rs) before after is own right =
-      let earlier = received_kept rs before is.0 is.1.0 own right in
-      let last = one_kept r is.0 after is.1.1 earlier.own earlier.right in
-      record {
-        who = last.who ∙ earlier.who;
-        own = last.own;
-        kept = λ k has. last.kept k (earlier.kept k has);
-        may_begin = last.may_begin ∙ earlier.may_begin;
-        right = last.right;
-        none = λ first. last.none first ∙ earlier.none first;
-      }
+    pub worked_kept : KeepsRightJobs first_job before.log after.log
+    worked_kept = record {
+      who = done.0.who;
+      own = record { key = subst (λ (k : ℕ). (9 ≤ k) × (k < first_job)) (sym done.0.who) own.key; own = subst (λ (k : ℕ). HasKey k after.log.tracks.own) (sym done.0.who) (done.0.files.kept before.log.who own.own) };
+      kept = done.0.files.kept;
+      may_begin = done.0.files.begins.0;
+      right = done.2;
+      none = λ n. ap (λ (es : List FiledEntry). bringing (log_of n es)) filed_is
+          ∙ bringing_more n (filed_in before.log) done.0.files.entries (none_led n job done.0.files.entries (first_stage job) Gone done.0.files.led);
+      from = λ from. subst (λ (es : List FiledEntry). All (IsFrom first) es) (sym filed_is)
+          (All-append (IsFrom first) (filed_in before.log) done.0.files.entries from (from_keyed first (key_of_first before.log.tracks.own) done.0.files.entries at.key done.0.files.keyed));
+    }
 
-  more : (xs ys : List (Track FiledEntry)) (rs : List ReceivedJob) → ((k : ℕ) → HasKey k xs → HasKey k ys) → All (λ (r : ReceivedJob). HasKey (key_of_first r.tracks.own) xs) rs → All (λ (r : ReceivedJob). HasKey (key_of_first r.tracks.own) ys) rs
-  more xs ys [] kept all = All-nil (λ (r : ReceivedJob). HasKey (key_of_first r.tracks.own) ys)
-  more xs ys (r ∷ rs) kept all = All-cons (λ (x : ReceivedJob). HasKey (key_of_first x.tracks.own) ys) r rs
-      (kept (key_of_first r.tracks.own) (All-head (λ (x : ReceivedJob). HasKey (key_of_first x.tracks.own) xs) r rs all))
-      (more xs ys rs kept (All-tail (λ (x : ReceivedJob). HasKey (key_of_first x.tracks.own) xs) r rs all))
+    pub worked_first : HasJobFirst first_job after.log.tracks
+    worked_first = done.1.key
 
-  pub received_all : (rs : List ReceivedJob) (before after : Share T) → AreReceivedWorked first_job w rs before after → HasOwnTrack first_job before.log.who before.log.tracks → HasRightJobs first_job before.log.tracks
-      → All (λ (r : ReceivedJob). HasKey (key_of_first r.tracks.own) after.log.tracks.own) rs
-  unfolding AreReceivedWorked
-  received_all [] before after is own right = All-nil (λ (r : ReceivedJob). HasKey (key_of_first r.tracks.own) after.log.tracks.own)
-  received_all (r ∷ rs) before after is own right =
-      let earlier = received_kept rs before is.0 is.1.0 own right in
-      let last = one_kept r is.0 after is.1.1 earlier.own earlier.right in
-      All-cons (λ (x : ReceivedJob). HasKey (key_of_first x.tracks.own) after.log.tracks.own) r rs
-      (one_has r is.0 after is.1.1 earlier.own earlier.right)
-      (more is.0.log.tracks.own after.log.tracks.own rs last.kept (received_all rs before is.0 is.1.0 own right))
+  -- a job's only track is moved to the worker.
+  module _ (m : TrackedJob) (before : TrackedLog) (new : IsNewJob first_job m) (own : HasOwnTrack first_job before.who before.tracks) (right : HasRightJobs first_job before.tracks) where
+    lower : HasJobAt first_job m.job (first_stage m.job) m.tracks
+    lower = at_lower first_job m.job (first_stage m.job) m.tracks (new_at first_job m new)
+
+    only : other_tracks m.tracks.own ≡ []
+    only = new_only first_job m new
+
+    thread_is : filed_in (with_tracks m.tracks before) ≡ filed_in before
+    thread_is = one_thread first_job m.job (first_stage m.job) m.tracks.own before.tracks.own before.who lower.led lower.key own.key.1 only
+
+    moved_kept : KeepsRightJobs first_job before (with_tracks m.tracks before)
+    moved_kept = record {
+      who = refl;
+      own = record { key = own.key; own = has_right before.who m.tracks.own before.tracks.own own.own };
+      kept = λ k has. has_right k m.tracks.own before.tracks.own has;
+      may_begin = refl;
+      right = moved_right first_job m.job (first_stage m.job) before.who before.tracks m.tracks lower only right;
+      none = λ n. ap (λ (es : List FiledEntry). bringing (log_of n es)) thread_is;
+      from = λ from. subst (λ (es : List FiledEntry). All (IsFrom first) es) (sym thread_is) from;
+    }
+
+    first_has : (ts us : List (Track FiledEntry)) → HasLedJob m.job (first_stage m.job) (entries_of ts) → HasKey (key_of_first ts) (ts ++ us)
+    first_has [] us led = absurd led
+    first_has (t ∷ ts) us led = inl refl
+
+    -- the worker has the job's track.
+    moved_has : HasKey (key_of_first m.tracks.own) (with_tracks m.tracks before).tracks.own
+    moved_has = first_has m.tracks.own before.tracks.own lower.led
+
+  module _ (n : Numbered TrackedJob) (before after : Share T) (is : IsTurn first_job w n before after) (own : HasOwnTrack first_job before.log.who before.log.tracks) (right : HasRightJobs first_job before.log.tracks) where
+    abbrev mid : Share T
+    mid = record before { got = with_got before.got n.number n.message; log = with_tracks n.message.tracks before.log }
+
+    moved : KeepsRightJobs first_job before.log mid.log
+    moved = moved_kept n.message before.log is.new own right
+
+    worked : KeepsRightJobs first_job mid.log after.log
+    worked = worked_kept n.number n.message.job mid after moved.own (moved_at first n.message.job (first_stage n.message.job) before.log.tracks n.message.tracks (new_at first_job n.message is.new)) moved.right is.worked
+
+    one_has : HasKey (key_of_first n.message.tracks.own) after.log.tracks.own
+    one_has = worked.kept (key_of_first n.message.tracks.own) (moved_has n.message before.log is.new own right)
+
+    one_kept : KeepsRightJobs first_job before.log after.log
+    one_kept = kept_both first_job before.log mid.log after.log moved worked
+
+  pub received_kept : (ns : List (Numbered TrackedJob)) (before after : Share T) → AreTurns first_job w ns before after → HasOwnTrack first_job before.log.who before.log.tracks → HasRightJobs first_job before.log.tracks → KeepsRightJobs first_job before.log after.log
+  unfolding AreTurns
+  received_kept [] before after is own right = subst (λ (p : Share T). KeepsRightJobs first_job before.log p.log) (sym is) (record { who = refl; own = own; kept = λ k has. has; may_begin = refl; right = right; none = λ first. refl; from = λ from. from })
+  received_kept (n ∷ ns) before after is own right =
+      let earlier = received_kept ns before is.0 is.1.0 own right in
+      kept_both first_job before.log is.0.log after.log earlier (one_kept n is.0 after is.1.1 earlier.own earlier.right)
+
+  -- one of the tracks is that of the job that was received.
+  abbrev HasTrackOf : List (Track FiledEntry) → Numbered TrackedJob → Type 0
+  HasTrackOf ts n = HasKey (key_of_first n.message.tracks.own) ts
+
+  more : (xs ys : List (Track FiledEntry)) (ns : List (Numbered TrackedJob)) → ((k : ℕ) → HasKey k xs → HasKey k ys) → All (HasTrackOf xs) ns → All (HasTrackOf ys) ns
+  more xs ys ns kept all = All-weaker (HasTrackOf xs) (HasTrackOf ys) (λ n has. kept (key_of_first n.message.tracks.own) has) ns all
+
+  pub received_all : (ns : List (Numbered TrackedJob)) (before after : Share T) → AreTurns first_job w ns before after → HasOwnTrack first_job before.log.who before.log.tracks → HasRightJobs first_job before.log.tracks
+      → All (HasTrackOf after.log.tracks.own) ns
+  unfolding AreTurns
+  received_all [] before after is own right = All-nil (HasTrackOf after.log.tracks.own)
+  received_all (n ∷ ns) before after is own right =
+      let earlier = received_kept ns before is.0 is.1.0 own right in
+      let last = one_kept n is.0 after is.1.1 earlier.own earlier.right in
+      All-cons (HasTrackOf after.log.tracks.own) n ns
+      (one_has n is.0 after is.1.1 earlier.own earlier.right)
+      (more is.0.log.tracks.own after.log.tracks.own ns last.kept (received_all ns before is.0 is.1.0 own right))

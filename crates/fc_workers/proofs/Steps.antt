@@ -47,7 +47,7 @@ use Rattle.fc_calls.specs.Logged.{InstallsProgram, LoggedCall, LooksAt, RaisesWo
 use Rattle.fc_linear.specs.Operations.{LacksMemory, RejectsImage}
 use Rattle.fc_workers.specs.Called.{WorkerView}
 use Rattle.fc_workers.specs.Filed.{HasFiled}
-use Rattle.fc_workers.specs.Steps.{AreSeen, AsksRun, Follows, IsReady, IsStep, IsUntaken, ListsOn, Walked, taken_at}
+use Rattle.fc_workers.specs.Steps.{AreSeen, AsksRun, Follows, IsPlainRun, IsReady, IsStep, ListsOn, Walked, taken_at}
 use Rattle.fc_workers.specs.Work.{AreCalls, IsCallAt, IsCommitted, IsWorkedOff, HasCounted, stage_after, change_by, overtaking_by, refusal_by, snapshots_made, total}
 
 -- ---- a step, stored in the job's state
@@ -415,32 +415,15 @@ walks_on worker_view number job {stage} {at} {next} {before} {now} {after} e w s
       counted = counts_on worker_view job.origin.slot w.calls s.call before now after w.counted s.counted;
     }
 
--- ---- a job that was begun
+-- ---- a run without ETags
 
--- a job whose first step is to match its slot's head word requests a run.
-asks_first : (ask : Ask) (serials : List ℕ) → first_by ask serials ≡ ToMatch → AsksRun ask
-asks_first (Run request) serials is = tt
-asks_first Discover serials is = absurd (let n = is in cc)
-asks_first other serials is = absurd (let n = is in cc)
+plain_by : (ask : Ask) (serials : List ℕ) → AsksRun ask → serials ≡ [] → first_by ask serials ≡ ToTake 0
+plain_by (Run request) serials run none = ap (first_by (Run request)) none
+plain_by other serials run none = absurd run
 
-first_untaken : (job : Job) (ask : Ask) (serials : List ℕ) → job.ask ≡ ask → IsUntaken job (first_by ask serials)
-first_untaken job (Run request) [] is = (refl, subst AsksRun (sym is) tt)
-first_untaken job (Run request) (x ∷ xs) is = tt
-first_untaken job Discover serials is = tt
-first_untaken job other serials is = tt
-
-match_untaken : (job : Job) (b : Bool) (word : ℕ) → AsksRun job.ask → IsUntaken job (matched_by b word)
-match_untaken job true word asks = tt
-match_untaken job false word asks = (refl, asks)
-
--- at its first stage a job has taken no snapshot.
-pub asked_untaken : (job : Job) {stage : Stage} → stage ≡ asked_stage job → IsUntaken job stage
-asked_untaken job is = subst (IsUntaken job) (sym is) (first_untaken job job.ask job.etags.items refl)
-
--- a job has taken no snapshot after its first call if that read the slot's head word.
-pub matched_untaken : (job : Job) (word : ℕ) {stage : Stage} → asked_stage job ≡ ToMatch → stage ≡ matched word job.etags.items → IsUntaken job stage
-matched_untaken job word first is = subst (IsUntaken job) (sym is)
-    (match_untaken job (is_match word job.etags.items) word (asks_first job.ask job.etags.items first))
+-- its first step is a snapshot.
+pub plain_takes : (job : Job) → IsPlainRun job → asked_stage job ≡ ToTake 0
+plain_takes job plain = plain_by job.ask job.etags.items plain.run plain.no_etags
 
 pub arrives : {T : Type 0} (worker_view : WorkerView T) (number : ℕ) (job : Job) (stage : Stage) (content : Content) (before now : Share T) → stage ≡ ToAnswer content
     → Walked worker_view number job stage before now → IsWorkedOff worker_view number job content before now

@@ -1,18 +1,22 @@
 -- The right tracks of two jobs of timers.
-use Rattle.std.proofs.Common.{ℕ, ◌≤◌, false, [], ◌∷◌, refl, subst, inl, inr, arith}
+use Rattle.std.proofs.Common.{ℕ, ◌≤◌, false, [], ◌∷◌, length, refl, ap, subst, inl, inr, arith}
 use Rattle.std.proofs.lemmas.List.Elements.{All-cons, All-nil}
-use Rattle.fc_book.specs.Tracks.{HasKey, entries_at, own_view, track}
+use Rattle.fc_book.specs.declared.view.BookView.{BookView}
+use Rattle.fc_book.specs.Tracks.{HasKey, entries_at, entries_of, own_view, track}
 use Rattle.fc_core.specs.Stage.{ToTake}
 use Rattle.fc_core.specs.Timers.{timer_job}
 use Rattle.fc_linear.specs.Parts.{HaveNextNumbers, bringing}
 use Rattle.fc_filed.specs.Books.{IsRightForJob}
 use Rattle.fc_filed.specs.Entries.{log_of}
-use Rattle.fc_filed.specs.JobTracks.{HasJobAt, HasLedJob}
+use Rattle.fc_filed.specs.JobTracks.{HasLedJob}
+use Rattle.fc_filed.specs.Threads.{key_of_first}
+use Rattle.fc_filed.specs.declared.entry.FiledEntry.{FiledEntry}
 use Rattle.fc_filed.proofs.JobTracks.{led_right}
 use Rattle.fc_workers.specs.declared.call_log.CallLog.{CallLog}
 use Rattle.fc_workers.specs.Filed.{HasRightJobs}
-use Rattle.fc_workers.specs.LegalOrder.{BringsInOrder, HaveRightTracks, timer_entry}
+use Rattle.fc_workers.specs.LegalOrder.{BringsInOrder, FilesFrom, HaveRightTracks, IsFrom, timer_entry}
 use Rattle.fc_workers.specs.Logs.{TrackedLog}
+use Rattle.fc_workers.specs.Messages.{IsNewJob, TrackedJob}
 
 -- the log of the thread, which has fired the timers of slots 5 and 6.
 abbrev two_fired : CallLog → TrackedLog
@@ -39,18 +43,37 @@ right_at calls k le (inr (inr (inr h))) = absurd h
 in_order : (calls : CallLog) → BringsInOrder 10 9 (two_fired calls)
 in_order calls = record { own = λ same. (refl, (refl, tt)); none = λ differs. absurd (differs refl) }
 
+all_from : (calls : CallLog) → FilesFrom 10 (two_fired calls)
+all_from calls = All-cons (IsFrom 10) (timer_entry 10 5) (timer_entry 11 6 ∷ []) (λ of. omega arith) (All-cons (IsFrom 10) (timer_entry 11 6) [] (λ of. omega arith) (All-nil (IsFrom 10)))
+
 pub has_right_tracks : (calls : CallLog) → HaveRightTracks 10 (two_fired calls ∷ [])
 has_right_tracks calls = record {
   above = omega arith;
   jobs = All-cons (λ (log : TrackedLog). HasRightJobs 10 log.tracks) (two_fired calls) [] (right_at calls) (All-nil (λ (log : TrackedLog). HasRightJobs 10 log.tracks));
-  empty = λ k le lt. absurd (omega (arith, le, lt));
+  from = All-cons (FilesFrom 10) (two_fired calls) [] (all_from calls) (All-nil (FilesFrom 10));
   dispatcher = 9;
   has_log = (0, two_fired calls, omega arith, refl, refl);
   brought = All-cons (BringsInOrder 10 9) (two_fired calls) [] (in_order calls) (All-nil (BringsInOrder 10 9));
 }
 
-pub first_at : HasJobAt 10 (timer_job 6) (ToTake 0) (own_view 11 (timer_entry 11 6 ∷ []))
-first_at = record { key = omega arith; led = led_at 11 6 }
+-- the message of the second job, with these tracks.
+abbrev second : BookView FiledEntry → TrackedJob
+second v = record { job = timer_job 6; tracks = v }
+
+pub new_job : IsNewJob 10 (second (own_view 11 (timer_entry 11 6 ∷ [])))
+new_job = record { key = 11; entry = timer_entry 11 6; above = omega arith; produced = refl; tracks = refl }
+
+pub not_low : IsNewJob 10 (second (own_view 10 (timer_entry 10 6 ∷ []))) → ⊥
+not_low new =
+    let key = ap (λ (v : BookView FiledEntry). key_of_first v.own) new.tracks in
+    let above = new.above in
+    absurd (omega (arith, key, above))
+
+pub not_begun : (e : FiledEntry) → IsNewJob 10 (second (own_view 11 (timer_entry 11 6 ∷ e ∷ []))) → ⊥
+not_begun e new = let two = ap (λ (v : BookView FiledEntry). length (entries_of v.own)) new.tracks in absurd (omega (arith, two))
+
+pub not_two : IsNewJob 10 (second (record (own_view 11 (timer_entry 11 6 ∷ [])) { own = track 11 (timer_entry 11 6 ∷ []) ∷ track 10 [] ∷ [] })) → ⊥
+not_two new = let two = ap (λ (v : BookView FiledEntry). length v.own) new.tracks in absurd (omega (arith, two))
 
 pub not_shared : IsRightForJob 10 (timer_entry 10 5 ∷ timer_entry 10 6 ∷ []) → ⊥
 not_shared right = right.2.1

@@ -3,11 +3,14 @@
 -- two calls.
 use Rattle.std.specs.Prelude.{◌≡◌, ℕ, ◌%◌, ◌<◌, true, false, List, min, replicate}
 use Rattle.fc_core.specs.Exchanges.{FrontState}
-use Rattle.fc_workers.specs.Fronts.{BeganAt, Beginning}
+use Rattle.fc_server.specs.declared.server.Begin.{Begin}
+use Rattle.fc_filed.specs.Books.{HasIdleShard}
+use Rattle.fc_filed.specs.Parts.{IsExpensiveIn}
+use Rattle.fc_workers.specs.Fronts.{BeganAt, Beginning, beginning}
 use Rattle.fc_workers.specs.declared.call_log.CallLog.{CallLog}
 use Rattle.fc_workers.specs.Logs.{IsUnfiled, TrackedLog, with_filed_call}
 use Rattle.fc_registry.specs.Slots.{Shard}
-use Rattle.fc_workers.specs.Called.{BenchCall, CountsObservers, LeavesUnquiet, LooksAhead, ReadsGauges}
+use Rattle.fc_workers.specs.Called.{BenchCall, CountsObservers, FindsExpensive, KnowsIdle, LeavesUnquiet, LooksAhead, ReadsGauges, ReadsReceipt}
 use Rattle.fc_calls.specs.Logged.{LoggedCall, HandlesDatagram, DrawsId, AnswersRequest, TakesForJob, CommitsRun, InstallsProgram, RemovesProgram, TellsReceipt}
 use Rattle.fc_calls.specs.Logged.{GivesReadings, LooksAt, AdvancesFront, FiresTimer, HandsSignal, AdvancesIdle, AdvancesShard, GivesTurn, NotesTurn, GivesUpTurn, RaisesWord}
 use Rattle.fc_calls.specs.Kept.{confirm_times}
@@ -28,13 +31,25 @@ pub record IsFrontAsked (first : FrontState) (Does : FrontState → FrontState �
   pub began : ∥ BeganAt first before ∥₁
   pub does : Does before after
 
--- the meaning of an unlogged call of a server that began so: the front, or the shard with this
--- index, was called.
+-- some history of a server that began so fits the log's tracks. After its operations in that
+-- history, the shard with this index is idle at this time. The log's tracks don't say which calls
+-- other threads made.
+pub record IsKnownIdle (first : Beginning) (index now : ℕ) (log : TrackedLog) : Type 0 where
+  pub first_job : ℕ
+  pub begin : Begin
+  pub began : beginning begin.policy begin.id ≡ first
+  pub idle : HasIdleShard first_job begin index now log.tracks
+
+-- the meaning of an unlogged call of a server that began so. The front or the shard with this index
+-- was called, or the shard is known to be idle and wasn't called.
 abbrev pub IsServerCall : Beginning → BenchCall → Type 0
 IsServerCall first (LeavesUnquiet shard now) = IsAsked first shard (λ before after. PassesIfIdle now before false after)
 IsServerCall first (LooksAhead shard until) = IsAsked first shard (λ before after. TellsIdleUntil before until after)
+IsServerCall first (KnowsIdle shard now log) = IsKnownIdle first shard now log
 IsServerCall first (ReadsGauges now gauges) = IsFrontAsked first.front (λ before after. TellsGauges now before gauges after)
 IsServerCall first (CountsObservers shard counts) = IsAsked first shard (λ before after. TellsObservers before counts after)
+IsServerCall first (ReadsReceipt job receipt) = IsAsked first (job.origin.slot % 8) (λ before after. DescribesTo job before receipt after)
+IsServerCall first (FindsExpensive least job readings) = IsAsked first (job.origin.slot % 8) (λ before after. IsExpensiveIn least job readings before × (after ≡ before))
 
 -- a call with this effect was made on such a front, and is filed: it is the last entry on the
 -- worker's own track.

@@ -10,22 +10,22 @@ use Rattle.fc_core.specs.Timers.{timer_job}
 use Rattle.fc_jobs.specs.Ends.{with_sent}
 use Rattle.fc_registry.specs.declared.job.Job.{Job}
 use Rattle.fc_registry.specs.declared.receipt.Receipt.{Receipt}
-use Rattle.fc_core.specs.Stage.{Stage}
-use Rattle.fc_core.specs.Stage.{ToCommit}
 use Rattle.fc_workers.specs.declared.dispatcher.Offload.{Offload}
 use Rattle.fc_workers.specs.declared.dispatcher.Offload.TheVariants.{Every, Expensive, Never}
 use Rattle.fc_workers.specs.Logs.{TrackedLog}
 use Rattle.fc_workers.specs.Answers.{IsSomeDelivery, IsSomeTurn, saturated}
-use Rattle.fc_calls.specs.Logged.{FiresTimer, GivesTurn, HandsSignal, HandlesDatagram, TellsReceipt}
-use Rattle.fc_workers.specs.Called.{WorkerView}
-use Rattle.fc_workers.specs.Steps.{AsksRun, HasTaken}
+use Rattle.fc_calls.specs.Logged.{AdvancesIdle, FiresTimer, GivesReadings, GivesTurn, HandsSignal, HandlesDatagram}
+use Rattle.fc_workers.specs.Called.{FindsExpensive, KnowsIdle, ReadsReceipt, WorkerView}
+use Rattle.fc_workers.specs.Filed.{HasSameTracks}
+use Rattle.fc_workers.specs.Producing.{first_tracked, with_new_track, without_job}
+use Rattle.fc_workers.specs.Steps.{AsksRun, IsPlainRun}
 use Rattle.fc_workers.specs.Work.{IsReplied}
-use Rattle.fc_workers.specs.Workers.{Dispatched, Share}
+use Rattle.fc_workers.specs.Workers.{Dispatched}
 
--- the stage is the commit of a ticket whose program may run for this many instructions or more.
-abbrev pub IsExpensiveAt : ℕ → Stage → Type 0
-IsExpensiveAt least (ToCommit count t) = least ≤ t.found.program.cost
-IsExpensiveAt least other = ⊥
+-- a dispatcher as contracts see it: its policy and its record.
+pub record SeenDispatcher (T : Type 0) : Type 0 where
+  pub offload : Offload
+  pub done : Dispatched T
 
 -- the number of a job that isn't sent to the workers.
 abbrev pub unsent : ℕ
@@ -35,58 +35,75 @@ unsent = 18446744073709551615
 abbrev pub logged_at : {T : Type 0} → TrackedLog → Dispatched T → Dispatched T
 logged_at log done = record done { share = record done.share { log = log } }
 
+-- the dispatcher after it sent this job to the workers, with the first of its tracks.
+abbrev pub job_sent : {T : Type 0} → Job → Dispatched T → Dispatched T
+job_sent job done = record done {
+  sent = with_sent done.sent (first_tracked job done.share.log);
+  share = record done.share { log = without_job done.share.log };
+}
+
+-- the track of the dispatcher's next job has begun, and is first.
+abbrev pub HasBegunNext : {T : Type 0} → Dispatched T → Dispatched T → Type 0
+HasBegunNext before after = (key : ℕ) × (after ≡ logged_at (with_new_track key before.share.log) before)
+
+-- this was done, and then the track of the dispatcher's next job has begun.
+abbrev pub WithNext : {T : Type 0} → (Dispatched T → Dispatched T → Type 0) → Dispatched T → Dispatched T → Type 0
+WithNext {T} Does before after = (done : Dispatched T) × Does before done × HasBegunNext done after
+
 -- the dispatcher has only made calls: nothing but its log differs.
 abbrev pub HasCalled : {T : Type 0} → Dispatched T → Dispatched T → Type 0
 HasCalled before after = after ≡ logged_at after.share.log before
 
 module _ {T : Type 0} (s : WorkerView T) where
-  -- the job of a run, with the receipt that was returned for its slot when it arrived. The
-  -- receipt's cost is this number of instructions or more. The log has no other call.
-  pub record IsExpensive (least : ℕ) (job : Job) (before after : TrackedLog) : Type 0 where
+  -- the job of a run, and a receipt of its slot that was read for it. The receipt's cost is this
+  -- number of instructions or more.
+  pub record IsExpensive (least : ℕ) (job : Job) : Type 0 where
     pub asks : AsksRun job.ask
     pub receipt : Receipt
-    pub told : s.logged (TellsReceipt job (Some receipt)) before after
+    pub told : s.bench (ReadsReceipt job (Some receipt))
     pub cost : least ≤ receipt.cost
 
-  -- the receipt of a job's slot was returned for a job of a run, or it wasn't requested. The log has
-  -- no other call.
-  abbrev pub IsPriced : Job → TrackedLog → TrackedLog → Type 0
-  IsPriced job before after = (after ≡ before) ⊎ (AsksRun job.ask × ((receipt : Option Receipt) × s.logged (TellsReceipt job receipt) before after))
+  -- a request for a run, without ETags. Readings were returned, and a snapshot with them wasn't
+  -- taken, since its program may take this number of instructions or more. The log has only the
+  -- call for the readings.
+  pub record IsFoundExpensive (least : ℕ) (job : Job) (before after : TrackedLog) : Type 0 where
+    pub plain : IsPlainRun job
+    pub readings : List ℕ
+    pub given : s.logged (GivesReadings readings) before after
+    pub found : s.bench (FindsExpensive least job readings)
 
-  -- a request's job of a run took one snapshot here, after a look-up or without one. The snapshot's
-  -- program has this cost or more. The log has no other call.
-  pub record IsFoundExpensive (least : ℕ) (job : Job) (before after : Share T) : Type 0 where
-    pub asks : AsksRun job.ask
-    pub request : job.turn ≡ None
-    pub stage : Stage
-    pub took : HasTaken s unsent job stage before after
-    pub expensive : IsExpensiveAt least stage
-    pub ended : s.ended after.tallies ≡ s.ended before.tallies
-
-  -- the job may go to workers, by the calls that were made for it here: none, a receipt of its
-  -- slot, or a snapshot.
-  abbrev pub MayGo : Offload → Job → Share T → Share T → Type 0
+  -- the job may go to workers: always, by a receipt of its slot, or by a snapshot that wasn't
+  -- taken.
+  abbrev pub MayGo : Offload → Job → TrackedLog → TrackedLog → Type 0
   MayGo Every job before after = after ≡ before
-  MayGo (Expensive least) job before after = (IsExpensive least job before.log after.log × (after ≡ record before { log = after.log })) ⊎ IsFoundExpensive least job before after
+  MayGo (Expensive least) job before after = (IsExpensive least job × (after ≡ before)) ⊎ IsFoundExpensive least job before after
   MayGo Never job before after = ⊥
 
-  -- a job that may go was sent to the workers, under the next number.
+  -- a job that may go was sent to the workers with its track, under the next number. The dispatcher
+  -- has filed nothing since the job arrived, and nothing but its log and the sent job differs.
   pub record IsHandedOver (offload : Offload) (job : Job) (before after : Dispatched T) : Type 0 where
-    pub sent : after.sent ≡ with_sent before.sent job
-    pub may_go : MayGo offload job before.share after.share
+    pub log : TrackedLog
+    pub may_go : MayGo offload job before.share.log log
+    pub unfiled : HasSameTracks before.share.log log
+    pub sent : after ≡ job_sent job (logged_at log before)
 
-  -- a job was run here and ended, after its slot's receipt was returned, if that was requested. Its
-  -- reply is sent and counted.
-  pub record IsWorkedHere (job : Job) (before after : Dispatched T) : Type 0 where
+  -- a job was run here and ended. Its reply is sent and counted. If the job might have gone to the
+  -- workers, the calls that show so may come first. They file nothing.
+  pub record IsWorkedHere (offload : Offload) (job : Job) (before after : Dispatched T) : Type 0 where
     pub sent : after.sent ≡ before.sent
     pub log : TrackedLog
-    pub priced : IsPriced job before.share.log log
+    pub stays : (log ≡ before.share.log) ⊎ MayGo offload job before.share.log log
+    pub unfiled : HasSameTracks before.share.log log
     pub worked : IsReplied s unsent job (record before.share { log = log }) after.share
     pub ends : s.ended after.share.tallies ≡ saturated (s.ended before.share.tallies + 1)
 
   -- the job went to the workers, as the policy allows, or was run here.
+  abbrev pub IsSentOrWorked : Offload → Job → Dispatched T → Dispatched T → Type 0
+  IsSentOrWorked offload job before after = IsHandedOver offload job before after ⊎ IsWorkedHere offload job before after
+
+  -- the job went to the workers or was run here, and then the track of the next job has begun.
   abbrev pub IsDispatched : Offload → Job → Dispatched T → Dispatched T → Type 0
-  IsDispatched offload job before after = IsHandedOver offload job before after ⊎ IsWorkedHere job before after
+  IsDispatched offload job = WithNext (IsSentOrWorked offload job)
 
   -- a Reset message or an Acknowledgement was passed once to each of the first n shards, in order.
   unfoldable pub AreSignalled : ℕ → Endpoint → ℕ → Bool → TrackedLog → TrackedLog → Type 0
@@ -112,8 +129,8 @@ module _ {T : Type 0} (s : WorkerView T) where
   -- the job went to the workers under this number, as the policy allows; or without a number, it
   -- was run here.
   abbrev pub IsDispatchedUnder : Offload → Job → Option ℕ → Dispatched T → Dispatched T → Type 0
-  IsDispatchedUnder offload job (Some number) before after = (number ≡ length before.sent.sent) × IsHandedOver offload job before after
-  IsDispatchedUnder offload job None before after = IsWorkedHere job before after
+  IsDispatchedUnder offload job (Some number) before after = (number ≡ length before.sent.sent) × WithNext (IsHandedOver offload job) before after
+  IsDispatchedUnder offload job None before after = WithNext (IsWorkedHere offload job) before after
 
   -- the timer of a slot fired at this time, and its job is dispatched: under this number, if it
   -- went to the workers.
@@ -135,3 +152,10 @@ module _ {T : Type 0} (s : WorkerView T) where
     pub asks : s.logged (GivesTurn shard now turn) before.share.log log
     pub turn_is : IsSomeTurn now turn
     pub done : IsTurnDone offload turn given (logged_at log before) after
+
+  -- an idle shard was advanced to this time, or it is known to be idle at this time and isn't
+  -- called.
+  abbrev pub IsAdvancedOrSkipped : ℕ → ℕ → Dispatched T → Dispatched T → Type 0
+  IsAdvancedOrSkipped shard now before after =
+      (s.logged (AdvancesIdle shard now) before.share.log after.share.log × HasCalled before after)
+      ⊎ (s.bench (KnowsIdle shard now before.share.log) × (after ≡ before))

@@ -1,25 +1,30 @@
 -- When the one order of a server's calls is a legal history: the tracks of its jobs are right.
-use Rattle.std.specs.Prelude.{◌≡◌, ◌≢◌, ℕ, ◌+◌, ◌<◌, ◌≤◌, List, [], length}
+use Rattle.std.specs.Prelude.{◌≡◌, ◌≢◌, ℕ, ◌+◌, ◌≤◌, true, List, [], length}
 use Rattle.std.specs.List.{All, Any}
-use Rattle.fc_book.specs.Tracks.{HasKey, entries_at}
-use Rattle.fc_server.specs.States.{ServerState}
+use Rattle.fc_server.specs.declared.server.Begin.{Begin}
+use Rattle.fc_server.specs.States.{ServerState, begin_of}
 use Rattle.fc_calls.specs.Logged.{FiresTimer}
 use Rattle.fc_linear.specs.Operations.{LogEntry, Logged}
-use Rattle.fc_linear.specs.Parts.{HaveNextNumbers, bringing}
+use Rattle.fc_linear.specs.Parts.{HaveNextNumbers, IsHistoryOf, bringing, history_on}
 use Rattle.fc_filed.specs.declared.entry.FiledEntry.{FiledEntry}
-use Rattle.fc_filed.specs.Entries.{log_of}
+use Rattle.fc_filed.specs.Entries.{is_of_job, log_of}
 use Rattle.fc_workers.specs.declared.closed.ClosedServer.{ClosedServer}
 use Rattle.fc_workers.specs.Filed.{HasRightJobs}
 use Rattle.fc_workers.specs.Logs.{TrackedLog}
-use Rattle.fc_workers.specs.OneOrder.{filed_in}
+use Rattle.fc_workers.specs.Messages.{first_brought}
+use Rattle.fc_workers.specs.OneOrder.{HaveOneOrder, filed_in}
 
 -- the closed server's front and shards, with these head words.
 abbrev pub server_with : ClosedServer → List ℕ → ServerState
 server_with closed words = record { front = closed.front; shards = closed.shards; words = words }
 
--- one of the logs has the track with this key, and the track is empty.
-abbrev pub HaveEmptyTrack : ℕ → List TrackedLog → Type 0
-HaveEmptyTrack k logs = Any (λ (log : TrackedLog). HasKey k log.tracks.own × (entries_at k log.tracks.own ≡ [])) logs
+-- a call for a job is filed on a track with a key from `first` on.
+abbrev pub IsFrom : ℕ → FiledEntry → Type 0
+IsFrom first e = is_of_job e.operation ≡ true → first ≤ e.job
+
+-- each call for a job that the thread filed is on such a track.
+abbrev pub FilesFrom : ℕ → TrackedLog → Type 0
+FilesFrom first log = All (IsFrom first) (filed_in log)
 
 -- the thread's entries that produce a job; the first job's track has this key.
 abbrev pub brought_in : ℕ → TrackedLog → List LogEntry
@@ -31,15 +36,22 @@ pub record BringsInOrder (first dispatcher : ℕ) (log : TrackedLog) : Type 0 wh
   pub own : log.who ≡ dispatcher → HaveNextNumbers 0 (brought_in first log)
   pub none : log.who ≢ dispatcher → brought_in first log ≡ []
 
--- the tracks of jobs in these logs are right. Each is right for its job, and those with keys below
--- `first` are empty. One thread has produced all jobs, in the order of their keys.
+-- the tracks of jobs in these logs are right. Each is right for its job, and no call is filed on
+-- one with a key below `first`. One thread has produced all jobs, in the order of their keys.
 pub record HaveRightTracks (first : ℕ) (logs : List TrackedLog) : Type 0 where
   pub above : 9 + length logs ≤ first
   pub jobs : All (λ (log : TrackedLog). HasRightJobs (9 + length logs) log.tracks) logs
-  pub empty : (k : ℕ) → 9 + length logs ≤ k → k < first → HaveEmptyTrack k logs
+  pub from : All (FilesFrom first) logs
   pub dispatcher : ℕ
   pub has_log : Any (λ (log : TrackedLog). log.who ≡ dispatcher) logs
   pub brought : All (BringsInOrder first dispatcher) logs
+
+-- the calls of these threads have one order, which is a legal history. The number of a job in it is
+-- the job's key minus the first job's. The history's server is the closed one, with the head words
+-- at the end of the order.
+pub record HaveLegalOrder (begin : Begin) (logs : List TrackedLog) (closed : ClosedServer) : Type 0 where
+  pub order : HaveOneOrder begin logs closed
+  pub history : IsHistoryOf (history_on (begin_of begin) (log_of (first_brought (9 + length logs)) order.calls)) (server_with closed order.words)
 
 -- the entry of a timer that fired at time 0: the call is by thread 9, and the job has this key.
 abbrev pub timer_entry : ℕ → ℕ → FiledEntry

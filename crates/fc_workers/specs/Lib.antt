@@ -1,4 +1,5 @@
 pub mod Logs
+pub mod Messages
 pub mod Workers
 pub mod Called
 pub mod Answers
@@ -15,4 +16,5 @@ pub mod Naming
 pub mod OneOrder
 pub mod Filed
 pub mod LegalOrder
+pub mod Producing
 pub mod Received

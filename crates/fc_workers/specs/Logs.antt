@@ -14,8 +14,8 @@ pub record TrackedLog : Type 0 where
   pub tracks : BookView FiledEntry
 
 -- a worker with these tracks may file each call of the front, of a shard and of a head word: the
--- first track is that of the worker's jobs, and the worker's own track is among them. The worker
--- begins no other track.
+-- first track is a job's, or the one that the thread has while it has no job. The worker's own
+-- track is among them. The worker begins no other track.
 pub record MayFileAll (first_job who : ℕ) (v : BookView FiledEntry) : Type 0 where
   pub thread : HasOwnTrack first_job who v
   pub job : HasJobFirst first_job v

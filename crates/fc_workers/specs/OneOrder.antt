@@ -20,9 +20,9 @@ use Rattle.fc_workers.specs.Workers.{Share}
 abbrev pub filed_in : TrackedLog → List FiledEntry
 filed_in log = entries_at log.who log.tracks.own
 
--- the thread has filed nothing.
+-- the thread has filed nothing: each of its tracks is without an entry.
 abbrev pub IsNewLog : TrackedLog → Type 0
-IsNewLog log = filed_in log ≡ []
+IsNewLog log = (k : ℕ) → entries_at k log.tracks.own ≡ []
 
 -- the logs of these workers, and then the log of another thread.
 abbrev pub logs_of : {T : Type 0} → List (Share T) → Share T → List TrackedLog

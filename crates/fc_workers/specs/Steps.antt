@@ -1,5 +1,5 @@
 -- One step of a job, in the form of the worker's loop invariant.
-use Rattle.std.specs.Prelude.{◌≡◌, ◌⊎◌, ℕ, ◌+◌, ◌*◌, ◌-◌, ◌<◌, ◌≤◌, List, [], ◌∷◌, ◌++◌, length}
+use Rattle.std.specs.Prelude.{◌≡◌, ℕ, ◌+◌, ◌*◌, ◌-◌, ◌<◌, ◌≤◌, List, [], ◌∷◌, ◌++◌, length, None}
 use Rattle.fc_registry.specs.declared.job.Ask.{Ask}
 use Rattle.fc_registry.specs.declared.job.Ask.TheVariants.{Run}
 use Rattle.fc_registry.specs.declared.job.Job.{Job}
@@ -18,6 +18,12 @@ use Rattle.fc_workers.specs.Work.{AreCalls, HasCounted, IsCallAt, stage_after, s
 abbrev pub AsksRun : Ask → Type 0
 AsksRun (Run request) = Unit {0}
 AsksRun other = ⊥
+
+-- a request for a run, without ETags. Its first step is a snapshot.
+pub record IsPlainRun (job : Job) : Type 0 where
+  pub request : job.turn ≡ None
+  pub run : AsksRun job.ask
+  pub no_etags : job.etags.items ≡ []
 
 -- the stage of a request's job that hasn't ended. A job whose next step is a snapshot may take one
 -- more. A ticket or an answer belongs to the job. A job that lists head words has at least one left
@@ -89,17 +95,17 @@ abbrev pub IsToCommit : Stage → Type 0
 IsToCommit (ToCommit n t) = Unit {0}
 IsToCommit other = ⊥
 
+-- a snapshot led to this stage: the job's next step is the commit of a ticket whose program takes
+-- less than this number of instructions, or an answer.
+abbrev pub IsCheapAt : ℕ → Stage → Type 0
+IsCheapAt least (ToCommit n t) = t.found.program.cost < least
+IsCheapAt least (ToAnswer content) = Unit {0}
+IsCheapAt least other = ⊥
+
 -- the job's next step is an answer that belongs to the job.
 abbrev pub IsToAnswer : Job → Stage → Type 0
 IsToAnswer job (ToAnswer content) = IsOf job content
 IsToAnswer job other = ⊥
-
--- the job has taken no snapshot yet at this stage. If its next step is a snapshot, it is the job's
--- first, and the job requests a run. The next step isn't a commit.
-abbrev pub IsUntaken : Job → Stage → Type 0
-IsUntaken job (ToTake n) = (n ≡ 0) × AsksRun job.ask
-IsUntaken job (ToCommit n t) = ⊥
-IsUntaken job other = Unit {0}
 
 -- these words were read in order: those of slot n and of the slots after it. The log has no other
 -- call.
@@ -115,14 +121,3 @@ pub record ListsOn (Logged : LoggedCall → TrackedLog → TrackedLog → Type 0
   pub some : 0 < length more
   pub are : words ≡ seen ++ more
   pub all : length words ≡ 64
-
--- the head word of the job's slot was read once, or not at all. The log has no other call.
-abbrev pub IsLookedUp : (LoggedCall → TrackedLog → TrackedLog → Type 0) → Job → TrackedLog → TrackedLog → Type 0
-IsLookedUp Logged job before after = (after ≡ before) ⊎ ((word : ℕ) × Logged (LooksAt job.origin.slot word) before after)
-
--- the head word of the job's slot was read once, or not at all. Then the job took one snapshot,
--- which led to this stage.
-pub record HasTaken {T : Type 0} (s : WorkerView T) (number : ℕ) (job : Job) (stage : Stage) (before after : Share T) : Type 0 where
-  pub log : TrackedLog
-  pub looks : IsLookedUp s.logged job before.log log
-  pub took : IsStep s number job (ToTake 0) stage (record before { log = log }) after

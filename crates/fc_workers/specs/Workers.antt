@@ -3,12 +3,13 @@ use Rattle.fc_workers.specs.declared.dispatcher.Dispatched.{Dispatched as Dispat
 use Rattle.fc_workers.specs.declared.worker_seed.WorkerSeed.{WorkerSeed as SeatWith}
 use Rattle.fc_workers.specs.declared.share.Share.{Share as ShareWith}
 use Rattle.fc_workers.specs.Logs.{TrackedLog}
+use Rattle.fc_workers.specs.Messages.{TrackedJob}
 
 abbrev pub WorkerSeed : Type 0 → Type 0
-WorkerSeed T = SeatWith T TrackedLog
+WorkerSeed T = SeatWith T TrackedLog TrackedJob
 
 abbrev pub Share : Type 0 → Type 0
-Share T = ShareWith T TrackedLog
+Share T = ShareWith T TrackedLog TrackedJob
 
 abbrev pub Dispatched : Type 0 → Type 0
-Dispatched T = DispatchedWith T TrackedLog
+Dispatched T = DispatchedWith T TrackedLog TrackedJob

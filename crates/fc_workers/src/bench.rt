@@ -1,5 +1,5 @@
 //! The backend: a server's shared parts, as workers call them.
-ghost use Rattle.std.specs.Prelude.{◌≡◌, ℕ, ◌+◌, ◌<◌, ◌≤◌, max, ⊤, MatchBool};
+ghost use Rattle.std.specs.Prelude.{◌≡◌, ℕ, ◌+◌, ◌<◌, ◌≤◌, max, true, ⊤, None, IfNone, IfSome, MatchBool};
 ghost use Rattle.fc_core.specs.Timers.{timer_job};
 ghost use Rattle.fc_core.specs.Contents.{IsOf};
 ghost use Rattle.fc_core.specs.Receiving.{emission_if, handled};
@@ -7,8 +7,9 @@ ghost use Rattle.fc_registry.specs.Calls.{initial_vars_of};
 ghost use Rattle.fc_registry.specs.Notes.{noted_as};
 ghost use Rattle.fc_registry.specs.Turns.{written_if};
 ghost use Rattle.fc_registry.specs.Views.{HasSize, taken_with};
+ghost use Rattle.fc_filed.specs.Parts.{IsCheap};
 ghost use Rattle.fc_filed.specs.Threads.{known_word};
-ghost use Rattle.fc_workers.specs.Called.{BenchCall, CountsObservers, LeavesUnquiet, LooksAhead, ReadsGauges};
+ghost use Rattle.fc_workers.specs.Called.{BenchCall, CountsObservers, FindsExpensive, KnowsIdle, LeavesUnquiet, LooksAhead, ReadsGauges, ReadsReceipt};
 ghost use Rattle.fc_calls.specs.Logged.{AdvancesFront, AdvancesIdle, FiresTimer, GivesReadings, HandsSignal, LooksAt};
 ghost use Rattle.fc_calls.specs.Logged.{AdvancesShard, AnswersRequest, CommitsRun, DrawsId, GivesTurn, GivesUpTurn, HandlesDatagram};
 ghost use Rattle.fc_calls.specs.Logged.{InstallsProgram};
@@ -24,7 +25,7 @@ ghost use Rattle.fc_workers.specs.Answers.{ended_by, saturated};
 use crate::track_log::TrackLog;
 use coap_msg::{Emission, Endpoint};
 use fc_core::{Answer, FrontGauges, Handled};
-use fc_filed::ServerName;
+use fc_filed::{ServerBook, ServerName};
 use fc_help::Readings;
 use fc_machine::Outcome;
 use fc_observe::{Ticked, Turn};
@@ -72,6 +73,11 @@ pub trait Bench {
 
     // Each of these calls, except the one for readings, is filed on the worker's tracks.
     ghost files: { FilesEach logged };
+
+    /// Returns the book in which the calls are filed.
+    ///
+    /// A dispatcher begins the tracks of jobs in it. A track can move to another thread's log.
+    fn book(&self) -> &ServerBook<Self::Book>;
 
     /// Handles a datagram, at a time in milliseconds.
     ///
@@ -141,6 +147,27 @@ pub trait Bench {
         ensures changes { (shard : ℕ) → shard < 8 →
             changes tallies.new shard ≡ changes tallies.old shard }
         ensures ended { ended tallies.new ≡ ended_by (taken_with result found.new) (ended tallies.old) };
+
+    /// Takes a snapshot of a request's slot unless the slot's program is expensive.
+    ///
+    /// The slot is that of `job`. Its program is expensive if it may take `least` instructions or
+    /// more. Then the result is `None`, no slot changes, the log doesn't have the call, and `found`
+    /// has any contents. Otherwise see [`Bench::take`]. A request's snapshot ends no job.
+    fn take_if_cheap<R: Wait>(
+        &self,
+        rt: &R,
+        least: u32,
+        job: &Job,
+        readings: &Readings,
+        found: &mut SlotSnapshot,
+        log: &mut TrackLog<Self::Book>,
+    ) -> Option<Taken>
+        requires request { job.now.turn ≡ None }
+        ensures none { IfNone result (called (FindsExpensive least job.now readings.now) × (log.new ≡ log.old)) }
+        ensures taken { IfSome result (λ taken. IsSomeSnapshot job.now readings.now (taken_with taken found.new)) }
+        ensures size { IfSome result (λ taken. HasSize taken found.new) }
+        ensures cheap { IfSome result (IsCheap least) }
+        ensures logged { IfSome result (λ taken. logged (TakesForJob job.now readings.now (taken_with taken found.new)) log.old log.new) };
 
     /// Commits the run of `ticket` with this outcome, at a time in milliseconds.
     ///
@@ -237,6 +264,15 @@ pub trait Bench {
         ensures logged { MatchBool result (logged (AdvancesIdle shard now) log.old log.new)
             (called (LeavesUnquiet shard now) × (log.new ≡ log.old)) };
 
+    /// Returns whether a shard, 0 to 7, is known to be idle at a time in milliseconds.
+    ///
+    /// It is idle if no notification has timed out and no observer has a pending one. The shard
+    /// isn't called. If the result is `true`, the shard needn't be advanced (`KnowsIdle`). If it is
+    /// `false`, nothing is known.
+    fn is_known_idle(&self, shard: u8, now: u64, log: &mut TrackLog<Self::Book>) -> bool
+        ensures known { MatchBool result (called (KnowsIdle shard now log.old) × IsSomeIdle now true) ⊤ }
+        ensures kept { log.new ≡ log.old };
+
     /// Returns a time before which a shard, 0 to 7, is idle unless the shard is called.
     ///
     /// It bounds the wait for the next datagram. Another thread may call the shard at any time. The
@@ -323,6 +359,14 @@ pub trait Bench {
         ensures receipt { IsSomeReceipt result }
         ensures logged { logged (TellsReceipt job.now result) log.old log.new };
 
+    /// Returns the receipt of the program in `job`'s slot, for the job's dispatcher.
+    ///
+    /// Nothing changes, and the log doesn't have the call. Another thread may change the slot at
+    /// any time. Returns `None` if the slot is empty. See
+    /// [`Shard::receipt`](fc_registry::Shard::receipt).
+    fn read_receipt<R: Wait>(&self, rt: &R, job: &Job) -> Option<Receipt>
+        ensures { called (ReadsReceipt job.now result) };
+
     /// Returns the head word of a slot, without a lock.
     ///
     /// The result is at least every word of the slot that the worker knows: those that its looks
@@ -332,6 +376,13 @@ pub trait Bench {
         ensures rises { known_word slot log.old.tracks.own ≤ result }
         ensures knows { known_word slot log.new.tracks.own ≡ result }
         ensures logged { logged (LooksAt slot result) log.old log.new };
+
+    /// Returns the head word of a slot, without a lock, for the dispatcher.
+    ///
+    /// See [`Bench::peek`]. The log doesn't have the call.
+    fn read_word(&self, slot: SlotNumber, log: &mut TrackLog<Self::Book>) -> u64
+        ensures rises { known_word slot log.old.tracks.own ≤ result }
+        ensures kept { log.new ≡ log.old };
 
     /// Raises the head word of `job`'s slot, without a lock.
     ///

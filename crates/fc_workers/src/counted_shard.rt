@@ -5,7 +5,9 @@ ghost use Rattle.std.specs.Prelude.{◌≡◌, ℕ, ◌+◌, ◌<◌, [], replic
 ghost use Rattle.fc_registry.specs.Shards.{shard_at};
 ghost use Rattle.fc_registry.specs.Slots.{Shard as Called};
 ghost use Rattle.fc_calls.specs.Kept.{HasEightSlots, confirm_times, serials};
-ghost use Rattle.fc_linear.specs.Operations.{ShardDoes};
+ghost use Rattle.fc_calls.specs.Doings.{PassesIfIdle};
+ghost use Rattle.fc_calls.specs.Logged.{AdvancesIdle};
+ghost use Rattle.fc_linear.specs.Operations.{Logged, ShardDoes};
 ghost use Rattle.fc_linear.specs.Parts.{first_server};
 ghost use Rattle.fc_filed.specs.Tracked.{IsPartClosed};
 ghost use Rattle.fc_workers.specs.Counts.{counts};
@@ -111,6 +113,27 @@ impl<B: Books, P: Part, L: Ledger> Counted<B, P, L> {
     {
         let tracks = &mut log.tracks;
         self.filed.ask(book, tracks, log.who, call, room)
+    }
+
+    /// Advances the shard to `now` ms if it is idle then, and files that.
+    ///
+    /// It also notes in the book until when the shard is idle. See [`FiledShard::advance_if_idle`].
+    pub(crate) fn advance_if_idle(
+        &mut self,
+        book: &ServerBook<ServerOf<B>>,
+        log: &mut TrackLog<ServerOf<B>>,
+        now: u64,
+    ) -> bool
+        requires same { P.table ≡ B.table }
+        ensures does { PassesIfIdle now self.old.shard result self.new.shard }
+        ensures slots { self.new.shard.slots ≡ self.old.shard.slots }
+        ensures index { self.new.shard.index ≡ self.old.shard.index }
+        ensures confirms { confirm_times self.old.shard ≡ replicate 8 B.first.confirm_after }
+        ensures opened { self.new.opened ≡ self.old.opened }
+        ensures filed { log.new ≡ with_filed_if result (Logged (AdvancesIdle self.old.shard.index now)) log.old }
+    {
+        let tracks = &mut log.tracks;
+        self.filed.advance_if_idle(book, tracks, log.who, now)
     }
 
     /// Runs a call that may change a slot, and files it if its answer says so.

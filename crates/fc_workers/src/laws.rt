@@ -1,7 +1,7 @@
 //! Laws about workers and their server.
 //!
 //! Each law is the contract of an empty function.
-ghost use Rattle.std.specs.Prelude.{◌≡◌, ◌<◌, ◌≤◌, ◌⊎◌, ℕ, Bool, false, Some, List, [], ◌∷◌, ◌++◌};
+ghost use Rattle.std.specs.Prelude.{◌≡◌, ◌<◌, ◌≤◌, ◌⊎◌, ℕ, Bool, false, None, Some, List, [], ◌∷◌, ◌++◌};
 ghost use Rattle.coap_msg.specs.declared.types.Endpoint.{Endpoint};
 ghost use Rattle.fc_core.specs.declared.front.Delivered.TheVariants.{Signal};
 ghost use Rattle.fc_calls.specs.Logged.{DrawsId, HandsSignal, InstallsProgram, LoggedCall, LooksAt, NotesTurn, RaisesWord};
@@ -13,27 +13,33 @@ ghost use Rattle.fc_kinds.specs.Meaning.{Program};
 ghost use Rattle.fc_linear.specs.Operations.{Logged};
 ghost use Rattle.fc_core.specs.Policies.{default_policy};
 ghost use Rattle.fc_observe.specs.Observers.{ObserverList};
+ghost use Rattle.fc_observe.specs.declared.observers.Ticked.TheVariants.{Quiet};
 ghost use Rattle.fc_observe.specs.declared.entry.Turn.{Turn};
 ghost use Rattle.fc_registry.specs.Notes.{IsNoted};
+ghost use Rattle.fc_registry.specs.Turns.{due_job};
+ghost use Rattle.fc_registry.specs.Watches.{at_time, due_place, overdue_place, ticked_in};
 ghost use Rattle.fc_registry.specs.declared.job.Job.{Job};
 ghost use Rattle.fc_registry.specs.declared.shard.Made.TheVariants.{Raised};
 ghost use Rattle.fc_registry.specs.declared.note.Noted.{Noted};
 ghost use Rattle.fc_registry.specs.declared.note.Notification.{Notification};
 ghost use Rattle.fc_server.specs.declared.server.Begin.{Begin};
-ghost use Rattle.fc_workers.specs.Asked.{IsLoggedCall};
+ghost use Rattle.fc_workers.specs.Asked.{IsLoggedCall, IsServerCall};
 ghost use Rattle.fc_workers.specs.Fronts.{beginning};
-ghost use Rattle.fc_core.specs.Stage.{Gone, ToTake};
+ghost use Rattle.fc_core.specs.Stage.{Gone};
 ghost use Rattle.fc_core.specs.Stages.{first_stage};
 ghost use Rattle.fc_core.specs.Timers.{timer_job};
 ghost use Rattle.std.specs.List.{All};
-ghost use Rattle.fc_book.specs.Tracks.{HasKey, other_tracks, own_view, track};
+ghost use Rattle.fc_book.specs.Tracks.{HasKey, own_view, track};
 ghost use Rattle.fc_filed.specs.Books.{IsRightForJob};
 ghost use Rattle.fc_workers.specs.declared.call_log.CallLog.{CallLog};
 ghost use Rattle.fc_filed.specs.JobTracks.{HasJobAt};
 ghost use Rattle.fc_filed.specs.Threads.{HasOwnTrack, key_of_first};
-ghost use Rattle.fc_workers.specs.Called.{worker_view};
+ghost use Rattle.fc_workers.specs.Called.{KnowsIdle, worker_view};
 ghost use Rattle.fc_workers.specs.Filed.{HasFiledFor, HasRightJobs};
-ghost use Rattle.fc_workers.specs.Received.{AreReceivedWorked, KeepsRightJobs, ReceivedJob};
+ghost use Rattle.fc_jobs.specs.declared.protocol.Numbered.{Numbered};
+ghost use Rattle.fc_workers.specs.Messages.{IsNewJob, TrackedJob, first_brought};
+ghost use Rattle.fc_workers.specs.Received.{KeepsRightJobs};
+ghost use Rattle.fc_workers.specs.Shares.{AreTurns};
 ghost use Rattle.fc_workers.specs.Work.{IsReplied};
 ghost use Rattle.fc_workers.specs.Dispatch.{IsDone};
 ghost use Rattle.fc_filed.specs.Entries.{log_of};
@@ -50,6 +56,7 @@ use crate::bench::Bench;
 use crate::books::Books;
 use crate::context::{Gate, TimeSource, Wire};
 use crate::device::Device;
+use fc_registry::laws::idle_shards_do_nothing;
 
 /// A dispatcher passes each signal to shards 0 to 7.
 ///
@@ -74,6 +81,18 @@ pub fn locked_shards_confirm_in_time<B: Books, D: Device>()
         → turn.slot < 64 → IsLoggedCall B.first D.are_readings (NotesTurn turn id now random told noted) before after
         → (watch : ObserverList) × (serial : ℕ) × (at : ℕ) × (watch.confirm_after ≡ B.first.confirm_after) × (now ≤ at) × IsNoted told turn id at serial watch noted }
 {}
+
+/// A shard that is known to be idle has nothing to retransmit, and no observer to notify.
+///
+/// This holds of the shard that its operations lead to in some history that fits the log's tracks.
+/// At the time of the call, a tick of it does nothing, and no observer has a pending notification.
+pub fn known_idle_shards_do_nothing<B: Books>()
+    ensures { (index now : ℕ) (log : Log) (known : IsServerCall B.first (KnowsIdle index now log))
+        → let shard = at_time known.idle.leads.shard now in
+        (ticked_in (overdue_place shard) shard ≡ Quiet) × (due_job (due_place shard) shard ≡ None) }
+{
+    idle_shards_do_nothing();
+}
 
 /// Two threads of a server that draw a message ID each draw two.
 ///
@@ -113,27 +132,27 @@ pub fn worked_jobs_have_right_tracks<B: Bench, G: Gate, W: Wire, M: TimeSource>(
         → HasFiledFor first_job job (first_stage job) Gone before.log after.log × HasJobAt first_job job Gone after.log.tracks × HasRightJobs first_job after.log.tracks }
 {}
 
-/// A worker that receives and runs jobs with right tracks keeps its tracks right.
+/// A worker that receives and runs jobs keeps its tracks right.
 ///
-/// The worker has its own track. Each job comes with its track, is at its first stage, and is run
-/// to its end. After any number of jobs, each job's track that the worker has is right. The worker
-/// has the track of each job that it received. None of the entries that the worker filed since then
-/// produces a job.
+/// The worker has its own track. As in `worker`, each job comes with its track, is at its first
+/// stage, and is run to its end. After any number of jobs, each job's track that the worker has is
+/// right. The worker has the track of each job that it received. None of the entries that it filed
+/// for these jobs produces a job.
 pub fn received_jobs_have_right_tracks<B: Bench, G: Gate, W: Wire, M: TimeSource>()
-    ensures kept { (first_job : ℕ) (jobs : List ReceivedJob) (before after : Done B.Tallies)
+    ensures kept { (first_job : ℕ) (jobs : List (Numbered TrackedJob)) (before after : Done B.Tallies)
         → HasOwnTrack first_job before.log.who before.log.tracks → HasRightJobs first_job before.log.tracks
-        → AreReceivedWorked first_job (worker_view B.changes B.ended B.called B.logged M.is_time M.is_random G.passed W.called) jobs before after
+        → AreTurns first_job (worker_view B.changes B.ended B.called B.logged M.is_time M.is_random G.passed W.called) jobs before after
         → KeepsRightJobs first_job before.log after.log }
-    ensures received { (first_job : ℕ) (jobs : List ReceivedJob) (before after : Done B.Tallies)
+    ensures received { (first_job : ℕ) (jobs : List (Numbered TrackedJob)) (before after : Done B.Tallies)
         → HasOwnTrack first_job before.log.who before.log.tracks → HasRightJobs first_job before.log.tracks
-        → AreReceivedWorked first_job (worker_view B.changes B.ended B.called B.logged M.is_time M.is_random G.passed W.called) jobs before after
-        → All (λ (r : ReceivedJob). HasKey (key_of_first r.tracks.own) after.log.tracks.own) jobs }
+        → AreTurns first_job (worker_view B.changes B.ended B.called B.logged M.is_time M.is_random G.passed W.called) jobs before after
+        → All (λ (n : Numbered TrackedJob). HasKey (key_of_first n.message.tracks.own) after.log.tracks.own) jobs }
 {}
 
 /// The one order of a server's calls is a legal history if its jobs' tracks are right.
 ///
 /// They are right if each is right for its job, and one thread produced all jobs in the order of
-/// their keys. Tracks of jobs with keys below `first` are empty.
+/// their keys. Each call for a job is on a track with a key from `first` on.
 ///
 /// The history is that of the calls as events. Each snapshot in it that found a program has a
 /// meaning. The history's server is the closed one: its front, the slots, times and observers of
@@ -145,9 +164,11 @@ pub fn right_tracks_make_a_legal_order()
 
 /// The timers of slots 5 and 6 fired in the one thread of a server, and each job has a right track.
 ///
-/// The thread's own track has both calls. The track of the second job may be received by a worker:
-/// the job is at its first stage, and the track is the only one. One track of both jobs is right for
-/// no job. In the other order the jobs don't have the next numbers.
+/// The thread's own track has both calls. The track of the second job may be sent to a worker: it
+/// has the call that produced the job, and no other. Three messages are refused: a track with the
+/// key of the thread's empty track, a track with a second call, and two tracks. One track of both
+/// jobs is right for no job. In the other order the jobs don't have the next numbers. With three
+/// threads, their own tracks have keys 9 to 11, their empty ones 12 to 14, and the first job's 15.
 pub fn two_timers_have_right_tracks()
     ensures right { (calls : CallLog) → HaveRightTracks 10 (record {
       calls = calls;
@@ -159,9 +180,12 @@ pub fn two_timers_have_right_tracks()
         own = track 11 (timer_entry 11 6 ∷ []) ∷ track 10 (timer_entry 10 5 ∷ []) ∷ track 9 (timer_entry 10 5 ∷ timer_entry 11 6 ∷ []) ∷ [];
       };
     } ∷ []) }
-    ensures first { HasJobAt 10 (timer_job 6) (ToTake 0) (own_view 11 (timer_entry 11 6 ∷ [])) }
-    ensures one { other_tracks (own_view 11 (timer_entry 11 6 ∷ [])).own ≡ [] }
+    ensures new { IsNewJob 10 (record { job = timer_job 6; tracks = own_view 11 (timer_entry 11 6 ∷ []) }) }
+    ensures low { IsNewJob 10 (record { job = timer_job 6; tracks = own_view 10 (timer_entry 10 6 ∷ []) }) → ⊥ }
+    ensures begun { (e : FiledEntry) → IsNewJob 10 (record { job = timer_job 6; tracks = own_view 11 (timer_entry 11 6 ∷ e ∷ []) }) → ⊥ }
+    ensures two { IsNewJob 10 (record { job = timer_job 6; tracks = record (own_view 11 (timer_entry 11 6 ∷ [])) { own = track 11 (timer_entry 11 6 ∷ []) ∷ track 10 [] ∷ [] } }) → ⊥ }
     ensures shared { IsRightForJob 10 (timer_entry 10 5 ∷ timer_entry 10 6 ∷ []) → ⊥ }
+    ensures keys { first_brought 12 ≡ 15 }
     ensures turned { HaveNextNumbers 0 (bringing (log_of 10 (timer_entry 11 6 ∷ timer_entry 10 5 ∷ []))) → ⊥ }
 {}
 

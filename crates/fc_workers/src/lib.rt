@@ -22,10 +22,9 @@
 //! ```rust
 //! ghost use Rattle.std.specs.Prelude.{◌≡◌, vec_len};
 //!
-//! use fc_jobs::{Jobs, Sent};
-//! use fc_registry::Job;
 //! use fc_workers::{
-//!     Bench, Gate, TimeSource, Share, TrackLog, Wire, Context, drive_workers, make_seats,
+//!     Bench, Context, Gate, JobMessage, ShareOf, TimeSource, TrackLog, Wire, drive_workers,
+//!     make_seats,
 //! };
 //! use std::alloc::AllocError;
 //! use std::sync::Wait;
@@ -37,17 +36,23 @@
 //!     context: &Context<'_, B, G, W, M>,
 //!     tallies: Vec<B::Tallies>,
 //!     logs: Vec<TrackLog<B::Book>>,
-//!     job: Job,
-//! ) -> Result<Vec<Share<B::Tallies, TrackLog<B::Book>>>, AllocError>
+//!     message: JobMessage<B::Book>,
+//! ) -> Result<Vec<ShareOf<B::Tallies, B::Book>>, AllocError>
 //! where
 //!     R: Threads + Wait + Sync,
 //!     requires { vec_len logs ≡ vec_len tallies }
 //! {
 //!     let (jobs, mut sent, seats) = make_seats(context.alloc, tallies, logs)?;
 //!     let channel = &jobs;
-//!     let (_back, shares) = drive_workers(rt, context, channel, seats, move |_staffed| -> Option<Job>
-//!         requires { sent.channel ≡ channel.now }
-//!     { channel.send(rt, job, &mut sent) });
+//!     let (_back, shares) = drive_workers(
+//!         rt,
+//!         context,
+//!         channel,
+//!         seats,
+//!         move |_staffed| -> Option<JobMessage<B::Book>>
+//!             requires { sent.channel ≡ channel.now }
+//!         { channel.send(rt, message, &mut sent) },
+//!     );
 //!     shares
 //! }
 //! ```
@@ -58,9 +63,10 @@
 //!   before it. So with this log no call was made twice, out of order, or in addition. A bench's
 //!   calls have no other log: only `Locked::new` makes a `TrackLog`, one for each thread of the
 //!   server's book. The code shows that gates, transmitters and clocks get no other `CallLog`.
-//!   Calls without a log change nothing. They return random words, the time until which a shard
-//!   stays idle, or that a shard isn't idle now. One such call can stand for a later one with the
-//!   same result.
+//!   Calls without a log change nothing. One such call can stand for a later one with the same
+//!   result. They are the random words and the calls of `BenchCall`: the times until which shards
+//!   stay idle, the gauges, and the prices of jobs. The call that skips an idle shard also names
+//!   the state of the log.
 //! - **A request's job** reaches its answer by a list of calls from its first stage. Each is the
 //!   call that its stage needs, with the result of its shard at some slot. At most eight take a
 //!   snapshot. A look reads the head word of the job's slot, or, for a list, of each slot in order.
@@ -92,10 +98,11 @@
 //!   given shard once, and advances the front to the given time once. Its calls are in the log of
 //!   its statistics, as a worker's are.
 //! - An expensive job is a run of at least a given cost, found in one of two ways. Either it is a
-//!   request's job that took one snapshot here, after a look-up or without one, with a program of
-//!   such a cost. Or the receipt of its slot has such a cost. The log has no other call of the job.
-//!   A request that took a snapshot here and isn't sent is run from there, with at most eight
-//!   snapshots in all. The receipt is requested at most once, right before the job is sent or run.
+//!   request without ETags, and a snapshot for it would have had a program of such a cost. Or a
+//!   receipt of its slot has such a cost. A server with nine locks finds the cost in *some* shard
+//!   with the index of the slot. Before a dispatcher sends a job, it files nothing for it but the
+//!   call that produced it. Its log has at most one call since then: for the readings of a
+//!   snapshot that wasn't taken. A job that isn't sent is run here, with at most eight snapshots.
 //! - **A server with nine locks** calls a front that began with the server's policy and first
 //!   message ID, and has been changed only by calls since. Each shard that a call meets has the
 //!   policy's time for confirmable notifications.
@@ -122,11 +129,17 @@
 //!   message ID each draw two, and two that install a program each in one slot get two serials
 //!   (`laws`). A look finds exactly the word that the raises before it left, by `HaveOneOrder`.
 //! - **Tracks of jobs**: a job's track is right if its first entry produces the job, and the others
-//!   are the operations that its stages need. What a worker files for a job leads the job from its
-//!   first stage to its end. So a worker that receives jobs with right tracks, each at its job's
-//!   first stage, keeps them right. No worker receives tracks yet. The one order is a legal
-//!   history, and its server is the closed one, under two conditions: the tracks of all jobs are
-//!   right, and one thread produced the jobs in the order of their keys (`laws`).
+//!   are the operations that its stages need. Each job's track in a dispatcher's log is right. The
+//!   jobs that the dispatcher produced have the next keys, in order (`Dispatcher::close`). A job
+//!   that is sent takes its track along, with one entry: the call that produced it (`JobMessage`).
+//!   The entries that a worker files for a job lead the job from its first stage to its end. So a
+//!   worker keeps its tracks right (`laws`).
+//! - **A legal history**: the one order is a legal history, and its server is the closed one, under
+//!   two conditions. The tracks of all jobs are right, and one thread produced the jobs in the
+//!   order of their keys (`laws`). The pools of `fc_service` meet both (`HaveLegalOrder`).
+//! - If a dispatcher skips a shard, the shard is idle at that time, by its calls in *some* history
+//!   that fits the dispatcher's tracks (`KnowsIdle`). Such a shard has nothing to retransmit, and
+//!   no observer to notify (`laws`). Any other shard is advanced under its lock if it is idle.
 //! - The gauges that a server returns are those of a front that began so, at the given time, and
 //!   the numbers of observers are those of a shard with the given index. Neither read changes
 //!   anything or is filed. A dispatcher returns how many jobs it sent.
@@ -135,13 +148,12 @@
 //! - A look at a head word returns at least every word of the slot that the worker knows. A worker
 //!   knows the words that it read, and those to which it raised the word. Neither a look nor a
 //!   raise takes a lock.
-//! - Not claimed: that a call holds one lock; which readings a server returns; that the entries of
-//!   one job have a track of their own; that the one order is a legal history; and that a call
+//! - Not claimed: that a call holds one lock; which readings a server returns; and that a call
 //!   returns.
 //!
 //! By the contracts of `Context::work_off`, `Context::work`, `worker`, `run_workers`,
-//! `drive_workers`, `Dispatcher::handle`, `notify`, `offloaded`, the clauses of `Bench`,
-//! `Locked::new`, `close`, `laws`.
+//! `drive_workers`, `Dispatcher::handle`, `notify`, `offloaded`, `Dispatcher::close`, the clauses
+//! of `Bench`, `Locked::new`, `close`, `laws`.
 #![tactic(auto)]
 
 mod begun_front;
@@ -154,6 +166,9 @@ pub mod context;
 mod counted_shard;
 pub mod device;
 pub mod dispatcher;
+mod dispatcher_state;
+pub mod job_keys;
+pub mod job_message;
 pub mod laws;
 mod locked_shard;
 mod new_server;
@@ -176,13 +191,15 @@ pub use call_log::CallLog;
 pub use closed::ClosedServer;
 pub use context::{Context, Gate, TimeSource, Wire};
 pub use device::Device;
-pub use dispatcher::{Dispatched, Dispatcher, Offload};
+pub use dispatcher::{Dispatched, DispatchedOf, Dispatcher, Offload};
+pub use job_keys::JobKeys;
+pub use job_message::JobMessage;
 pub use pool::{drive_workers, make_seats, run_workers};
 pub use scratch::Scratch;
 pub use server::Locked;
-pub use share::Share;
+pub use share::{Share, ShareOf};
 pub use tallies::Tallies;
 pub use tally::Tally;
 pub use track_log::TrackLog;
 pub use unassigned::Unassigned;
-pub use worker_seed::{WorkerSeed, worker};
+pub use worker_seed::{SeedOf, WorkerSeed, worker};

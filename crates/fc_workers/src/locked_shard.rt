@@ -4,7 +4,9 @@ ghost use Rattle.fc_book.specs.Tracks.{with_next};
 ghost use Rattle.fc_registry.specs.Shards.{shard_at};
 ghost use Rattle.fc_registry.specs.Slots.{Shard as Seen};
 ghost use Rattle.fc_calls.specs.Kept.{HasEightSlots, confirm_times, serials};
-ghost use Rattle.fc_linear.specs.Operations.{ShardDoes};
+ghost use Rattle.fc_calls.specs.Doings.{PassesIfIdle};
+ghost use Rattle.fc_calls.specs.Logged.{AdvancesIdle};
+ghost use Rattle.fc_linear.specs.Operations.{Logged, ShardDoes};
 ghost use Rattle.fc_linear.specs.Parts.{first_server};
 ghost use Rattle.fc_filed.specs.Tracked.{IsPartClosed};
 ghost use Rattle.fc_workers.specs.Asked.{IsAsked};
@@ -103,6 +105,22 @@ impl<const INDEX: u8, B: Books> LockedShard<INDEX, B> {
         ensures filed { log.new ≡ with_filed_if (C.files result) (C.operation INDEX call result room.new) log.old }
     {
         self.state.lock(rt).counted.ask(book, log, call, room)
+    }
+
+    /// Advances the shard to `now` ms if it is idle then, under its lock, and files that.
+    ///
+    /// An advance also notes in the book until when the shard is idle.
+    pub(crate) fn advance_if_idle<R: Wait>(
+        &self,
+        rt: &R,
+        book: &ServerBook<ServerOf<B>>,
+        log: &mut TrackLog<ServerOf<B>>,
+        now: u64,
+    ) -> bool
+        ensures does { IsAsked B.first INDEX (λ before after. PassesIfIdle now before result after) }
+        ensures filed { log.new ≡ with_filed_if result (Logged (AdvancesIdle INDEX now)) log.old }
+    {
+        self.state.lock(rt).counted.advance_if_idle(book, log, now)
     }
 
     /// Runs a call that may change a slot, under the shard's lock, and files it.

@@ -13,7 +13,7 @@ ghost use Rattle.fc_workers.specs.Work.{HasSameTallies, IsTurnWorked};
 use crate::bench::Bench;
 use crate::context::{Context, Gate, TimeSource, Wire};
 use crate::scratch::Scratch;
-use crate::share::Share;
+use crate::share::{Share, ShareOf};
 use crate::track_log::TrackLog;
 use coap_msg::Emission;
 use fc_core::Step;
@@ -37,7 +37,7 @@ impl<'a, B: Bench, G: Gate, W: Wire, M: TimeSource> Context<'a, B, G, W, M> {
         scratch: &mut Scratch,
         job: &Job,
         turn: Turn,
-        share: &mut Share<B::Tallies, TrackLog<B::Book>>,
+        share: &mut ShareOf<B::Tallies, B::Book>,
     ) -> bool
         requires { turn.slot < 64 }
         ensures worked { IsTurnWorked (worker_view B.changes B.ended B.called B.logged M.is_time M.is_random G.passed W.called)
@@ -81,7 +81,7 @@ impl<'a, B: Bench, G: Gate, W: Wire, M: TimeSource> Context<'a, B, G, W, M> {
         turn: Turn,
         found: Option<Ticket<'_>>,
         reply: &mut Emission,
-        share: &mut Share<B::Tallies, TrackLog<B::Book>>,
+        share: &mut ShareOf<B::Tallies, B::Book>,
     ) -> bool
         requires { turn.slot < 64 }
         ensures told { IsFoundTold (worker_view B.changes B.ended B.called B.logged M.is_time M.is_random G.passed W.called)
@@ -120,7 +120,7 @@ impl<'a, B: Bench, G: Gate, W: Wire, M: TimeSource> Context<'a, B, G, W, M> {
         id: u16,
         told: &Notification<'_>,
         reply: &mut Emission,
-        share: &mut Share<B::Tallies, TrackLog<B::Book>>,
+        share: &mut ShareOf<B::Tallies, B::Book>,
     ) -> bool
         requires { turn.slot < 64 }
         ensures noted { IsNoteSent (worker_view B.changes B.ended B.called B.logged M.is_time M.is_random G.passed W.called)
@@ -139,7 +139,7 @@ impl<'a, B: Bench, G: Gate, W: Wire, M: TimeSource> Context<'a, B, G, W, M> {
     }
 
     // Releases a lease, at the current time. Nothing is sent.
-    fn give_up<R: Wait>(&self, rt: &R, turn: Turn, share: &mut Share<B::Tallies, TrackLog<B::Book>>)
+    fn give_up<R: Wait>(&self, rt: &R, turn: Turn, share: &mut ShareOf<B::Tallies, B::Book>)
         requires { turn.slot < 64 }
         ensures given_up { IsGivenUp (worker_view B.changes B.ended B.called B.logged M.is_time M.is_random G.passed W.called)
             turn None share.old.log share.new.log }

@@ -3,13 +3,15 @@ ghost use Rattle.std.specs.Prelude.{◌≡◌, Bool, IfOk, vec_len};
 ghost use Rattle.std.specs.List.{All};
 ghost use Rattle.fc_jobs.specs.Ends.{nothing_got, nothing_sent};
 ghost use Rattle.fc_workers.specs.Called.{worker_view};
+ghost use Rattle.fc_workers.specs.OneOrder.{IsNewLog};
 ghost use Rattle.fc_workers.specs.Shares.{AreNewSeats, AreSharesOf, IsShareOf};
 
 use crate::bench::Bench;
 use crate::context::{Context, Gate, TimeSource, Wire};
-use crate::share::Share;
+use crate::job_message::JobMessage;
+use crate::share::ShareOf;
 use crate::track_log::TrackLog;
-use crate::worker_seed::{WorkerSeed, worker};
+use crate::worker_seed::{SeedOf, WorkerSeed, worker};
 use fc_filed::ServerName;
 use fc_jobs::{Got, Jobs, Sent};
 use std::alloc::{AllocError, Global};
@@ -22,7 +24,8 @@ use std::thread::{Promise, Threads};
 /// Makes a channel of jobs, and a worker seed for each of `tallies`.
 ///
 /// The worker seeds have the tallies in order, and the logs in reverse order. There are as many
-/// logs as tallies. Returns the channel, the channel's sending end, and the worker seeds.
+/// logs as tallies. If nothing is filed in any log, the same holds of the worker seeds' logs.
+/// Returns the channel, the channel's sending end, and the worker seeds.
 ///
 /// # Errors
 /// Returns `AllocError` if memory can't be allocated.
@@ -30,10 +33,11 @@ pub fn make_seats<T: Drop, J: ServerName>(
     alloc: Global,
     tallies: Vec<T>,
     logs: Vec<TrackLog<J>>,
-) -> Result<(Jobs, Sent, Vec<WorkerSeed<T, TrackLog<J>>>), AllocError>
+) -> Result<(Jobs<JobMessage<J>>, Sent<JobMessage<J>>, Vec<SeedOf<T, J>>), AllocError>
     requires { vec_len logs ≡ vec_len tallies }
     ensures sent { IfOk result (λ r. r.1 ≡ nothing_sent r.0) }
     ensures seats { IfOk result (λ r. AreNewSeats r.0 tallies.items logs.items r.2.items) }
+    ensures new_logs { All IsNewLog logs.items → IfOk result (λ r. All (λ s. IsNewLog s.log) r.2.items) }
 {
     let (jobs, sent, gots) = Jobs::new(alloc, tallies.len())?;
     let seats = seats_at(alloc, &jobs, gots, tallies, logs)?;
@@ -45,11 +49,11 @@ pub fn make_seats<T: Drop, J: ServerName>(
 // `AllocError` if memory can't be allocated.
 fn seats_at<T: Drop, J: ServerName>(
     alloc: Global,
-    jobs: &Jobs,
-    mut gots: Vec<Got>,
+    jobs: &Jobs<JobMessage<J>>,
+    mut gots: Vec<Got<JobMessage<J>>>,
     tallies: Vec<T>,
     mut logs: Vec<TrackLog<J>>,
-) -> Result<Vec<WorkerSeed<T, TrackLog<J>>>, AllocError>
+) -> Result<Vec<SeedOf<T, J>>, AllocError>
     requires got { All (λ g. g ≡ nothing_got jobs.now) gots.items }
     requires count { vec_len gots ≡ vec_len tallies }
     requires logs { vec_len logs ≡ vec_len tallies }
@@ -86,22 +90,22 @@ pub fn run_workers<
 >(
     rt: &R,
     context: &Context<'_, B, G, W, M>,
-    jobs: &Jobs,
-    seats: Vec<WorkerSeed<B::Tallies, TrackLog<B::Book>>>,
-) -> Result<Vec<Share<B::Tallies, TrackLog<B::Book>>>, AllocError>
+    jobs: &Jobs<JobMessage<B::Book>>,
+    seats: Vec<SeedOf<B::Tallies, B::Book>>,
+) -> Result<Vec<ShareOf<B::Tallies, B::Book>>, AllocError>
 where
     B::Tallies: Send,
     B::Book: Send,
     requires { All (λ s. s.got.channel ≡ jobs.now) seats.items }
-    ensures { IfOk result (λ v. AreSharesOf (worker_view B.changes B.ended B.called B.logged M.is_time M.is_random G.passed W.called)
+    ensures { IfOk result (λ v. AreSharesOf B.Book.first_job (worker_view B.changes B.ended B.called B.logged M.is_time M.is_random G.passed W.called)
         seats.items v.items) }
 {
     thread::map_vec(
         rt,
         seats,
-        &|seat: WorkerSeed<B::Tallies, TrackLog<B::Book>>| -> Share<B::Tallies, TrackLog<B::Book>>
+        &|seat: SeedOf<B::Tallies, B::Book>| -> ShareOf<B::Tallies, B::Book>
             requires { seat.got.channel ≡ jobs.now }
-            ensures { IsShareOf (worker_view B.changes B.ended B.called B.logged M.is_time M.is_random G.passed W.called) seat result }
+            ensures { IsShareOf B.Book.first_job (worker_view B.changes B.ended B.called B.logged M.is_time M.is_random G.passed W.called) seat result }
         { worker(rt, context, jobs, seat) },
     )
 }
@@ -109,17 +113,17 @@ where
 // The promise that a thread returns the statistics of the workers of these worker seeds, or an
 // error.
 #[derive(Drop)]
-struct SharesOf<B: Bench, G: Gate, W: Wire, M: TimeSource> {
-    seats: Snapshot<Vec<WorkerSeed<B::Tallies, TrackLog<B::Book>>>>,
+struct PromisedShares<B: Bench, G: Gate, W: Wire, M: TimeSource> {
+    seats: Snapshot<Vec<SeedOf<B::Tallies, B::Book>>>,
     gate: PhantomData<G>,
     wire: PhantomData<W>,
     times: PhantomData<M>,
 }
 
 impl<B: Bench, G: Gate, W: Wire, M: TimeSource> Promise<
-    Result<Vec<Share<B::Tallies, TrackLog<B::Book>>>, AllocError>,
-> for SharesOf<B, G, W, M> {
-    ghost kept_by = { λ p r. IfOk r (λ v. AreSharesOf (worker_view B.changes B.ended B.called B.logged M.is_time M.is_random G.passed W.called)
+    Result<Vec<ShareOf<B::Tallies, B::Book>>, AllocError>,
+> for PromisedShares<B, G, W, M> {
+    ghost kept_by = { λ p r. IfOk r (λ v. AreSharesOf B.Book.first_job (worker_view B.changes B.ended B.called B.logged M.is_time M.is_random G.passed W.called)
         p.seats.value.items v.items) };
 }
 
@@ -147,36 +151,30 @@ pub fn drive_workers<
 >(
     rt: &R,
     context: &Context<'_, B, G, W, M>,
-    jobs: &Jobs,
-    seats: Vec<WorkerSeed<B::Tallies, TrackLog<B::Book>>>,
+    jobs: &Jobs<JobMessage<B::Book>>,
+    seats: Vec<SeedOf<B::Tallies, B::Book>>,
     drive: F,
-) -> (
-    X,
-    Result<Vec<Share<B::Tallies, TrackLog<B::Book>>>, AllocError>,
-)
+) -> (X, Result<Vec<ShareOf<B::Tallies, B::Book>>, AllocError>)
 where
     B::Tallies: Send,
     B::Book: Send,
     requires seats { All (λ s. s.got.channel ≡ jobs.now) seats.items }
     requires drive { F.IsAlwaysCallable drive }
     ensures fed { (has_workers : Bool) × F.post drive has_workers result.0 }
-    ensures shares { IfOk result.1 (λ v. AreSharesOf (worker_view B.changes B.ended B.called B.logged M.is_time M.is_random G.passed W.called)
+    ensures shares { IfOk result.1 (λ v. AreSharesOf B.Book.first_job (worker_view B.changes B.ended B.called B.logged M.is_time M.is_random G.passed W.called)
         seats.items v.items) }
 {
     thread::scope(
         thread::scope_env(),
         rt,
-        move |scope| -> (
-            X,
-            Result<Vec<Share<B::Tallies, TrackLog<B::Book>>>, AllocError>,
-        )
+        move |scope| -> (X, Result<Vec<ShareOf<B::Tallies, B::Book>>, AllocError>)
             requires { All (λ s. s.got.channel ≡ jobs.now) seats.items × F.IsAlwaysCallable drive }
             ensures { ((has_workers : Bool) × F.post drive has_workers result.0)
-                × IfOk result.1 (λ v. AreSharesOf (worker_view B.changes B.ended B.called B.logged M.is_time M.is_random G.passed W.called)
+                × IfOk result.1 (λ v. AreSharesOf B.Book.first_job (worker_view B.changes B.ended B.called B.logged M.is_time M.is_random G.passed W.called)
                 seats.items v.items) }
         {
             let has_seats = !seats.is_empty();
-            let promise = SharesOf::<B, G, W, M> {
+            let promise = PromisedShares::<B, G, W, M> {
                 seats: Snapshot::of(&seats),
                 gate: PhantomData,
                 wire: PhantomData,
@@ -184,10 +182,10 @@ where
             };
             let started = scope.spawn_with(
                 promise,
-                move || -> Result<Vec<Share<B::Tallies, TrackLog<B::Book>>>, AllocError>
+                move || -> Result<Vec<ShareOf<B::Tallies, B::Book>>, AllocError>
                     requires { All (λ s. s.got.channel ≡ jobs.now) seats.items }
                     ensures { IfOk result
-                        (λ v. AreSharesOf (worker_view B.changes B.ended B.called B.logged M.is_time M.is_random G.passed W.called)
+                        (λ v. AreSharesOf B.Book.first_job (worker_view B.changes B.ended B.called B.logged M.is_time M.is_random G.passed W.called)
                         seats.items v.items) }
                 {
                     let shares = run_workers(rt, context, jobs, seats);

@@ -23,6 +23,9 @@ ghost use Rattle.coap_msg.specs.declared.types.Emission.{Emission as Emitted};
 ghost use Rattle.fc_core.specs.Answering.{emission_of, responded};
 ghost use Rattle.fc_core.specs.Contents.{IsOf};
 ghost use Rattle.fc_core.specs.Receiving.{emission_if};
+ghost use Rattle.fc_calls.specs.Doings.{PassesIfIdle};
+ghost use Rattle.fc_calls.specs.Logged.{AdvancesIdle};
+ghost use Rattle.fc_linear.specs.Operations.{Logged};
 ghost use Rattle.fc_linear.specs.Parts.{first_server};
 ghost use Rattle.fc_registry.specs.Notes.{noted_as};
 ghost use Rattle.fc_registry.specs.Shards.{shard_at};
@@ -33,6 +36,7 @@ ghost use Rattle.fc_workers.specs.Asked.{IsAsked, IsLoggedCall, IsServerCall, sh
 ghost use Rattle.fc_workers.specs.Filed.{locked_files};
 ghost use Rattle.fc_workers.specs.Fronts.{beginning};
 ghost use Rattle.fc_workers.specs.Logs.{TrackedLog, with_filed_if};
+ghost use Rattle.fc_workers.specs.Messages.{first_brought};
 ghost use Rattle.fc_workers.specs.Naming.{AreNamed};
 ghost use Rattle.fc_workers.specs.OneOrder.{HasTracksOf, HaveOneOrder, IsNewLog, logs_of};
 ghost use Rattle.fc_workers.specs.Counts.{no_changes, sums};
@@ -46,20 +50,22 @@ use crate::blanks::Blanks;
 use crate::books::{BookOf, Books, ServerOf};
 use crate::closed::ClosedServer;
 use crate::device::Device;
+use crate::job_keys::JobKeys;
 use crate::locked_shard::LockedShard;
 use crate::new_server::NewServer;
-use crate::share::Share;
+use crate::share::ShareOf;
 use crate::tallies::Tallies;
 use crate::tally::Tally;
 use crate::track_log::{TrackLog, begin_logs};
 use crate::unassigned::Unassigned;
 use coap_msg::{Emission, Endpoint};
 use fc_calls::calls::{
-    AdvanceIfIdle, Commit, CountObservers, Describe, GiveUp, IdleUntil, Install, NextDue, Note,
-    Remove, Signal, Take, Tick,
+    Commit, CountObservers, Describe, GiveUp, IdleUntil, Install, NextDue, Note, Remove, Signal,
+    Take, Tick,
 };
 use fc_calls::{Change, ShardCall};
 use fc_core::{Answer, Front, FrontGauges, Handled, Policy, Responded};
+use fc_filed::calls::TakeIfCheap;
 use fc_filed::{FiledCall, NewServerBook, ServerBook, ServerTracks};
 use fc_help::Readings;
 use fc_machine::Outcome;
@@ -130,6 +136,7 @@ fn begin_front<B: Books>(
 ) -> Result<(BegunFront<B>, NewServer<B>), AllocError>
     requires table { book.table ≡ B.table }
     requires threads { book.first_job ≡ B.first_job }
+    requires book_begins { book.begin ≡ B.begin }
     requires first { B.first ≡ beginning policy.now first_id }
     requires begin { (first_server B.begin).front ≡ B.first.front }
     ensures serial { IfOk result (λ r. r.1.first_serial ≡ first_serial) }
@@ -170,6 +177,7 @@ pub struct Locked<'a, B: Books, D: Device> {
     shard5: LockedShard<5, B>,
     shard6: LockedShard<6, B>,
     shard7: LockedShard<7, B>,
+    ghost begun: { beginning B.begin.policy B.begin.id ≡ B.first },
 }
 
 impl<'a, B: Books, D: Device> Locked<'a, B, D> {
@@ -177,8 +185,9 @@ impl<'a, B: Books, D: Device> Locked<'a, B, D> {
     ///
     /// It has this policy, and draws `first_id` first. Its programs get the readings of `device`.
     /// It opens the ledgers, and the unassigned shares are all their parts. The calls of its front,
-    /// shards and head words are filed in `book`. Returns the server, the unassigned shares, and a
-    /// log for each thread of the book, in which nothing is filed yet.
+    /// shards and head words are filed in `book`. Returns the server, the unassigned shares, a log
+    /// for each thread of the book, and the right to begin the tracks of jobs. Nothing is filed in
+    /// the logs yet.
     ///
     /// # Errors
     /// Returns `AllocError` if memory for the server can't be allocated.
@@ -190,17 +199,27 @@ impl<'a, B: Books, D: Device> Locked<'a, B, D> {
         device: &'a D,
         blanks: Blanks,
         book: NewServerBook,
-    ) -> Result<(Locked<'a, B, D>, Unassigned<B>, Vec<TrackLog<ServerOf<B>>>), AllocError>
+    ) -> Result<
+        (
+            Locked<'a, B, D>,
+            Unassigned<B>,
+            Vec<TrackLog<ServerOf<B>>>,
+            JobKeys<ServerOf<B>>,
+        ),
+        AllocError,
+    >
         requires serial { first_serial ≤ last_serial }
         requires names { AreNamed blanks B.names }
         requires books { blanks.parts ≡ B.parts }
         requires first { B.first ≡ beginning policy.now first_id }
         requires table { book.table ≡ B.table }
         requires threads { book.first_job ≡ B.first_job }
+        requires book_begins { book.begin ≡ B.begin }
         requires begin { B.begin ≡ record { serial = first_serial; id = first_id; policy = policy.now } }
         ensures unassigned { IfOk result (λ r. r.1 ≡ record { parts = blanks.parts; changes = no_changes; ended = 0 }) }
         ensures logs { IfOk result (λ r. 9 + vec_len r.2 ≡ B.first_job) }
         ensures new_logs { IfOk result (λ r. All IsNewLog r.2.items) }
+        ensures keys { IfOk result (λ r. r.3 ≡ first_brought B.first_job) }
     {
         let threads = book.threads();
         let (front, mut new_server) = begin_front::<B>(
@@ -249,7 +268,7 @@ impl<'a, B: Books, D: Device> Locked<'a, B, D> {
         let unassigned = unassigned_of(
             tally0, tally1, tally2, tally3, tally4, tally5, tally6, tally7,
         );
-        Ok((server, unassigned, logs))
+        Ok((server, unassigned, logs, JobKeys::new(first)))
     }
 
     /// Runs a call that leaves a shard unchanged, at the shard with this index, 0 to 7.
@@ -309,6 +328,32 @@ impl<'a, B: Books, D: Device> Locked<'a, B, D> {
         }
     }
 
+    // Advances the shard with this index, 0 to 7, to a time in milliseconds if it is idle then, and
+    // files that in `log`. It holds that shard's lock, and no other. An index above 7 is treated as
+    // 7.
+    fn advance_shard<R: Wait>(
+        &self,
+        rt: &R,
+        index: u8,
+        now: u64,
+        log: &mut TrackLog<ServerOf<B>>,
+    ) -> bool
+        ensures does { IsAsked B.first index (λ before after. PassesIfIdle now before result after) }
+        ensures filed { log.new ≡ with_filed_if result (Logged (AdvancesIdle (shard_called index) now)) log.old }
+    {
+        let book = &self.book;
+        match index {
+            0 => self.shard0.advance_if_idle(rt, book, log, now),
+            1 => self.shard1.advance_if_idle(rt, book, log, now),
+            2 => self.shard2.advance_if_idle(rt, book, log, now),
+            3 => self.shard3.advance_if_idle(rt, book, log, now),
+            4 => self.shard4.advance_if_idle(rt, book, log, now),
+            5 => self.shard5.advance_if_idle(rt, book, log, now),
+            6 => self.shard6.advance_if_idle(rt, book, log, now),
+            _ => self.shard7.advance_if_idle(rt, book, log, now),
+        }
+    }
+
     // Runs a call that may change `slot`, at the shard that owns it, and files it in `log`. It
     // holds that shard's lock, and no other. The tallies count the change.
     fn change<C: Change + FiledCall, R: Wait>(
@@ -363,8 +408,8 @@ impl<'a, B: Books, D: Device> Locked<'a, B, D> {
     pub fn merge_each(
         &self,
         unassigned: &mut Unassigned<B>,
-        own: Share<Tallies<B>, TrackLog<ServerOf<B>>>,
-        mut workers: Vec<Share<Tallies<B>, TrackLog<ServerOf<B>>>>,
+        own: ShareOf<Tallies<B>, ServerOf<B>>,
+        mut workers: Vec<ShareOf<Tallies<B>, ServerOf<B>>>,
     ) -> ServerTracks<ServerOf<B>>
         ensures parts { unassigned.new.parts ≡ unassigned.old.parts + vec_len workers + 1 }
         ensures tracks { HasTracksOf B.first_job (logs_of workers.items own) result }
@@ -435,8 +480,8 @@ impl<'a, B: Books, D: Device> Locked<'a, B, D> {
 
 /// A call of the front or of a shard locks that part, and no other, and calls it.
 ///
-/// A look at a head word, a raise, the filing of an image that isn't installed, and a call of the
-/// device take no lock.
+/// Reads and raises of head words and reads of idle words take no lock. Neither do the filing of an
+/// image that isn't installed and a call of the device.
 impl<'a, B: Books, D: Device> Bench for Locked<'a, B, D> {
     ghost called = { IsServerCall B.first };
 
@@ -451,6 +496,10 @@ impl<'a, B: Books, D: Device> Bench for Locked<'a, B, D> {
     ghost changes = { λ t. slice_index t.changes };
 
     ghost ended = { λ t. t.ended };
+
+    fn book(&self) -> &ServerBook<ServerOf<B>> {
+        &self.book
+    }
 
     fn handle<R: Wait>(
         &self,
@@ -507,6 +556,24 @@ impl<'a, B: Books, D: Device> Bench for Locked<'a, B, D> {
         taken
     }
 
+    fn take_if_cheap<R: Wait>(
+        &self,
+        rt: &R,
+        least: u32,
+        job: &Job,
+        readings: &Readings,
+        found: &mut SlotSnapshot,
+        log: &mut TrackLog<ServerOf<B>>,
+    ) -> Option<Taken> {
+        let shard = shard_of(job.origin.slot);
+        let take = TakeIfCheap {
+            job,
+            readings,
+            least,
+        };
+        self.ask(rt, shard, take, found, log)
+    }
+
     fn signal<R: Wait>(
         &self,
         rt: &R,
@@ -541,7 +608,11 @@ impl<'a, B: Books, D: Device> Bench for Locked<'a, B, D> {
         now: u64,
         log: &mut TrackLog<ServerOf<B>>,
     ) -> bool {
-        self.ask(rt, shard, AdvanceIfIdle { now }, &mut (), log)
+        self.advance_shard(rt, shard, now, log)
+    }
+
+    fn is_known_idle(&self, shard: u8, now: u64, log: &mut TrackLog<ServerOf<B>>) -> bool {
+        shard < SHARDS && log.idle_until(&self.book, shard) > now
     }
 
     fn idle_until<R: Wait>(&self, rt: &R, shard: u8) -> u64 {
@@ -652,8 +723,17 @@ impl<'a, B: Books, D: Device> Bench for Locked<'a, B, D> {
         self.ask(rt, shard, Describe { job }, &mut (), log)
     }
 
+    fn read_receipt<R: Wait>(&self, rt: &R, job: &Job) -> Option<Receipt> {
+        let shard = shard_of(job.origin.slot);
+        self.inspect(rt, shard, Describe { job }, &mut ())
+    }
+
     fn peek(&self, slot: SlotNumber, log: &mut TrackLog<ServerOf<B>>) -> u64 {
         log.look(&self.book, slot)
+    }
+
+    fn read_word(&self, slot: SlotNumber, log: &mut TrackLog<ServerOf<B>>) -> u64 {
+        log.tracks.read_word(&self.book, usize::from(slot.number()))
     }
 
     fn raise(&self, job: &Job, word: u64, log: &mut TrackLog<ServerOf<B>>) {

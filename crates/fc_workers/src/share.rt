@@ -5,6 +5,7 @@ ghost use Rattle.fc_registry.specs.Views.{taken_with};
 ghost use Rattle.fc_workers.specs.Answers.{commit_overtakings, saturated, snapshot_refusals};
 ghost use Rattle.fc_workers.specs.Shares.{new_share};
 
+use crate::job_message::JobMessage;
 use crate::track_log::TrackLog;
 use fc_filed::ServerName;
 use fc_jobs::Got;
@@ -16,21 +17,24 @@ use fc_registry::{Committed, Taken};
 /// worker received. The counters are of replies that went out, of replies that didn't, of refused
 /// allocations, and of conflicts of commits. Each counter stops at 2^64 - 1.
 #[derive(Drop)]
-pub struct Share<T: Drop, L: Drop> {
+pub struct Share<T: Drop, L: Drop, M: Drop> {
     pub tallies: T,
     pub log: L,
-    pub got: Got,
+    pub got: Got<M>,
     pub sent: u64,
     pub failed: u64,
     pub refusals: u64,
     pub overtakings: u64,
 }
 
-impl<T: Drop, J: ServerName> Share<T, TrackLog<J>> {
+/// The statistics of a worker whose calls are filed in the book with the name `J`.
+pub type ShareOf<T, J> = Share<T, TrackLog<J>, JobMessage<J>>;
+
+impl<T: Drop, J: ServerName> Share<T, TrackLog<J>, JobMessage<J>> {
     /// Makes the statistics of a worker that hasn't begun.
     ///
     /// All counters are 0.
-    pub fn new(got: Got, tallies: T, log: TrackLog<J>) -> Share<T, TrackLog<J>>
+    pub fn new(got: Got<JobMessage<J>>, tallies: T, log: TrackLog<J>) -> ShareOf<T, J>
         ensures { result ≡ new_share got tallies log }
     {
         Share {

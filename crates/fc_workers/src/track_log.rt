@@ -1,15 +1,20 @@
 //! The log of a worker, with its tracks in the server's book.
-ghost use Rattle.std.specs.Prelude.{◌≡◌, ◌+◌, ◌<◌, ◌≤◌, [], true, max, vec_len, IfOk};
+ghost use Rattle.std.specs.Prelude.{◌≡◌, ◌+◌, ◌<◌, ◌≤◌, ℕ, [], true, max, vec_len, IfOk};
 ghost use Rattle.std.specs.List.{All};
-ghost use Rattle.fc_book.specs.Tracks.{own_view, with_next};
+ghost use Rattle.fc_book.specs.Tracks.{AreSingle, own_view, with_next};
 ghost use Rattle.fc_calls.specs.Logged.{LooksAt, RaisesWord};
-ghost use Rattle.fc_filed.specs.Threads.{known_word};
+ghost use Rattle.fc_filed.specs.Books.{HasIdleShard};
+ghost use Rattle.fc_filed.specs.Threads.{HasJobFirst, known_word};
 ghost use Rattle.fc_workers.specs.Logs.{MayFileAll, with_filed_call};
+ghost use Rattle.fc_workers.specs.Messages.{IsNewJob, first_brought, with_tracks};
+ghost use Rattle.fc_workers.specs.Producing.{first_tracked, with_new_track, without_job};
 ghost use Rattle.fc_workers.specs.OneOrder.{IsNewLog};
 
 use crate::call_log::CallLog;
+use crate::job_keys::JobKeys;
+use crate::job_message::JobMessage;
 use fc_filed::{ServerBook, ServerName, ServerTracks};
-use fc_registry::SlotNumber;
+use fc_registry::{Job, SlotNumber};
 use std::alloc::{AllocError, Global};
 use std::marker::Model;
 
@@ -22,7 +27,7 @@ const FIRST_THREAD: u64 = 9;
 ///
 /// Each call of the server's front, of a shard or of a head word that gets the log becomes the last
 /// entry on the worker's own track. So does an image that isn't installed. An entry for a job is
-/// also the last one on the track of the worker's jobs. Readings, times, gates and transmitters
+/// also the last one on the first track, that of the job. Readings, times, gates and transmitters
 /// leave the tracks unchanged. A clause sees the log of the calls, the key of the worker's own
 /// track, and the tracks.
 #[derive(Drop)]
@@ -54,8 +59,7 @@ struct ThreadTrack<J: ServerName> {
 }
 
 impl<J: ServerName> TrackLog<J> {
-    // Makes the log of a thread, with its own track. Its jobs get the next track that `first`
-    // begins.
+    // Makes the log of a thread, with its own track and the next track that `first` begins.
     fn new(book: &ServerBook<J>, first: &mut ServerTracks<J>, thread: ThreadTrack<J>) -> TrackLog<J>
         requires may_begin { first.old.may_begin ≡ true }
         requires next { J.first_job ≤ first.old.next }
@@ -96,6 +100,62 @@ impl<J: ServerName> TrackLog<J> {
         self.tracks.raise(book, self.who, slot, word);
     }
 
+    /// Returns a time before which a shard, 0 to 7, is idle, or 0. See
+    /// [`ServerTracks::idle_until`].
+    ///
+    /// The time is in milliseconds. No lock is taken, and nothing is filed.
+    pub(crate) fn idle_until(&mut self, book: &ServerBook<J>, shard: u8) -> u64
+        requires { shard < 8 }
+        ensures idle { (now : ℕ) → now < result → HasIdleShard J.first_job J.begin shard now self.old.tracks }
+        ensures kept { self.new ≡ self.old }
+    {
+        self.tracks.idle_until(book, usize::from(shard))
+    }
+
+    /// States an invariant of the log's type: the thread may file each call.
+    pub(crate) fn attest_own(&self)
+        ensures { MayFileAll J.first_job self.now.who self.now.tracks }
+    {
+        let _ = &self.calls;
+    }
+
+    /// Begins the track of the next job, and puts it first.
+    ///
+    /// The track becomes that of the next job that a call of this log produces.
+    pub(crate) fn begin_job(&mut self, book: &ServerBook<J>, keys: &mut JobKeys<J>)
+        ensures keys { keys.new ≡ keys.old + 1 }
+        ensures begun { self.new ≡ with_new_track keys.old self.old }
+    {
+        let track = keys.begin(book);
+        self.tracks.merge(book, track);
+    }
+
+    /// Moves the first track, which is that of `job`, to a message to a worker.
+    ///
+    /// The contract also guarantees that no two tracks of the log had the same key.
+    pub(crate) fn move_to_message(&mut self, book: &ServerBook<J>, job: Job) -> JobMessage<J>
+        requires new { IsNewJob J.first_job (first_tracked job self.old) }
+        requires rest { HasJobFirst J.first_job (without_job self.old).tracks }
+        ensures message { result ≡ first_tracked job self.old }
+        ensures sent { self.new ≡ without_job self.old }
+        ensures single { AreSingle self.old.tracks.own }
+    {
+        self.tracks.attest(book);
+        let tracks = self.tracks.split_first(book);
+        JobMessage { job, tracks }
+    }
+
+    /// Moves the track of a message's job to the log, as the first one, and returns the job.
+    pub(crate) fn take_from_message(&mut self, book: &ServerBook<J>, message: JobMessage<J>) -> Job
+        ensures job { result ≡ message.job }
+        ensures new { IsNewJob J.first_job message }
+        ensures received { self.new ≡ with_tracks message.tracks self.old }
+    {
+        let JobMessage { job, tracks } = message;
+        self.tracks.merge(book, tracks);
+        job
+    }
+
     /// Returns its tracks. The thread's own track is among them.
     pub(crate) fn into_tracks(self) -> ServerTracks<J>
         ensures tracks { result ≡ self.tracks }
@@ -107,8 +167,8 @@ impl<J: ServerName> TrackLog<J> {
 
 /// Begins the tracks of a book's threads, and returns a log for each.
 ///
-/// First the threads' own tracks begin, and then a track for the jobs of each. `first` owns the
-/// right to begin tracks.
+/// First the threads' own tracks begin. Then an empty track begins for each thread; it is first
+/// while the thread has no job. `first` keeps the right to begin the tracks of jobs.
 ///
 /// # Errors
 /// Returns `AllocError` if memory for the list can't be allocated.
@@ -123,6 +183,7 @@ pub(crate) fn begin_logs<J: ServerName>(
     requires threads { J.first_job ≡ 9 + threads }
     ensures count { IfOk result (λ v. vec_len v ≡ threads) }
     ensures new_logs { IfOk result (λ v. All IsNewLog v.items) }
+    ensures next { IfOk result (λ v. first.new ≡ record first.old { next = first_brought J.first_job }) }
 {
     let began = begin_threads(alloc, book, first, threads)?;
     let mut logs = Vec::with_capacity(alloc, began.len())?;

@@ -1,5 +1,5 @@
 //! Requests' jobs, run by a worker or the dispatcher with the calls of a backend.
-ghost use Rattle.std.specs.Prelude.{◌≡◌, ◌+◌, ◌<◌, ℕ, None, length};
+ghost use Rattle.std.specs.Prelude.{◌≡◌, ◌+◌, ◌<◌, ℕ, true, false, None, length};
 ghost use Rattle.fc_verify.specs.Judged.{judged};
 ghost use Rattle.fc_verify.specs.Accepted.{Accepts, IsAccepted};
 ghost use Rattle.fc_verify.specs.declared.refusal.Refusal.TheVariants.{Broken};
@@ -10,16 +10,17 @@ ghost use Rattle.fc_core.specs.Stages.{image_of};
 ghost use Rattle.fc_core.specs.Stage.{ToAnswer, ToInstall, ToRemove};
 ghost use Rattle.fc_linear.specs.Operations.{LacksMemory, RejectsImage};
 ghost use Rattle.fc_workers.specs.Answers.{saturated};
+ghost use Rattle.fc_workers.specs.Dispatch.{IsFoundExpensive};
 ghost use Rattle.fc_workers.specs.Filed.{HasFiled};
 ghost use Rattle.fc_workers.specs.Called.{worker_view};
 ghost use Rattle.fc_workers.specs.Work.{IsWorkedTo};
-ghost use Rattle.fc_workers.specs.Steps.{AsksRun, HasTaken, IsLookedUp, IsReady, IsStep, IsToAnswer, IsToCommit, IsToTake, IsUntaken, ListsOn, Walked};
+ghost use Rattle.fc_workers.specs.Steps.{IsCheapAt, IsPlainRun, IsReady, IsStep, IsToAnswer, IsToCommit, IsToTake, ListsOn, Walked};
 ghost use Rattle.fc_workers.specs.Workers.{Share as Done};
 
 use crate::bench::Bench;
 use crate::context::{Context, Gate, TimeSource, Wire};
 use crate::scratch::Scratch;
-use crate::share::Share;
+use crate::share::{Share, ShareOf};
 use crate::track_log::TrackLog;
 use fc_core::answer::Words;
 use fc_core::heads::WORDS;
@@ -54,7 +55,7 @@ impl<'a, B: Bench, G: Gate, W: Wire, M: TimeSource> Context<'a, B, G, W, M> {
         scratch: &mut Scratch,
         number: u64,
         job: &Job,
-        share: &mut Share<B::Tallies, TrackLog<B::Book>>,
+        share: &mut ShareOf<B::Tallies, B::Book>,
     )
         requires asked { job.now.turn ≡ None }
         ensures worked { IsWorkedTo (worker_view B.changes B.ended B.called B.logged M.is_time M.is_random G.passed W.called)
@@ -75,7 +76,7 @@ impl<'a, B: Bench, G: Gate, W: Wire, M: TimeSource> Context<'a, B, G, W, M> {
         scratch: &mut Scratch,
         number: u64,
         job: &Job,
-        share: &mut Share<B::Tallies, TrackLog<B::Book>>,
+        share: &mut ShareOf<B::Tallies, B::Book>,
     )
         requires asked { job.now.turn ≡ None }
         requires ready { IsReady job.now scratch.old.stage }
@@ -122,55 +123,42 @@ impl<'a, B: Bench, G: Gate, W: Wire, M: TimeSource> Context<'a, B, G, W, M> {
         }
     }
 
-    /// Begins a request's job: a job that requests a run takes its first snapshot.
+    /// Begins a run without ETags by its first snapshot, unless the slot's program is expensive.
     ///
-    /// If a run is requested with ETags, the slot's head word is read before. The job takes no
-    /// snapshot if the word answers the request. If the job's next step is then a commit, the job
-    /// requests a run, and took exactly one snapshot. From this snapshot the dispatcher knows the
-    /// cost of the run.
-    pub(crate) fn begin<R: Wait>(
+    /// The job is a request's. The program is expensive if it may take `least` instructions or
+    /// more. Returns whether the job was begun. If it wasn't, the log has only the call for
+    /// readings, and nothing is filed.
+    pub(crate) fn begin_if_cheap<R: Wait>(
         &self,
         rt: &R,
+        least: u32,
         scratch: &mut Scratch,
         job: &Job,
-        share: &mut Share<B::Tallies, TrackLog<B::Book>>,
-    )
-        requires asked { job.now.turn ≡ None }
-        ensures begun { (number : ℕ) → Walked (worker_view B.changes B.ended B.called B.logged M.is_time M.is_random G.passed W.called)
+        share: &mut ShareOf<B::Tallies, B::Book>,
+    ) -> bool
+        requires plain { IsPlainRun job.now }
+        ensures begun { result ≡ true → (number : ℕ)
+            → Walked (worker_view B.changes B.ended B.called B.logged M.is_time M.is_random G.passed W.called)
             number job.now scratch.new.stage share.old share.new }
-        ensures found { (number : ℕ) → IsToCommit scratch.new.stage → AsksRun job.now.ask × HasTaken
-            (worker_view B.changes B.ended B.called B.logged M.is_time M.is_random G.passed W.called)
-            number job.now scratch.new.stage share.old share.new }
-        ensures ended { B.ended share.new.tallies ≡ B.ended share.old.tallies }
-    {
-        self.look(scratch, job, share);
-        let stage = &mut scratch.stage;
-        if let Step::ToTake(_) = &stage.step {
-            self.take(rt, job, stage, share);
-        }
-    }
-
-    // Begins a request's job without a snapshot. If a run is requested with ETags, reads the head
-    // word of the job's slot.
-    fn look(
-        &self,
-        scratch: &mut Scratch,
-        job: &Job,
-        share: &mut Share<B::Tallies, TrackLog<B::Book>>,
-    )
-        ensures kept { share.new ≡ record share.old { log = share.new.log } }
-        ensures looks { IsLookedUp B.logged job.now share.old.log share.new.log }
-        ensures looked { (number : ℕ) → Walked (worker_view B.changes B.ended B.called B.logged M.is_time M.is_random G.passed W.called)
-            number job.now scratch.new.stage share.old share.new }
-        ensures untaken { IsUntaken job.now scratch.new.stage }
+        ensures cheap { result ≡ true → IsCheapAt least scratch.new.stage }
+        ensures expensive { result ≡ false
+            → IsFoundExpensive (worker_view B.changes B.ended B.called B.logged M.is_time M.is_random G.passed W.called)
+            least job.now share.old.log share.new.log × (share.new ≡ record share.old { log = share.new.log }) }
+        ensures tallies { share.new.tallies ≡ share.old.tallies }
     {
         let stage = &mut scratch.stage;
         stage.ask(job);
-        if let Step::ToMatch = &stage.step {
-            let log = &mut share.log;
-            let head = self.bench.peek(job.origin.slot, log);
-            stage.matched(job, head);
-        }
+        let log = &mut share.log;
+        let given = self.bench.readings(rt, log);
+        let Some(taken) = self
+            .bench
+            .take_if_cheap(rt, least, job, &given, &mut stage.found, log)
+        else {
+            return false;
+        };
+        share.count_snapshot(&taken);
+        stage.step = Step::took(0, taken, &mut stage.answer);
+        true
     }
 
     // Reads the head words that `words` doesn't have yet, up to that of slot 63, and appends them
@@ -194,7 +182,7 @@ impl<'a, B: Bench, G: Gate, W: Wire, M: TimeSource> Context<'a, B, G, W, M> {
         rt: &R,
         job: &Job,
         stage: &mut Stage,
-        share: &mut Share<B::Tallies, TrackLog<B::Book>>,
+        share: &mut ShareOf<B::Tallies, B::Book>,
     )
         ensures step { (number : ℕ) → IsStep (worker_view B.changes B.ended B.called B.logged M.is_time M.is_random G.passed W.called)
             number job.now ToRemove stage.new share.old share.new }
@@ -211,7 +199,7 @@ impl<'a, B: Bench, G: Gate, W: Wire, M: TimeSource> Context<'a, B, G, W, M> {
         rt: &R,
         job: &Job,
         stage: &mut Stage,
-        share: &mut Share<B::Tallies, TrackLog<B::Book>>,
+        share: &mut ShareOf<B::Tallies, B::Book>,
     )
         requires at { IsToTake stage.old }
         requires ready { IsReady job.now stage.old }
@@ -242,7 +230,7 @@ impl<'a, B: Bench, G: Gate, W: Wire, M: TimeSource> Context<'a, B, G, W, M> {
         number: u64,
         job: &Job,
         stage: &mut Stage,
-        share: &mut Share<B::Tallies, TrackLog<B::Book>>,
+        share: &mut ShareOf<B::Tallies, B::Book>,
     )
         requires at { IsToCommit stage.old }
         requires ready { IsReady job.now stage.old }
@@ -280,7 +268,7 @@ impl<'a, B: Bench, G: Gate, W: Wire, M: TimeSource> Context<'a, B, G, W, M> {
         rt: &R,
         job: &Job,
         stage: &mut Stage,
-        share: &mut Share<B::Tallies, TrackLog<B::Book>>,
+        share: &mut ShareOf<B::Tallies, B::Book>,
     )
         ensures step { (number : ℕ) → IsStep (worker_view B.changes B.ended B.called B.logged M.is_time M.is_random G.passed W.called)
             number job.now ToInstall stage.new share.old share.new }
@@ -307,7 +295,7 @@ impl<'a, B: Bench, G: Gate, W: Wire, M: TimeSource> Context<'a, B, G, W, M> {
         job: &Job,
         program: Verified,
         stage: &mut Stage,
-        share: &mut Share<B::Tallies, TrackLog<B::Book>>,
+        share: &mut ShareOf<B::Tallies, B::Book>,
     )
         requires accepted { IsAccepted (image_of job.now.ask) program }
         requires runs { IsRunnable program }
@@ -354,7 +342,7 @@ impl<'a, B: Bench, G: Gate, W: Wire, M: TimeSource> Context<'a, B, G, W, M> {
         &self,
         job: &Job,
         stage: &mut Stage,
-        share: &mut Share<B::Tallies, TrackLog<B::Book>>,
+        share: &mut ShareOf<B::Tallies, B::Book>,
     )
         ensures answer { stage.new ≡ ToAnswer Unavailable }
         ensures filed { HasFiled (LacksMemory job.now) share.old.log share.new.log }

@@ -11,8 +11,9 @@ ghost use Rattle.fc_workers.specs.Workers.{Share as Done};
 
 use crate::bench::Bench;
 use crate::context::{Context, Gate, TimeSource, Wire};
+use crate::job_message::JobMessage;
 use crate::scratch::Scratch;
-use crate::share::Share;
+use crate::share::{Share, ShareOf};
 use crate::track_log::TrackLog;
 use coap_msg::Emission;
 use fc_jobs::{Got, Jobs};
@@ -27,19 +28,27 @@ use std::sync::Wait;
 /// It has the worker's place at the channel, the worker's tallies and log, and the frame that the
 /// worker's programs run in.
 #[derive(Drop)]
-pub struct WorkerSeed<T: Drop, L: Drop> {
-    pub got: Got,
+pub struct WorkerSeed<T: Drop, L: Drop, M: Drop> {
+    pub got: Got<M>,
     pub tallies: T,
     pub log: L,
     pub frame: Frame,
 }
 
-impl<T: Drop, L: Drop> WorkerSeed<T, L> {
+/// The initial state of a worker whose calls are filed in the book with the name `J`.
+pub type SeedOf<T, J> = WorkerSeed<T, TrackLog<J>, JobMessage<J>>;
+
+impl<T: Drop, L: Drop, M: Drop> WorkerSeed<T, L, M> {
     /// Makes a worker's initial state, with a new frame for the worker's programs.
     ///
     /// # Errors
     /// Returns `AllocError` if memory for the frame can't be allocated.
-    pub fn new(alloc: Global, got: Got, tallies: T, log: L) -> Result<WorkerSeed<T, L>, AllocError>
+    pub fn new(
+        alloc: Global,
+        got: Got<M>,
+        tallies: T,
+        log: L,
+    ) -> Result<WorkerSeed<T, L, M>, AllocError>
         ensures got { IfOk result (λ s. s.got ≡ got) }
         ensures tallies { IfOk result (λ s. s.tallies ≡ tallies) }
         ensures log { IfOk result (λ s. s.log ≡ log) }
@@ -56,16 +65,17 @@ impl<T: Drop, L: Drop> WorkerSeed<T, L> {
 
 /// Runs jobs until the channel is closed and empty.
 ///
-/// Each job is run. If the job has a reply, the reply is sent and counted. Returns the worker's
+/// Each job comes with its track in the server's book, and this track becomes the first one of the
+/// log. Then the job is run. If it has a reply, the reply is sent and counted. Returns the worker's
 /// statistics. The worker has ended exactly the jobs that it received.
 pub fn worker<B: Bench, G: Gate, W: Wire, M: TimeSource, R: Wait>(
     rt: &R,
     context: &Context<'_, B, G, W, M>,
-    jobs: &Jobs,
-    seat: WorkerSeed<B::Tallies, TrackLog<B::Book>>,
-) -> Share<B::Tallies, TrackLog<B::Book>>
+    jobs: &Jobs<JobMessage<B::Book>>,
+    seat: SeedOf<B::Tallies, B::Book>,
+) -> ShareOf<B::Tallies, B::Book>
     requires { seat.got.channel ≡ jobs.now }
-    ensures { IsShareOf (worker_view B.changes B.ended B.called B.logged M.is_time M.is_random G.passed W.called) seat result }
+    ensures { IsShareOf B.Book.first_job (worker_view B.changes B.ended B.called B.logged M.is_time M.is_random G.passed W.called) seat result }
 {
     let WorkerSeed {
         got,
@@ -73,12 +83,14 @@ pub fn worker<B: Bench, G: Gate, W: Wire, M: TimeSource, R: Wait>(
         log,
         frame,
     } = seat;
+    log.attest_own();
     let mut share = Share::new(got, tallies, log);
     let mut scratch = Scratch::new(frame);
     for _ in rt.forever() {
-        let Some((number, job)) = jobs.next(rt, &mut share.got) else {
+        let Some((number, message)) = jobs.next(rt, &mut share.got) else {
             break;
         };
+        let job = share.log.take_from_message(context.bench.book(), message);
         context.work(rt, &mut scratch, number, &job, &mut share);
     }
     share
@@ -96,7 +108,7 @@ impl<'a, B: Bench, G: Gate, W: Wire, M: TimeSource> Context<'a, B, G, W, M> {
         scratch: &mut Scratch,
         number: u64,
         job: &Job,
-        share: &mut Share<B::Tallies, TrackLog<B::Book>>,
+        share: &mut ShareOf<B::Tallies, B::Book>,
     )
         ensures worked { IsReplied (worker_view B.changes B.ended B.called B.logged M.is_time M.is_random G.passed W.called)
             number job.now share.old share.new }
@@ -118,7 +130,7 @@ impl<'a, B: Bench, G: Gate, W: Wire, M: TimeSource> Context<'a, B, G, W, M> {
         scratch: &mut Scratch,
         number: u64,
         job: &Job,
-        share: &mut Share<B::Tallies, TrackLog<B::Book>>,
+        share: &mut ShareOf<B::Tallies, B::Book>,
     )
         requires asked { job.now.turn ≡ None }
         requires ready { IsReady job.now scratch.old.stage }
@@ -142,7 +154,7 @@ impl<'a, B: Bench, G: Gate, W: Wire, M: TimeSource> Context<'a, B, G, W, M> {
         scratch: &mut Scratch,
         number: u64,
         job: &Job,
-        share: &mut Share<B::Tallies, TrackLog<B::Book>>,
+        share: &mut ShareOf<B::Tallies, B::Book>,
     ) -> bool
         ensures worked { IsWorked (worker_view B.changes B.ended B.called B.logged M.is_time M.is_random G.passed W.called)
             number job.now share.old share.new (emission_if result scratch.new.reply) }
@@ -167,7 +179,7 @@ impl<'a, B: Bench, G: Gate, W: Wire, M: TimeSource> Context<'a, B, G, W, M> {
         scratch: &mut Scratch,
         number: u64,
         job: &Job,
-        share: &mut Share<B::Tallies, TrackLog<B::Book>>,
+        share: &mut ShareOf<B::Tallies, B::Book>,
     ) -> bool
         requires asked { job.now.turn ≡ None }
         ensures worked { IsRequestWorked (worker_view B.changes B.ended B.called B.logged M.is_time M.is_random G.passed W.called)
@@ -186,7 +198,7 @@ impl<'a, B: Bench, G: Gate, W: Wire, M: TimeSource> Context<'a, B, G, W, M> {
         rt: &R,
         scratch: &mut Scratch,
         job: &Job,
-        share: &mut Share<B::Tallies, TrackLog<B::Book>>,
+        share: &mut ShareOf<B::Tallies, B::Book>,
     ) -> bool
         requires { IsToAnswer job.now scratch.old.stage }
         ensures worked { (number : ℕ) (before : Done B.Tallies)
@@ -215,7 +227,7 @@ impl<'a, B: Bench, G: Gate, W: Wire, M: TimeSource> Context<'a, B, G, W, M> {
         number: u64,
         replies: bool,
         reply: &Emission,
-        share: &mut Share<B::Tallies, TrackLog<B::Book>>,
+        share: &mut ShareOf<B::Tallies, B::Book>,
     )
         requires { replies ≡ true → GoesOut reply.now }
         ensures finished { IsFinished (worker_view B.changes B.ended B.called B.logged M.is_time M.is_random G.passed W.called)

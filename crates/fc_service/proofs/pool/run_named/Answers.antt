@@ -1,7 +1,8 @@
 use Rattle.std.proofs.Common.{◌≡◌, ◌+◌, arith, subst, sym}
 use Rattle.std.specs.Prelude.{vec_len}
 use Rattle.fc_server.specs.declared.server.Begin.{Begin}
-use Rattle.fc_workers.specs.OneOrder.{HaveOneOrder, logs_of}
+use Rattle.fc_workers.specs.LegalOrder.{HaveLegalOrder}
+use Rattle.fc_workers.specs.OneOrder.{logs_of}
 use Rattle.fc_service.specs.Pooled.{IsFed, offload_where, locked_view}
 use Rattle.fc_service.proofs.pool.run_named.Goals as goal
 
@@ -11,13 +12,15 @@ returns-clause-fed g c =
     let Drives = g.F.Driver.drives _ in
     let ended = c.in_ok-ended.ended in
     let offload = offload_where c.close.result.has_workers c.args.pool.now.offload in
-    let has = subst (λ b. IsFed worker_view Drives (offload_where b c.args.pool.now.offload) c.args.driver ended.given ended.own ended.shares.items) (sym c.close.ensures.workers) c.in_ok-ended.ensures.fed in
+    let has = subst (λ b. IsFed worker_view g.B.Books.first_job Drives (offload_where b c.args.pool.now.offload) c.args.driver ended.given ended.own ended.shares.items) (sym c.close.ensures.workers) c.in_ok-ended.ensures.fed in
     let threads : 9 + (vec_len ended.shares + 1) ≡ g.B.Books.first_job = omega (arith, c.in_ok-ended.ensures.shares, c.in_ok-server.ensures.count, c.requires.book_threads, c.requires.threads) in
+    let keys : g.B.Books.first_job ≡ 9 + (c.args.pool.now.workers + 1) = omega (arith, c.requires.book_threads, c.requires.threads) in
     record {
       own = ended.own;
       shares = ended.shares.items;
-      fed = subst (λ x. IsFed worker_view Drives offload c.args.driver x ended.own ended.shares.items) (sym c.close.ensures.given) has;
+      fed = subst (λ n. IsFed worker_view n Drives offload c.args.driver c.close.result.given ended.own ended.shares.items) keys
+          (subst (λ x. IsFed worker_view g.B.Books.first_job Drives offload c.args.driver x ended.own ended.shares.items) (sym c.close.ensures.given) has);
       count = omega (arith, c.in_ok-ended.ensures.shares, c.in_ok-server.ensures.count);
       counted = c.close.ensures.replies;
-      order = subst (λ (b : Begin). HaveOneOrder b (logs_of ended.shares.items ended.own) c.close.result.closed) c.requires.book_begin (c.close.ensures.order threads);
+      order = subst (λ (b : Begin). HaveLegalOrder b (logs_of ended.shares.items ended.own) c.close.result.closed) c.requires.book_begin (c.close.ensures.order threads c.in_ok-ended.ensures.right c.in_ok-ended.ensures.order);
     }

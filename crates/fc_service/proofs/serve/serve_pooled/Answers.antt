@@ -2,7 +2,8 @@ use Rattle.std.proofs.Common.{◌∙◌, ap, subst}
 use Rattle.fc_host.specs.Clocks.{AreReadAt}
 use Rattle.fc_server.specs.declared.server.Begin.{Begin}
 use Rattle.fc_workers.specs.Fronts.{beginning}
-use Rattle.fc_workers.specs.OneOrder.{HaveOneOrder, logs_of}
+use Rattle.fc_workers.specs.LegalOrder.{HaveLegalOrder}
+use Rattle.fc_workers.specs.OneOrder.{logs_of}
 use Rattle.fc_workers.specs.Workers.{Share}
 use Rattle.fc_service.specs.Counting.{both_replies, replies_by, replies_of}
 use Rattle.fc_service.specs.Pooled.{locked_view}
@@ -31,6 +32,6 @@ returns g c =
       worked = w.fed.shares_are;
       count = w.count;
       closed = closed;
-      order = subst (λ (s : Share _). HaveOneOrder c.begin_by.result (logs_of w.shares s) closed) fed.own_is w.order;
+      order = subst (λ (s : Share _). HaveLegalOrder c.begin_by.result (logs_of w.shares s) closed) fed.own_is w.order;
       all = c.plus.ensures ∙ ap (both_replies at_once) (w.counted ∙ ap (λ own. both_replies (replies_of w.shares) (replies_by own)) fed.own_is);
     })

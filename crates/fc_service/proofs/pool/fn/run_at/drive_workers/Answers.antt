@@ -1,18 +1,23 @@
 use Rattle.std.proofs.Common.{◌∙◌}
+use Rattle.fc_workers.specs.Producing.{with_new_track}
 use Rattle.fc_workers.specs.Shares.{new_share}
+use Rattle.fc_workers.proofs.Producing.{new_with}
 use Rattle.fc_service.proofs.pool.fn.run_at.drive_workers.Goals as goal
 
 pub returns : goal.returns
-returns g c = record {
-  first = record { offload = c.new.result.offload; done = c.new.result.done };
-  last = _;
-  new = record {
-    offload_is = c.new.ensures.offload ∙ c.offload_where-offload.ensures;
-    tallies = c.captures.own.tallies;
-    log = c.captures.own.log;
-    new_log = c.requires.new_log;
-    done = c.new.ensures.done ∙ (λ i. record { sent = c.requires.sent i; share = new_share (c.requires.got i) c.captures.own.tallies c.captures.own.log });
-  };
-  drives = c.drive-ingress.ensures;
-  own_is = c.close.ensures;
-}
+returns g c = (
+  record {
+    first = record { offload = c.new.result.offload; done = c.new.result.done };
+    last = _;
+    new = record {
+      offload_is = c.new.ensures.offload ∙ c.offload_where-offload.ensures;
+      tallies = c.captures.own.tallies;
+      log = with_new_track c.captures.keys c.captures.own.log;
+      new_log = new_with c.captures.keys c.captures.own.log c.requires.new_log;
+      done = c.new.ensures.done ∙ (λ i. record { sent = c.requires.sent i; share = new_share (c.requires.got i) c.captures.own.tallies (with_new_track c.captures.keys c.captures.own.log) });
+    };
+    drives = c.drive-ingress.ensures;
+    own_is = c.close.ensures.share;
+  },
+  c.close.ensures.order,
+)

@@ -1,0 +1,58 @@
+use Rattle.std.proofs.Common.{◌∙◌, ◌+◌, ap, inl, inr, refl, subst, sym}
+use Rattle.fc_workers.specs.Answers.{saturated}
+use Rattle.fc_workers.specs.Called.{worker_view}
+use Rattle.fc_workers.specs.Dispatch.{IsSentOrWorked, MayGo, logged_at, unsent}
+use Rattle.fc_workers.specs.Workers.{Share}
+use Rattle.fc_workers.specs.declared.dispatcher.Offload.{Offload}
+use Rattle.fc_workers.specs.declared.dispatcher.Offload.TheVariants.{Expensive}
+use Rattle.fc_workers.proofs.Handled.{still_read}
+use Rattle.fc_workers.proofs.Filed.{bench_files}
+use Rattle.fc_workers.proofs.Producing.{worked_here}
+use Rattle.fc_workers.proofs.dispatcher_state.DispatcherState.dispatch_run.Goals as goal
+
+pub work_begun-requires-clause-ready : goal.work_begun-requires-clause-ready
+work_begun-requires-clause-ready g c = (c.if-begun.ensures.begun refl unsent).ready
+
+-- the job that was begun is run from the stage that its snapshot led to.
+pub returns-then-begun-clause-dispatched : goal.returns-then-begun-clause-dispatched
+returns-then-begun-clause-dispatched g c =
+    let share = c.args.self.now.done.share in
+    inr (record {
+      sent = refl;
+      log = share.log;
+      stays = inl refl;
+      unfiled = record { who = refl; tracks = refl };
+      worked = c.work_begun.ensures.worked share (c.if-begun.ensures.begun refl unsent);
+      ends = c.work_begun.ensures.ended ∙ ap (λ t. saturated (g.B.Bench.ended t + 1)) c.if-begun.ensures.tallies;
+    })
+
+-- the job of an expensive program may go as it arrived: only readings were returned for it.
+pub returns-else-begun-clause-dispatched : goal.returns-else-begun-clause-dispatched
+returns-else-begun-clause-dispatched g c =
+    let s = (worker_view g.B.Bench.changes g.B.Bench.ended g.B.Bench.called g.B.Bench.logged
+    g.M.TimeSource.is_time g.M.TimeSource.is_random g.G.Gate.passed g.W.Wire.called) in
+    let job = c.args.self.now.job in
+    let before = c.args.self.now.done in
+    let share = c.begin_if_cheap-begun.new.share in
+    let new = c.send_or_work.new.self.done in
+    let found = c.if-begun.ensures.expensive refl in
+    let may = subst (λ (o : Offload). MayGo s o job before.share.log share.log) (sym c.requires.least) (inr found.0) in
+    let dispatched = c.send_or_work.ensures.dispatched before.share.log may in
+    subst (λ (p : Share _). IsSentOrWorked s (Expensive c.args.least) job (logged_at before.share.log (record before { share = p })) new) found.1
+    (subst (λ (o : Offload). IsSentOrWorked s o job (logged_at before.share.log (record before { share = share })) new) c.requires.least dispatched)
+
+pub returns-then-begun-clause-right : goal.returns-then-begun-clause-right
+returns-then-begun-clause-right g c =
+    let s = (worker_view g.B.Bench.changes g.B.Bench.ended g.B.Bench.called g.B.Bench.logged
+    g.M.TimeSource.is_time g.M.TimeSource.is_random g.G.Gate.passed g.W.Wire.called) in
+    let share = c.args.self.now.done.share in
+    worked_here g.B.Book.ServerName.first_job c.args.self.now.keys c.args.self.now.job s
+    (bench_files g.B.Bench.changes g.B.Bench.ended g.B.Bench.called g.B.Bench.logged g.M.TimeSource.is_time g.M.TimeSource.is_random g.G.Gate.passed g.W.Wire.called g.B.Bench.files)
+    unsent share c.work_begun.new.share c.requires.produced (c.work_begun.ensures.worked share (c.if-begun.ensures.begun refl unsent))
+
+pub send_or_work-requires : goal.send_or_work-requires
+send_or_work-requires g c =
+    let s = (worker_view g.B.Bench.changes g.B.Bench.ended g.B.Bench.called g.B.Bench.logged
+    g.M.TimeSource.is_time g.M.TimeSource.is_random g.G.Gate.passed g.W.Wire.called) in
+    let found = c.if-begun.ensures.expensive refl in
+    record { produced = still_read g.B.Book.ServerName.first_job c.args.self.now.keys s g.B.Bench.files c.args.self.now.job found.0.readings c.args.self.now.done.share.log c.begin_if_cheap-begun.new.share.log found.0.given c.requires.produced }

@@ -1,0 +1,31 @@
+-- Messages to workers: each has a job and the job's track.
+use Rattle.std.specs.Prelude.{◌≡◌, ℕ, ◌+◌, ◌-◌, ◌≤◌, [], ◌∷◌, Some}
+use Rattle.fc_book.specs.declared.view.BookView.{BookView}
+use Rattle.fc_book.specs.Tracks.{merged_with, own_view}
+use Rattle.fc_registry.specs.declared.job.Job.{Job}
+use Rattle.fc_linear.specs.Operations.{job_brought}
+use Rattle.fc_filed.specs.declared.entry.FiledEntry.{FiledEntry}
+use Rattle.fc_workers.specs.Logs.{TrackedLog}
+
+-- a job, and the tracks of its message.
+pub record TrackedJob : Type 0 where
+  pub job : Job
+  pub tracks : BookView FiledEntry
+
+-- the key of the track of the first job that a server produces. `first_job` is the first key after
+-- those of the threads' own tracks. The keys from `first_job` to this one belong to empty tracks,
+-- one for each thread.
+abbrev pub first_brought : ℕ → ℕ
+first_brought first_job = first_job + (first_job - 9)
+
+-- the message's only track is the job's. It has one entry: the call that produced the job.
+pub record IsNewJob (first_job : ℕ) (m : TrackedJob) : Type 0 where
+  pub key : ℕ
+  pub entry : FiledEntry
+  pub above : first_brought first_job ≤ key
+  pub produced : job_brought entry.operation ≡ Some m.job
+  pub tracks : m.tracks ≡ own_view key (entry ∷ [])
+
+-- the log after these tracks are moved to it: they are first.
+abbrev pub with_tracks : BookView FiledEntry → TrackedLog → TrackedLog
+with_tracks v log = record log { tracks = merged_with log.tracks v }

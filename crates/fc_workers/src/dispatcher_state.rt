@@ -1,0 +1,488 @@
+//! The state of a dispatcher, and how it dispatches a job.
+ghost use Rattle.std.specs.Prelude.{◌≡◌, ◌+◌, ◌<◌, true, length, MatchBool};
+ghost use Rattle.fc_workers.specs.Answers.{IsSomeIdle, IsSomeTick, saturated};
+ghost use Rattle.fc_calls.specs.Logged.{AdvancesFront, AdvancesShard};
+ghost use Rattle.fc_workers.specs.Called.{CountsObservers, LeavesUnquiet, LooksAhead, ReadsGauges, worker_view};
+ghost use Rattle.fc_workers.specs.Dispatch.{AreSignalled, HasBegunNext, HasCalled, IsAdvancedOrSkipped, IsDispatched, IsExpensive, IsSentOrWorked, IsTakenIn, IsTimerFired, IsTurnAsked, MayGo, job_sent, logged_at, unsent};
+ghost use Rattle.fc_workers.specs.Logs.{TrackedLog as Log};
+ghost use Rattle.fc_workers.specs.Messages.{first_brought};
+ghost use Rattle.fc_workers.specs.OneOrder.{IsNewLog};
+ghost use Rattle.fc_workers.specs.Producing.{HasDispatched, HasProduced, MayProduce, with_new_track};
+ghost use Rattle.fc_workers.specs.declared.dispatcher.Offload.TheVariants.{Expensive};
+ghost use Rattle.fc_workers.specs.Shares.{new_share};
+ghost use Rattle.fc_workers.specs.Steps.{IsPlainRun};
+ghost use Rattle.fc_workers.specs.Work.{IsReplied};
+
+use crate::bench::Bench;
+use crate::context::{Context, Gate, TimeSource, Wire};
+use crate::dispatcher::{Dispatched, DispatchedOf, Offload, UNSENT};
+use crate::job_keys::JobKeys;
+use crate::job_message::JobMessage;
+use crate::scratch::Scratch;
+use crate::share::{Share, ShareOf};
+use crate::track_log::TrackLog;
+use crate::worker_seed::{SeedOf, WorkerSeed};
+use coap_msg::{Emission, Endpoint};
+use fc_core::front::blank_job;
+use fc_core::heads::{is_present, serial_in};
+use fc_core::{FrontGauges, Handled};
+use fc_jobs::{Jobs, Sent};
+use fc_observe::Ticked;
+use fc_registry::{Ask, Job, PLACES, SHARDS, SlotNumber};
+use std::mem;
+use std::sync::Wait;
+
+/// The state of a dispatcher, at and between its calls.
+///
+/// Between two calls the first track of its log is that of its next job, without an entry.
+#[derive(Drop)]
+pub(crate) struct DispatcherState<'a, B: Bench, G: Gate, W: Wire, M: TimeSource> {
+    context: &'a Context<'a, B, G, W, M>,
+    jobs: &'a Jobs<JobMessage<B::Book>>,
+    pub(crate) offload: Offload,
+    pub(crate) keys: JobKeys<B::Book>,
+    job: Job,
+    scratch: Scratch,
+    pub(crate) done: DispatchedOf<B::Tallies, B::Book>,
+    ghost channel: { done.sent.channel ≡ jobs.now },
+}
+
+impl<'a, B: Bench, G: Gate, W: Wire, M: TimeSource> DispatcherState<'a, B, G, W, M> {
+    // Makes the state of a dispatcher that has sent and run no job. The track of its first job
+    // begins.
+    pub(crate) fn new(
+        context: &'a Context<'a, B, G, W, M>,
+        jobs: &'a Jobs<JobMessage<B::Book>>,
+        sent: Sent<JobMessage<B::Book>>,
+        seat: SeedOf<B::Tallies, B::Book>,
+        mut keys: JobKeys<B::Book>,
+        offload: Offload,
+    ) -> DispatcherState<'a, B, G, W, M>
+        requires channel { sent.channel ≡ jobs.now }
+        requires new_log { IsNewLog seat.log }
+        requires keys { keys ≡ first_brought B.Book.first_job }
+        ensures done { result.done ≡ record { sent = sent; share = new_share seat.got seat.tallies (with_new_track keys seat.log) } }
+        ensures offload { result.offload ≡ offload }
+        ensures ready { MayProduce B.Book.first_job result.keys result.done.share.log }
+    {
+        let WorkerSeed {
+            got,
+            tallies,
+            mut log,
+            frame,
+        } = seat;
+        log.attest_own();
+        log.begin_job(context.bench.book(), &mut keys);
+        DispatcherState {
+            context,
+            jobs,
+            offload,
+            keys,
+            job: blank_job(),
+            scratch: Scratch::new(frame),
+            done: Dispatched {
+                sent,
+                share: Share::new(got, tallies, log),
+            },
+        }
+    }
+
+    // Closes the channel, and returns the dispatcher's own statistics.
+    pub(crate) fn close(self) -> ShareOf<B::Tallies, B::Book>
+        ensures { result ≡ self.entry.done.share }
+    {
+        let DispatcherState { done, .. } = self;
+        let Dispatched { share, .. } = done;
+        share
+    }
+
+    // Handles a datagram, at a time in milliseconds.
+    //
+    // A response is written over `reply`, a job is dispatched, and a signal goes to each shard.
+    // Returns which of these the datagram led to, if any.
+    pub(crate) fn handle<R: Wait>(
+        &mut self,
+        rt: &R,
+        now: u64,
+        from: Endpoint,
+        bytes: &[u8],
+        reply: &mut Emission,
+    ) -> Handled
+        requires ready { MayProduce B.Book.first_job self.old.keys self.old.done.share.log }
+        ensures taken_in { IsTakenIn (worker_view B.changes B.ended B.called B.logged M.is_time M.is_random G.passed W.called)
+            self.old.offload now from bytes.now result reply.new self.old.done self.new.done }
+        ensures offload { self.new.offload ≡ self.old.offload }
+        ensures ready { MayProduce B.Book.first_job self.new.keys self.new.done.share.log }
+    {
+        let log = &mut self.done.share.log;
+        let handled = self
+            .context
+            .bench
+            .handle(rt, now, from, bytes, &mut self.job, reply, log);
+        match handled {
+            Handled::Nothing => {}
+            Handled::Reply => {}
+            Handled::Job => self.dispatch(rt),
+            Handled::Signal { mid, reset } => self.signal(rt, from, mid, reset),
+        }
+        handled
+    }
+
+    // Advances the front to a time in milliseconds.
+    pub(crate) fn tick<R: Wait>(&mut self, rt: &R, now: u64)
+        requires ready { MayProduce B.Book.first_job self.old.keys self.old.done.share.log }
+        ensures logged { B.logged (AdvancesFront now) self.old.done.share.log self.new.done.share.log }
+        ensures kept { HasCalled self.old.done self.new.done }
+        ensures offload { self.new.offload ≡ self.old.offload }
+        ensures ready { MayProduce B.Book.first_job self.new.keys self.new.done.share.log }
+    {
+        let log = &mut self.done.share.log;
+        self.context.bench.tick(rt, now, log);
+    }
+
+    // Fires the timer of a slot at a time in milliseconds, and dispatches its job.
+    //
+    // Returns the number of the job if it was sent to the workers. Returns `None` if the job has
+    // ended here.
+    pub(crate) fn fire<R: Wait>(&mut self, rt: &R, slot: SlotNumber, now: u64) -> Option<u64>
+        requires ready { MayProduce B.Book.first_job self.old.keys self.old.done.share.log }
+        ensures fired { IsTimerFired (worker_view B.changes B.ended B.called B.logged M.is_time M.is_random G.passed W.called)
+            self.old.offload slot now result self.old.done self.new.done }
+        ensures offload { self.new.offload ≡ self.old.offload }
+        ensures ready { MayProduce B.Book.first_job self.new.keys self.new.done.share.log }
+    {
+        let number = self.done.sent.count();
+        let log = &mut self.done.share.log;
+        self.context.bench.fire(rt, slot, now, &mut self.job, log);
+        self.dispatch(rt);
+        if self.done.sent.count() > number {
+            Some(number)
+        } else {
+            None
+        }
+    }
+
+    // Advances a shard, 0 to 7, to a time in milliseconds.
+    //
+    // Returns a message to retransmit, that an observer was removed, or neither.
+    pub(crate) fn resend<R: Wait>(&mut self, rt: &R, shard: u8, now: u64) -> Ticked
+        requires ready { MayProduce B.Book.first_job self.old.keys self.old.done.share.log }
+        ensures ticked { IsSomeTick now result }
+        ensures logged { B.logged (AdvancesShard shard now result) self.old.done.share.log self.new.done.share.log }
+        ensures kept { HasCalled self.old.done self.new.done }
+        ensures offload { self.new.offload ≡ self.old.offload }
+        ensures ready { MayProduce B.Book.first_job self.new.keys self.new.done.share.log }
+    {
+        let log = &mut self.done.share.log;
+        self.context.bench.tick_shard(rt, shard, now, log)
+    }
+
+    // Advances a shard, 0 to 7, to a time in milliseconds if it is idle then.
+    //
+    // It is idle if no notification has timed out and no observer has a pending one. A shard that
+    // is known to be idle isn't called. Returns whether the shard is idle. If it isn't, nothing
+    // changes.
+    pub(crate) fn advance_if_idle<R: Wait>(&mut self, rt: &R, shard: u8, now: u64) -> bool
+        requires ready { MayProduce B.Book.first_job self.old.keys self.old.done.share.log }
+        ensures idle { IsSomeIdle now result }
+        ensures passed { MatchBool result
+            (IsAdvancedOrSkipped (worker_view B.changes B.ended B.called B.logged M.is_time M.is_random G.passed W.called) shard now self.old.done self.new.done)
+            (B.called (LeavesUnquiet shard now) × (self.new.done ≡ self.old.done)) }
+        ensures offload { self.new.offload ≡ self.old.offload }
+        ensures ready { MayProduce B.Book.first_job self.new.keys self.new.done.share.log }
+    {
+        let bench = self.context.bench;
+        let log = &mut self.done.share.log;
+        bench.is_known_idle(shard, now, log) || bench.advance_if_idle(rt, shard, now, log)
+    }
+
+    // Returns a time before which a shard, 0 to 7, is idle unless the shard is called.
+    //
+    // It bounds the wait for the next datagram. Another thread may call the shard at any time. The
+    // clause says that the bench returned this time; its meaning for a server is `TellsIdleUntil`.
+    pub(crate) fn idle_until<R: Wait>(&self, rt: &R, shard: u8) -> u64
+        ensures { B.called (LooksAhead shard result) }
+    {
+        self.context.bench.idle_until(rt, shard)
+    }
+
+    // Returns how many exchanges and transfers the front holds at `now`, and their limits.
+    //
+    // `now` is in milliseconds. See [`Bench::gauges`].
+    pub(crate) fn gauges<R: Wait>(&self, rt: &R, now: u64) -> FrontGauges
+        ensures { B.called (ReadsGauges now result) }
+    {
+        self.context.bench.gauges(rt, now)
+    }
+
+    // Returns how many observers each slot of a shard, 0 to 7, has, by its place in the shard.
+    //
+    // See [`Bench::observer_counts`].
+    pub(crate) fn observer_counts<R: Wait>(&self, rt: &R, shard: u8) -> [u8; PLACES]
+        ensures { B.called (CountsObservers shard result) }
+    {
+        self.context.bench.observer_counts(rt, shard)
+    }
+
+    // Returns how many jobs were sent to the workers.
+    pub(crate) fn offloaded(&self) -> u64
+        ensures { result ≡ length self.now.done.sent.sent }
+    {
+        self.done.sent.count()
+    }
+
+    // Asks a shard, 0 to 7, for its next lease, and dispatches the lease's job.
+    //
+    // The lease is that of the first observer with a pending notification at a time in
+    // milliseconds. Returns whether there was such an observer.
+    pub(crate) fn notify<R: Wait>(&mut self, rt: &R, shard: u8, now: u64) -> bool
+        requires ready { MayProduce B.Book.first_job self.old.keys self.old.done.share.log }
+        ensures asked { IsTurnAsked (worker_view B.changes B.ended B.called B.logged M.is_time M.is_random G.passed W.called)
+            self.old.offload shard now result self.old.done self.new.done }
+        ensures offload { self.new.offload ≡ self.old.offload }
+        ensures ready { MayProduce B.Book.first_job self.new.keys self.new.done.share.log }
+    {
+        let log = &mut self.done.share.log;
+        let given = self
+            .context
+            .bench
+            .next_due(rt, shard, now, &mut self.job, log);
+        if given {
+            self.dispatch(rt);
+        }
+        given
+    }
+
+    // Sends the dispatcher's job to the workers, if the policy allows that, or runs the job here.
+    // The policy may depend on the cost of a run. Then a request for a run without ETags is priced
+    // by its first snapshot, and any other run by the receipt of its slot. The track of the next
+    // job begins last.
+    fn dispatch<R: Wait>(&mut self, rt: &R)
+        requires produced { HasProduced B.Book.first_job self.old.keys self.old.job self.old.done.share.log }
+        ensures dispatched { IsDispatched (worker_view B.changes B.ended B.called B.logged M.is_time M.is_random G.passed W.called)
+            self.old.offload self.old.job self.old.done self.new.done }
+        ensures offload { self.new.offload ≡ self.old.offload }
+        ensures ready { MayProduce B.Book.first_job self.new.keys self.new.done.share.log }
+    {
+        self.dispatch_job(rt);
+        self.begin_next();
+    }
+
+    // Begins the track of the next job.
+    fn begin_next(&mut self)
+        requires dispatched { HasDispatched B.Book.first_job self.old.keys self.old.done.share.log }
+        ensures begun { HasBegunNext self.old.done self.new.done }
+        ensures offload { self.new.offload ≡ self.old.offload }
+        ensures ready { MayProduce B.Book.first_job self.new.keys self.new.done.share.log }
+    {
+        let log = &mut self.done.share.log;
+        log.begin_job(self.context.bench.book(), &mut self.keys);
+    }
+
+    // Sends the dispatcher's job to the workers, or runs it here. See
+    // [`DispatcherState::dispatch`].
+    fn dispatch_job<R: Wait>(&mut self, rt: &R)
+        requires produced { HasProduced B.Book.first_job self.old.keys self.old.job self.old.done.share.log }
+        ensures dispatched { IsSentOrWorked (worker_view B.changes B.ended B.called B.logged M.is_time M.is_random G.passed W.called)
+            self.old.offload self.old.job self.old.done self.new.done }
+        ensures offload { self.new.offload ≡ self.old.offload }
+        ensures right { HasDispatched B.Book.first_job self.new.keys self.new.done.share.log }
+    {
+        match self.offload {
+            Offload::Expensive(least) if is_plain_run(&self.job) && self.jobs.is_served() => {
+                self.dispatch_run(rt, least);
+            }
+            _ => self.dispatch_whole(rt),
+        }
+    }
+
+    // Sends the job to the workers, if the policy allows it and it can be sent; otherwise runs it
+    // here.
+    fn dispatch_whole<R: Wait>(&mut self, rt: &R)
+        requires produced { HasProduced B.Book.first_job self.old.keys self.old.job self.old.done.share.log }
+        ensures dispatched { IsSentOrWorked (worker_view B.changes B.ended B.called B.logged M.is_time M.is_random G.passed W.called)
+            self.old.offload self.old.job self.old.done self.new.done }
+        ensures offload { self.new.offload ≡ self.old.offload }
+        ensures right { HasDispatched B.Book.first_job self.new.keys self.new.done.share.log }
+    {
+        if self.may_go(rt) {
+            self.send_or_work(rt);
+        } else {
+            self.work(rt);
+        }
+    }
+
+    // Takes the first snapshot of a request for a run without ETags, and runs the job from there.
+    // If the slot's program may take `least` instructions or more, no snapshot is taken, and the
+    // job is sent to the workers. If it can't be sent, it is run here from its beginning.
+    fn dispatch_run<R: Wait>(&mut self, rt: &R, least: u32)
+        requires plain { IsPlainRun self.old.job }
+        requires least { self.old.offload ≡ Expensive least }
+        requires produced { HasProduced B.Book.first_job self.old.keys self.old.job self.old.done.share.log }
+        ensures dispatched { IsSentOrWorked (worker_view B.changes B.ended B.called B.logged M.is_time M.is_random G.passed W.called)
+            (Expensive least) self.old.job self.old.done self.new.done }
+        ensures offload { self.new.offload ≡ self.old.offload }
+        ensures right { HasDispatched B.Book.first_job self.new.keys self.new.done.share.log }
+    {
+        let context = self.context;
+        let share = &mut self.done.share;
+        let begun = context.begin_if_cheap(rt, least, &mut self.scratch, &self.job, share);
+        if begun {
+            context.work_begun(rt, &mut self.scratch, UNSENT, &self.job, share);
+        } else {
+            self.send_or_work(rt);
+        }
+    }
+
+    // Sends a job that may go to the workers. If the channel returns it, runs it here. `log` is the
+    // dispatcher's log when the job arrived.
+    fn send_or_work<R: Wait>(&mut self, rt: &R)
+        requires produced { HasProduced B.Book.first_job self.old.keys self.old.job self.old.done.share.log }
+        ensures dispatched { (log : Log)
+            → MayGo (worker_view B.changes B.ended B.called B.logged M.is_time M.is_random G.passed W.called) self.old.offload self.old.job log self.old.done.share.log
+            → IsSentOrWorked (worker_view B.changes B.ended B.called B.logged M.is_time M.is_random G.passed W.called)
+            self.old.offload self.old.job (logged_at log self.old.done) self.new.done }
+        ensures offload { self.new.offload ≡ self.old.offload }
+        ensures right { HasDispatched B.Book.first_job self.new.keys self.new.done.share.log }
+    {
+        let sent = self.send(rt);
+        if !sent {
+            self.work(rt);
+        }
+    }
+
+    // Sends the job to the workers, with its track. If the channel returns it, keeps both and
+    // returns `false`.
+    fn send<R: Wait>(&mut self, rt: &R) -> bool
+        requires produced { HasProduced B.Book.first_job self.old.keys self.old.job self.old.done.share.log }
+        ensures sent { MatchBool result
+            (self.new.done ≡ job_sent self.old.job self.old.done)
+            ((self.new.done ≡ self.old.done) × (self.new.job ≡ self.old.job)) }
+        ensures right { MatchBool result
+            (HasDispatched B.Book.first_job self.new.keys self.new.done.share.log)
+            (HasProduced B.Book.first_job self.new.keys self.old.job self.new.done.share.log) }
+        ensures offload { self.new.offload ≡ self.old.offload }
+    {
+        let book = self.context.bench.book();
+        let job = mem::replace(&mut self.job, blank_job());
+        let message = self.done.share.log.move_to_message(book, job);
+        match self.jobs.send(rt, message, &mut self.done.sent) {
+            None => true,
+            Some(back) => {
+                self.job = self.done.share.log.take_from_message(book, back);
+                false
+            }
+        }
+    }
+
+    // Runs the dispatcher's job here, and ends it.
+    fn work<R: Wait>(&mut self, rt: &R)
+        requires produced { HasProduced B.Book.first_job self.old.keys self.old.job self.old.done.share.log }
+        ensures sent { self.new.done.sent ≡ self.old.done.sent }
+        ensures worked { IsReplied (worker_view B.changes B.ended B.called B.logged M.is_time M.is_random G.passed W.called)
+            unsent self.old.job self.old.done.share self.new.done.share }
+        ensures ends { B.ended self.new.done.share.tallies ≡ saturated (B.ended self.old.done.share.tallies + 1) }
+        ensures offload { self.new.offload ≡ self.old.offload }
+        ensures right { HasDispatched B.Book.first_job self.new.keys self.new.done.share.log }
+    {
+        let done = &mut self.done;
+        self.context
+            .work(rt, &mut self.scratch, UNSENT, &self.job, &mut done.share);
+    }
+
+    // Returns whether the policy lets the job go to the workers as it arrived. `Expensive` reads
+    // the receipt of a run's slot for that. Returns `false` if no worker has asked for a job yet;
+    // with `Every` it first waits until one has, or none ever will.
+    fn may_go<R: Wait>(&mut self, rt: &R) -> bool
+        ensures may { result ≡ true → MayGo (worker_view B.changes B.ended B.called B.logged M.is_time M.is_random G.passed W.called)
+            self.old.offload self.old.job self.old.done.share.log self.old.done.share.log }
+        ensures done { self.new.done ≡ self.old.done }
+        ensures job { self.new.job ≡ self.old.job }
+        ensures keys { self.new.keys ≡ self.old.keys }
+        ensures offload { self.new.offload ≡ self.old.offload }
+    {
+        match self.offload {
+            Offload::Every => self.jobs.await_worker(rt),
+            Offload::Expensive(least) => {
+                let log = &mut self.done.share.log;
+                self.jobs.is_served() && self.context.is_expensive(rt, least, &self.job, log)
+            }
+            Offload::Never => false,
+        }
+    }
+
+    // Passes an Acknowledgement, or a Reset message if `reset`, to each shard.
+    fn signal<R: Wait>(&mut self, rt: &R, from: Endpoint, id: u16, reset: bool)
+        requires ready { MayProduce B.Book.first_job self.old.keys self.old.done.share.log }
+        ensures signalled { AreSignalled (worker_view B.changes B.ended B.called B.logged M.is_time M.is_random G.passed W.called)
+            8 from id reset self.old.done.share.log self.new.done.share.log }
+        ensures kept { HasCalled self.old.done self.new.done }
+        ensures offload { self.new.offload ≡ self.old.offload }
+        ensures ready { MayProduce B.Book.first_job self.new.keys self.new.done.share.log }
+    {
+        let log = &mut self.done.share.log;
+        self.context.signal(rt, from, id, reset, log);
+    }
+}
+
+impl<'a, B: Bench, G: Gate, W: Wire, M: TimeSource> Context<'a, B, G, W, M> {
+    // Returns whether a job is a run without a valid ETag, and its slot's program may take `least`
+    // instructions or more. Reads the slot's receipt if the job is such a run; an empty slot has
+    // none. Nothing is filed.
+    fn is_expensive<R: Wait>(
+        &self,
+        rt: &R,
+        least: u32,
+        job: &Job,
+        log: &mut TrackLog<B::Book>,
+    ) -> bool
+        ensures expensive { result ≡ true → IsExpensive (worker_view B.changes B.ended B.called B.logged M.is_time M.is_random G.passed W.called)
+            least job.now }
+        ensures kept { log.new ≡ log.old }
+    {
+        match &job.ask {
+            Ask::Run(_) if !self.is_valid(job, log) => match self.bench.read_receipt(rt, job) {
+                Some(receipt) => receipt.cost >= least,
+                None => false,
+            },
+            _ => false,
+        }
+    }
+
+    // Returns whether the head word of a job's slot has the serial of one of the job's ETags. Such
+    // a job needs no lock and no run unless the slot changes. Nothing is filed: when the job is
+    // run, it looks at the word again.
+    fn is_valid(&self, job: &Job, log: &mut TrackLog<B::Book>) -> bool
+        ensures { log.new ≡ log.old }
+    {
+        if job.etags.is_empty() {
+            return false;
+        }
+        let word = self.bench.read_word(job.origin.slot, log);
+        is_present(word) && job.etags.as_slice().contains(&serial_in(word))
+    }
+
+    // Passes an Acknowledgement, or a Reset message if `reset`, to each shard, once.
+    fn signal<R: Wait>(
+        &self,
+        rt: &R,
+        from: Endpoint,
+        id: u16,
+        reset: bool,
+        log: &mut TrackLog<B::Book>,
+    )
+        ensures { AreSignalled (worker_view B.changes B.ended B.called B.logged M.is_time M.is_random G.passed W.called)
+            8 from id reset log.old log.new }
+    {
+        'shards: for shard in 0..SHARDS {
+            self.bench.signal(rt, shard, from, id, reset, log);
+        }
+    }
+}
+
+// Returns whether a job is a request for a run, without ETags. Its first step is a snapshot.
+fn is_plain_run(job: &Job) -> bool
+    ensures { result ≡ true → IsPlainRun job.now }
+{
+    matches!(job.ask, Ask::Run(_)) && job.turn.is_none() && job.etags.is_empty()
+}
