@@ -11,6 +11,7 @@ use fc_filed::NewServerBook;
 use fc_help::{Method, NO_READINGS, Request};
 use fc_machine::{Frame, run};
 use fc_registry::{Ask, Committed, Job, Removal, SlotNumber, SlotSnapshot, Taken, Ticket};
+use fc_server::Begin;
 use fc_verify::verify;
 use fc_workers::{Bench, Blanks, Books, Locked, TrackLog};
 use std::alloc::Global;
@@ -89,9 +90,10 @@ fn change<B: Books, R: Wait>(
     requires book_threads { book.first_job ≡ 10 }
     requires threads { book.first_job ≡ B.first_job }
     requires begin { B.begin ≡ record { serial = 7; id = 0; policy = default_policy } }
+    requires book_begins { book.begin ≡ record { serial = 7; id = 0; policy = default_policy } }
 {
     let device = Bare::new();
-    let (server, mut unassigned, mut logs) = Locked::<B, Bare>::new(
+    let (server, mut unassigned, mut logs, _keys) = Locked::<B, Bare>::new(
         alloc,
         7,
         0,
@@ -112,7 +114,95 @@ fn change<B: Books, R: Wait>(
 #[test]
 fn each_change_is_counted_once(rt: HostRuntime) -> Result<(), Fail> {
     let blanks = Blanks::new(2);
-    let book = NewServerBook::new(rt.alloc(), 1)?;
+    let begin = Begin {
+        serial: 7,
+        id: 0,
+        policy: DEFAULT_POLICY,
+    };
+    let book = NewServerBook::new(rt.alloc(), 1, &begin)?;
     assert!(rt; change::<Brand, HostRuntime>(&rt, rt.alloc(), blanks, book)? == (10, 3));
+    Ok(())
+}
+
+// What is known of two shards, without a call of theirs.
+#[derive(Debug, PartialEq, Eq, Drop)]
+struct Known {
+    at_first: bool,
+    after_its_advance: bool,
+    at_the_other_shard: bool,
+    after_its_call: bool,
+}
+
+// Advances shard 3, asks what is known of shards 2 and 3, calls shard 3, and asks again.
+fn ask_what_is_known<B: Bench, R: Wait>(
+    rt: &R,
+    bench: &B,
+    tallies: &mut B::Tallies,
+    log: &mut TrackLog<B::Book>,
+) -> Known {
+    let at_first = bench.is_known_idle(3, 1_000, log);
+    let advanced = bench.advance_if_idle(rt, 3, 1_000, log);
+    let after_its_advance = advanced && bench.is_known_idle(3, 5_000, log);
+    let at_the_other_shard = bench.is_known_idle(2, 5_000, log);
+    let _absent = bench.remove(rt, &post(), tallies, log);
+    Known {
+        at_first,
+        after_its_advance,
+        at_the_other_shard,
+        after_its_call: bench.is_known_idle(3, 5_000, log),
+    }
+}
+
+// Returns what is known of the shards of a new server that begins at serial 7.
+fn know<B: Books, R: Wait>(
+    rt: &R,
+    alloc: Global,
+    blanks: Blanks,
+    book: NewServerBook,
+) -> Result<Known, Fail>
+    requires parts { blanks.parts ≡ 2 }
+    requires names { AreNamed blanks B.names }
+    requires books { blanks.parts ≡ B.parts }
+    requires first { B.first ≡ beginning default_policy 0 }
+    requires table { book.table ≡ B.table }
+    requires book_threads { book.first_job ≡ 10 }
+    requires threads { book.first_job ≡ B.first_job }
+    requires begin { B.begin ≡ record { serial = 7; id = 0; policy = default_policy } }
+    requires book_begins { book.begin ≡ record { serial = 7; id = 0; policy = default_policy } }
+{
+    let device = Bare::new();
+    let (server, mut unassigned, mut logs, _keys) = Locked::<B, Bare>::new(
+        alloc,
+        7,
+        0,
+        &DEFAULT_POLICY,
+        &device,
+        blanks,
+        book,
+    )?;
+    let Some(mut log) = logs.pop() else {
+        unreachable!();
+    };
+    let mut tallies = unassigned.split();
+    Ok(ask_what_is_known(rt, &server, &mut tallies, &mut log))
+}
+
+// A shard without observers is known to be idle after its advance, until it is called again.
+#[test]
+fn an_idle_shard_is_known_until_it_is_called(rt: HostRuntime) -> Result<(), Fail> {
+    let blanks = Blanks::new(2);
+    let begin = Begin {
+        serial: 7,
+        id: 0,
+        policy: DEFAULT_POLICY,
+    };
+    let book = NewServerBook::new(rt.alloc(), 1, &begin)?;
+    let expected = Known {
+        at_first: false,
+        after_its_advance: true,
+        at_the_other_shard: false,
+        after_its_call: false,
+    };
+    assert!(rt; know::<Brand, HostRuntime>(&rt, rt.alloc(), blanks, book)? == expected);
     Ok(())
 }

@@ -1,16 +1,13 @@
 //! A driver of a pool of workers, for tests.
 //!
 //! It delivers datagrams to a server, and sends the jobs to the workers.
-ghost use Rattle.std.specs.Prelude.{◌≡◌};
-
+use crate::overtaking_tests::Replies;
 use coap_msg::Endpoint;
-use fc_core::Handled;
-use fc_core::front::{blank_emission, blank_job};
-use fc_jobs::{Jobs, Sent};
-use fc_registry::{Job, SlotNumber};
-use fc_workers::{Bench, TrackLog};
+use fc_core::front::blank_emission;
+use fc_registry::SlotNumber;
+use fc_workers::{Bench, Dispatcher, Gate};
 use std::alloc::{AllocError, Global};
-use std::sync::{Mutex, Wait};
+use std::sync::Wait;
 
 /// The sender of all datagrams.
 pub(crate) const PEER: Endpoint = Endpoint {
@@ -68,51 +65,52 @@ pub(crate) fn datagram(
 }
 
 /// A driver: it delivers datagrams to a server, and sends the jobs to workers.
+///
+/// It waits for the first worker that asks for a job.
 #[derive(Drop)]
-pub(crate) struct Driver<'a, B: Bench> {
+pub(crate) struct Driver<'a, B: Bench, G: Gate> {
     pub(crate) alloc: Global,
-    pub(crate) bench: &'a B,
-    pub(crate) jobs: &'a Jobs,
-    pub(crate) log: Mutex<TrackLog<B::Book>>,
+    pub(crate) dispatcher: Dispatcher<'a, B, G, Replies, Replies>,
 }
 
-impl<'a, B: Bench> Driver<'a, B> {
+/// A part that delivers datagrams to a server, and sends the jobs to workers.
+pub(crate) trait Deliver {
     /// Delivers a request's datagram at `now`, in milliseconds, and sends the job.
     ///
     /// Returns whether the datagram produced a job that was sent, or an error if memory can't be
     /// allocated.
-    pub(crate) fn ask<R: Wait>(
-        &self,
+    fn ask<R: Wait>(
+        &mut self,
         rt: &R,
-        sent: &mut Sent,
         now: u64,
         request: Request<'_>,
         id: u16,
         slot: SlotNumber,
-    ) -> Result<bool, AllocError>
-        requires { sent.old.channel ≡ self.now.jobs.now }
-        ensures { sent.new.channel ≡ sent.old.channel }
-    {
+    ) -> Result<bool, AllocError>;
+
+    /// Delivers a datagram at `now`, in milliseconds, and sends the job.
+    ///
+    /// Returns whether the datagram produced a job that was sent.
+    fn deliver<R: Wait>(&mut self, rt: &R, now: u64, bytes: &[u8]) -> bool;
+}
+
+impl<'a, B: Bench, G: Gate> Deliver for Driver<'a, B, G> {
+    fn ask<R: Wait>(
+        &mut self,
+        rt: &R,
+        now: u64,
+        request: Request<'_>,
+        id: u16,
+        slot: SlotNumber,
+    ) -> Result<bool, AllocError> {
         let bytes = datagram(self.alloc, request, id, slot)?;
-        match self.job(rt, now, &bytes) {
-            Some(job) => Ok(self.jobs.send(rt, job, sent).is_none()),
-            None => Ok(false),
-        }
+        Ok(self.deliver(rt, now, &bytes))
     }
 
-    /// Delivers a datagram at `now`, in milliseconds.
-    ///
-    /// Returns the job that the datagram produces, or `None` if it produces none.
-    pub(crate) fn job<R: Wait>(&self, rt: &R, now: u64, bytes: &[u8]) -> Option<Job> {
-        let mut job = blank_job();
+    fn deliver<R: Wait>(&mut self, rt: &R, now: u64, bytes: &[u8]) -> bool {
         let mut reply = blank_emission();
-        let mut log = self.log.lock(rt);
-        match self
-            .bench
-            .handle(rt, now, PEER, bytes, &mut job, &mut reply, &mut log)
-        {
-            Handled::Job => Some(job),
-            Handled::Reply | Handled::Nothing | Handled::Signal { .. } => None,
-        }
+        let sent = self.dispatcher.offloaded();
+        let _handled = self.dispatcher.handle(rt, now, PEER, bytes, &mut reply);
+        self.dispatcher.offloaded() > sent
     }
 }

@@ -41,7 +41,7 @@ pub(crate) fn job(opened: u64) -> Job {
 // these they receive `None`, since the sender is gone.
 #[test]
 fn jobs_come_in_order(rt: HostRuntime) -> Result<(), Fail> {
-    let (jobs, mut sent, mut gots) = Jobs::new(rt.alloc(), 2)?;
+    let (jobs, mut sent, mut gots) = Jobs::<Job>::new(rt.alloc(), 2)?;
     let (Some(mut one), Some(mut other)) = (gots.pop(), gots.pop()) else {
         panic!(rt; "two workers")
     };
@@ -69,7 +69,7 @@ fn of(got: Option<(u64, Job)>) -> Option<(u64, u64)> {
 // A caller that waits for a worker continues as soon as one calls `next`, here on a closed channel.
 #[test]
 fn a_worker_is_awaited(rt: HostRuntime) -> Result<(), Fail> {
-    let (jobs, sent, mut gots) = Jobs::new(rt.alloc(), 1)?;
+    let (jobs, sent, mut gots) = Jobs::<Job>::new(rt.alloc(), 1)?;
     let Some(mut got) = gots.pop() else {
         panic!(rt; "a worker")
     };
@@ -91,7 +91,7 @@ fn a_worker_is_awaited(rt: HostRuntime) -> Result<(), Fail> {
 // After `dismiss`, if no worker has come, `await_worker` returns `false` without waiting.
 #[test]
 fn nobody_waits_for_workers_that_do_not_come(rt: HostRuntime) -> Result<(), Fail> {
-    let (jobs, _sent, _gots) = Jobs::new(rt.alloc(), 1)?;
+    let (jobs, _sent, _gots) = Jobs::<Job>::new(rt.alloc(), 1)?;
     jobs.dismiss(&rt);
     assert!(rt; !jobs.await_worker(&rt) && !jobs.is_served());
     Ok(())
@@ -112,7 +112,7 @@ struct Progress {
 
 // Sends 300 jobs, whose exchanges have the numbers from 0 on. Returns whether the channel accepted
 // all of them.
-fn send_all<R: Wait>(rt: &R, jobs: &Jobs, mut sent: Sent, progress: &Progress) -> bool
+fn send_all<R: Wait>(rt: &R, jobs: &Jobs<Job>, mut sent: Sent<Job>, progress: &Progress) -> bool
     requires { sent.channel ≡ jobs.now }
 {
     let mut are_taken = true;
@@ -141,7 +141,7 @@ fn done_when_full<C: Clock>(clock: &C, progress: &Progress) -> usize {
 
 // Receives 300 jobs and once more. Returns whether these are the jobs that were sent, in order,
 // each once, and then `None`.
-fn takes_all<R: Wait>(rt: &R, jobs: &Jobs, mut got: Got) -> bool
+fn takes_all<R: Wait>(rt: &R, jobs: &Jobs<Job>, mut got: Got<Job>) -> bool
     requires { got.channel ≡ jobs.now }
 {
     let mut are_next = true;
@@ -156,7 +156,7 @@ fn takes_all<R: Wait>(rt: &R, jobs: &Jobs, mut got: Got) -> bool
 // The 257th send to a channel of 256 places waits until a job is received.
 #[test]
 fn a_full_channel_waits(rt: HostRuntime) -> Result<(), Fail> {
-    let (jobs, sent, mut gots) = Jobs::new(rt.alloc(), 1)?;
+    let (jobs, sent, mut gots) = Jobs::<Job>::new(rt.alloc(), 1)?;
     let Some(got) = gots.pop() else {
         panic!(rt; "a worker")
     };

@@ -1,14 +1,13 @@
 //! Separate locks: the actions of a worker while the lock of a shard is held.
 ghost use Rattle.std.specs.Prelude.{◌≡◌};
 
-use crate::driver::{Driver, Request, datagram};
+use crate::driver::{Deliver, Request, datagram};
 use crate::overtaking_tests::{
     COUNTER, CREATED, Crew, Drive, Held, Replies, Reply, Trial, hold, work_fed,
 };
 use fc_calls::ShardCall;
-use fc_jobs::Sent;
-use fc_registry::{Job, Shard, SlotNumber};
-use fc_workers::{Bench, Books, CallLog, Device, Gate, Locked, TrackLog};
+use fc_registry::{Shard, SlotNumber};
+use fc_workers::{Bench, Books, CallLog, Device, Gate, Locked};
 use std::alloc::{AllocError, Global};
 use std::sync::Wait;
 use std::test::Fail;
@@ -83,50 +82,53 @@ impl ShardHeld {
         rt: &R,
         alloc: Global,
         bench: &B,
-        crew: Crew<B::Tallies, TrackLog<B::Book>>,
+        crew: Crew<B::Tallies, B::Book>,
     ) -> anyhow::Result<Held<B::Tallies>>
     where
         B::Tallies: Send,
         B::Book: Send,
     {
         let replies = Replies::new();
-        let shares = work_fed(rt, alloc, bench, crew, &Open, &replies, self)?;
+        let drive = HeldDrive {
+            alloc,
+            bench,
+            held: self,
+        };
+        let shares = work_fed(rt, alloc, bench, crew, &Open, &replies, &drive)?;
         replies.seen(alloc, shares)
     }
 }
 
-impl<B: Locks> Drive<B> for ShardHeld {
+// The requests of such a trial, on a backend whose locks can be held.
+#[derive(Drop)]
+struct HeldDrive<'a, B: Locks> {
+    alloc: Global,
+    bench: &'a B,
+    held: &'a ShardHeld,
+}
+
+impl<'a, B: Locks> Drive for HeldDrive<'a, B> {
     // Installs the counter, and sends a GET. Holds the lock until the GET is answered, or until
     // many checks have found no response.
-    fn drive<R: Wait + Clock>(
+    fn drive<D: Deliver + Drop, R: Wait + Clock>(
         &self,
         rt: &R,
-        driver: &Driver<'_, B>,
+        mut driver: D,
         replies: &Replies,
-        mut sent: Sent,
     ) -> Result<(), AllocError> {
         let slot = SlotNumber::new(1);
-        driver.ask(rt, &mut sent, 0, Request::Put(COUNTER), 0, slot)?;
+        driver.ask(rt, 0, Request::Put(COUNTER), 0, slot)?;
         replies.wait_for(rt, rt, 0);
-        let request = match self.serial {
+        let request = match self.held.serial {
             Some(serial) => Request::Valid(serial),
             None => Request::Get,
         };
-        let bytes = datagram(driver.alloc, request, 1, slot)?;
-        let jobs = driver.jobs;
-        if let Some(job) = driver.job(rt, 0, &bytes) {
-            let _back = driver.bench.hold(
-                rt,
-                self.shard,
-                || -> Option<Job>
-                    requires { sent.channel ≡ jobs.now }
-                {
-                    let back = jobs.send(rt, job, &mut sent);
-                    replies.wait_for(rt, rt, 1);
-                    back
-                },
-            );
-        }
+        let bytes = datagram(self.alloc, request, 1, slot)?;
+        let _sent = self.bench.hold(rt, self.held.shard, || -> bool {
+            let sent = driver.deliver(rt, 0, &bytes);
+            replies.wait_for(rt, rt, 1);
+            sent
+        });
         Ok(())
     }
 }

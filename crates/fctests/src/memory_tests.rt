@@ -12,7 +12,7 @@ use fc_isa::{Insn, decode, encode, is_program};
 use fc_jobs::Jobs;
 use fc_machine::Frame;
 use fc_observe::{CONFIRM_AFTER, Observers};
-use fc_registry::{Shard, SlotNumber};
+use fc_registry::{Job, Shard, SlotNumber};
 use fc_verify::verify;
 use fc_world::{Event, run_world};
 use std::alloc::AllocError;
@@ -116,7 +116,7 @@ fn head_words_are_made(rt: HostRuntime) -> Result<(), AllocError> {
 // A channel for two workers has two receiving ends.
 #[test]
 fn a_channel_is_made(rt: HostRuntime) -> Result<(), AllocError> {
-    let (_jobs, _sent, gots) = Jobs::new(rt.alloc(), 2)?;
+    let (_jobs, _sent, gots) = Jobs::<Job>::new(rt.alloc(), 2)?;
     assert!(rt; gots.len() == 2);
     Ok(())
 }

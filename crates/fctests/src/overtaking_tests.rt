@@ -2,25 +2,28 @@
 //!
 //! The tests check the order of the responses, and the workers' counts of changes and conflicts.
 ghost use Rattle.std.specs.Prelude.{◌≡◌, ◌+◌, ◌<◌, vec_len};
+ghost use Rattle.std.specs.List.{All};
 ghost use Rattle.fc_workers.specs.Fronts.{beginning};
 ghost use Rattle.fc_core.specs.Policies.{default_policy};
+ghost use Rattle.fc_workers.specs.Messages.{first_brought};
 ghost use Rattle.fc_workers.specs.Naming.{AreNamed};
+ghost use Rattle.fc_workers.specs.OneOrder.{IsNewLog};
 
-use crate::driver::{Driver, Request};
+use crate::driver::{Deliver, Driver, Request};
 use crate::job_tests::job;
 use crate::lock_tests::{Locks, ShardHeld};
 use crate::told_tests::Told;
 use arrayvec::ArrayVec;
 use coap_msg::Emission;
 use fc_core::DEFAULT_POLICY;
-use fc_filed::NewServerBook;
+use fc_filed::{NewServerBook, ServerName};
 use fc_help::{NO_READINGS, Readings};
-use fc_jobs::Sent;
 use fc_registry::SlotNumber;
+use fc_server::DEFAULT_BEGIN;
 use fc_verify::{Verified, verify};
 use fc_workers::{
-    Bench, Blanks, Books, CallLog, Context, Device, Gate, Locked, Share, TimeSource, TrackLog,
-    Wire, drive_workers, make_seats,
+    Bench, Blanks, Books, CallLog, Context, Device, Dispatcher, Gate, JobKeys, Locked, Offload,
+    ShareOf, TimeSource, TrackLog, Wire, drive_workers, make_seats,
 };
 use std::alloc::{AllocError, Global};
 use std::marker::Brand;
@@ -101,10 +104,10 @@ impl Replies {
 
     // Returns the responses, the number of conflicts, and the workers' tallies. Returns an error if
     // a response was missed.
-    pub(crate) fn seen<T: Drop, L: Drop>(
+    pub(crate) fn seen<T: Drop, J: ServerName>(
         self,
         alloc: Global,
-        shares: Vec<Share<T, L>>,
+        shares: Vec<ShareOf<T, J>>,
     ) -> anyhow::Result<Held<T>> {
         if self.missed.into_inner() {
             return Err(anyhow::anyhow!("a reply was missed"));
@@ -171,48 +174,51 @@ impl<'c, 'r, C: Clock> Gate for Holding<'c, 'r, C> {
 }
 
 // The requests of a trial. `drive` delivers them, and sends the jobs to the workers.
-pub(crate) trait Drive<B: Bench> {
-    fn drive<R: Wait + Clock>(
+pub(crate) trait Drive {
+    fn drive<D: Deliver + Drop, R: Wait + Clock>(
         &self,
         rt: &R,
-        driver: &Driver<'_, B>,
+        driver: D,
         replies: &Replies,
-        sent: Sent,
-    ) -> Result<(), AllocError>
-        requires { sent.channel ≡ driver.now.jobs.now };
+    ) -> Result<(), AllocError>;
 }
 
-// The tallies and logs of workers, and the log of a test's own calls.
+// The tallies and logs of workers and of a test's own dispatcher, and the keys of the dispatcher's
+// jobs. Nothing is filed in a log yet.
 #[derive(Drop)]
-pub(crate) struct Crew<T: Drop, L: Drop> {
+pub(crate) struct Crew<T: Drop, J: ServerName> {
     pub(crate) tallies: Vec<T>,
-    pub(crate) logs: Vec<L>,
-    pub(crate) own: L,
+    pub(crate) logs: Vec<TrackLog<J>>,
+    pub(crate) keys: JobKeys<J>,
     ghost equal: { vec_len logs ≡ vec_len tallies },
+    ghost new_logs: { All IsNewLog logs.items },
+    ghost first: { keys ≡ first_brought J.first_job },
 }
 
 // Runs workers with this test hook, while `drive` delivers requests. Returns the workers'
 // statistics, or an error if memory can't be allocated.
-pub(crate) fn work_fed<
-    B: Bench + Sync,
-    G: Gate + Sync,
-    F: Drive<B>,
-    R: Threads + Wait + Clock + Sync,
->(
+pub(crate) fn work_fed<B: Bench + Sync, G: Gate + Sync, F: Drive, R: Threads + Wait + Clock + Sync>(
     rt: &R,
     alloc: Global,
     bench: &B,
-    crew: Crew<B::Tallies, TrackLog<B::Book>>,
+    crew: Crew<B::Tallies, B::Book>,
     gate: &G,
     replies: &Replies,
     drive: &F,
-) -> anyhow::Result<Vec<Share<B::Tallies, TrackLog<B::Book>>>>
+) -> anyhow::Result<Vec<ShareOf<B::Tallies, B::Book>>>
 where
     B::Tallies: Send,
     B::Book: Send,
 {
-    let Crew { tallies, logs, own } = crew;
-    let (jobs, sent, seats) = make_seats(alloc, tallies, logs)?;
+    let Crew {
+        tallies,
+        logs,
+        keys,
+    } = crew;
+    let (jobs, sent, mut seats) = make_seats(alloc, tallies, logs)?;
+    let Some(seat) = seats.pop() else {
+        return Err(anyhow::anyhow!("no seat"));
+    };
     let context = Context {
         alloc,
         bench,
@@ -222,18 +228,14 @@ where
     };
     let driver = Driver {
         alloc,
-        bench,
-        jobs: &jobs,
-        log: Mutex::new(own),
+        dispatcher: Dispatcher::new(&context, &jobs, sent, seat, keys, Offload::Every),
     };
     let (fed, shares) = drive_workers(
         rt,
         &context,
         &jobs,
         seats,
-        |_has_workers| -> Result<(), AllocError>
-            requires { sent.channel ≡ driver.jobs.now }
-        { drive.drive(rt, &driver, replies, sent) },
+        move |_has_workers| -> Result<(), AllocError> { drive.drive(rt, driver, replies) },
     );
     fed?;
     Ok(shares?)
@@ -252,7 +254,7 @@ impl TwoAtOnce {
         rt: &R,
         alloc: Global,
         bench: &B,
-        crew: Crew<B::Tallies, TrackLog<B::Book>>,
+        crew: Crew<B::Tallies, B::Book>,
     ) -> anyhow::Result<Held<B::Tallies>>
     where
         B::Tallies: Send,
@@ -268,19 +270,18 @@ impl TwoAtOnce {
     }
 }
 
-impl<B: Bench> Drive<B> for TwoAtOnce {
-    fn drive<R: Wait + Clock>(
+impl Drive for TwoAtOnce {
+    fn drive<D: Deliver + Drop, R: Wait + Clock>(
         &self,
         rt: &R,
-        driver: &Driver<'_, B>,
+        mut driver: D,
         replies: &Replies,
-        mut sent: Sent,
     ) -> Result<(), AllocError> {
         let slot = SlotNumber::new(0);
-        driver.ask(rt, &mut sent, 0, Request::Put(COUNTER), 0, slot)?;
+        driver.ask(rt, 0, Request::Put(COUNTER), 0, slot)?;
         replies.wait_for(rt, rt, 0);
-        driver.ask(rt, &mut sent, 0, Request::Post, 1, slot)?;
-        driver.ask(rt, &mut sent, 0, Request::Post, 2, slot)?;
+        driver.ask(rt, 0, Request::Post, 1, slot)?;
+        driver.ask(rt, 0, Request::Post, 2, slot)?;
         Ok(())
     }
 }
@@ -344,7 +345,7 @@ impl Overtaken {
         rt: &R,
         alloc: Global,
         bench: &B,
-        crew: Crew<B::Tallies, TrackLog<B::Book>>,
+        crew: Crew<B::Tallies, B::Book>,
     ) -> anyhow::Result<Held<B::Tallies>>
     where
         B::Tallies: Send,
@@ -353,7 +354,7 @@ impl Overtaken {
         let Crew {
             mut tallies,
             mut logs,
-            own,
+            keys,
         } = crew;
         let (Some(mut others), Some(mut log)) = (tallies.pop(), logs.pop()) else {
             return Err(anyhow::anyhow!("no tallies"));
@@ -374,7 +375,11 @@ impl Overtaken {
             }),
         };
         let replies = Replies::new();
-        let crew = Crew { tallies, logs, own };
+        let crew = Crew {
+            tallies,
+            logs,
+            keys,
+        };
         let shares = work_fed(rt, alloc, bench, crew, &gate, &replies, self)?;
         let mut held = replies.seen(alloc, shares)?;
         let Changing { turn, .. } = gate;
@@ -383,17 +388,16 @@ impl Overtaken {
     }
 }
 
-impl<B: Bench> Drive<B> for Overtaken {
-    fn drive<R: Wait + Clock>(
+impl Drive for Overtaken {
+    fn drive<D: Deliver + Drop, R: Wait + Clock>(
         &self,
         rt: &R,
-        driver: &Driver<'_, B>,
+        mut driver: D,
         replies: &Replies,
-        mut sent: Sent,
     ) -> Result<(), AllocError> {
         let _ = replies;
         for id in 0..self.posts {
-            driver.ask(rt, &mut sent, 0, Request::Post, id, SlotNumber::new(0))?;
+            driver.ask(rt, 0, Request::Post, id, SlotNumber::new(0))?;
         }
         Ok(())
     }
@@ -416,7 +420,7 @@ impl Trial {
         rt: &R,
         alloc: Global,
         bench: &B,
-        crew: Crew<B::Tallies, TrackLog<B::Book>>,
+        crew: Crew<B::Tallies, B::Book>,
     ) -> anyhow::Result<Held<B::Tallies>>
     where
         B::Tallies: Send,
@@ -443,6 +447,11 @@ impl Bare {
             reads: AtomicUsize::new(0),
         }
     }
+
+    // Returns how often it was read.
+    pub(crate) fn count(&self) -> usize {
+        self.reads.load(Ordering::SeqCst)
+    }
 }
 
 impl Device for Bare {
@@ -462,8 +471,8 @@ pub(crate) fn hold<R: Threads + Wait + Clock + Sync>(
     tallies: u8,
     trial: &Trial,
 ) -> anyhow::Result<Held<u64>> {
-    let blanks = Blanks::new(u64::from(tallies) + 1);
-    let book = NewServerBook::new(alloc, u16::from(tallies) + 1)?;
+    let blanks = Blanks::new(u64::from(tallies) + 2);
+    let book = NewServerBook::new(alloc, u16::from(tallies) + 1, &DEFAULT_BEGIN)?;
     hold_named::<Brand, R>(rt, alloc, tallies, trial, blanks, book)
 }
 
@@ -476,7 +485,7 @@ fn hold_named<B: Books + Send + Sync, R: Threads + Wait + Clock + Sync>(
     blanks: Blanks,
     book: NewServerBook,
 ) -> anyhow::Result<Held<u64>>
-    requires parts { blanks.parts ≡ tallies + 1 }
+    requires parts { blanks.parts ≡ tallies + 2 }
     requires names { AreNamed blanks B.names }
     requires books { blanks.parts ≡ B.parts }
     requires first { B.first ≡ beginning default_policy 0 }
@@ -484,9 +493,10 @@ fn hold_named<B: Books + Send + Sync, R: Threads + Wait + Clock + Sync>(
     requires book_threads { book.first_job ≡ 9 + tallies + 1 }
     requires threads { book.first_job ≡ B.first_job }
     requires begin { B.begin ≡ record { serial = 0; id = 0; policy = default_policy } }
+    requires book_begins { book.begin ≡ record { serial = 0; id = 0; policy = default_policy } }
 {
     let device = Bare::new();
-    let (server, mut unassigned, mut logs) = Locked::<B, Bare>::new(
+    let (server, mut unassigned, logs, keys) = Locked::<B, Bare>::new(
         alloc,
         0,
         0,
@@ -495,11 +505,12 @@ fn hold_named<B: Books + Send + Sync, R: Threads + Wait + Clock + Sync>(
         blanks,
         book,
     )?;
-    let tallies = unassigned.split_each(alloc, usize::from(tallies))?;
-    let Some(own) = logs.pop() else {
-        unreachable!();
+    let tallies = unassigned.split_each(alloc, usize::from(tallies) + 1)?;
+    let crew = Crew {
+        tallies,
+        logs,
+        keys,
     };
-    let crew = Crew { tallies, logs, own };
     let held = trial.hold(rt, alloc, &server, crew)?;
     let mut changes = Vec::new(alloc);
     for tally in &held.tallies {
@@ -509,7 +520,7 @@ fn hold_named<B: Books + Send + Sync, R: Threads + Wait + Clock + Sync>(
         replies: held.replies,
         overtakings: held.overtakings,
         tallies: changes,
-        readings: device.reads.load(Ordering::SeqCst),
+        readings: device.count(),
     })
 }
 

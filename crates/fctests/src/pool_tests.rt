@@ -1,6 +1,7 @@
 //! Pools: the state of a server after its workers have ended.
 use crate::driver::{PEER, Request, datagram};
 use crate::overtaking_tests::{Bare, COUNTER, Replies};
+use crate::wait_tests::PUT_EXPENSIVE;
 use fc_core::DEFAULT_POLICY;
 use fc_core::front::blank_emission;
 use fc_record::NoChanges;
@@ -11,6 +12,8 @@ use fc_workers::Offload;
 use std::alloc::{AllocError, Global};
 use std::sync::Wait;
 use std::test::Fail;
+use std::thread;
+use std::time::{Clock, Duration};
 
 // A driver that installs the counter in slots 1 and 9, which shard 1 owns, in slot 2, and in slot 9
 // again.
@@ -74,5 +77,119 @@ fn a_pool_counts_the_changes_of_each_shard(rt: HostRuntime) -> Result<(), Fail> 
     assert_eq!(rt; shard1.serial(SlotNumber::new(9)), 9);
     assert_eq!(rt; shard1.serial(SlotNumber::new(17)), 7);
     assert_eq!(rt; shard2.serial(SlotNumber::new(2)), 8);
+    Ok(())
+}
+
+// The results of a driver that waits until a job is sent to a worker.
+#[derive(Drop)]
+struct Priced {
+    // The number of GETs of slot 1, of which the last was sent to the worker.
+    gets: usize,
+    // The number of jobs that were sent to the worker at that time, and at the end.
+    first: u64,
+    all: u64,
+}
+
+// A driver that installs an expensive program in slot 1 and the counter in slot 0. It passes GETs
+// of slot 1 until one is sent to a worker. Then it passes a GET of slot 1 with a valid ETag, and a
+// GET of slot 0.
+#[derive(Drop)]
+struct Prices<'c, C: Clock> {
+    alloc: Global,
+    clock: &'c C,
+}
+
+impl<'c, C: Clock> Driver<Result<Priced, AllocError>> for Prices<'c, C> {
+    fn drive<N: Ingress, R: Wait>(
+        self,
+        rt: &R,
+        mut ingress: N,
+    ) -> Driven<N, Result<Priced, AllocError>> {
+        let _ = rt;
+        let given = self.price(&mut ingress);
+        Driven { ingress, given }
+    }
+}
+
+impl<'c, C: Clock> Prices<'c, C> {
+    // Passes the datagrams to `ingress`. Returns `AllocError` if memory for one can't be allocated.
+    fn price<N: Ingress>(&self, ingress: &mut N) -> Result<Priced, AllocError> {
+        let mut reply = blank_emission();
+        let _handled = ingress.handle(0, PEER, PUT_EXPENSIVE, &mut reply);
+        self.ask(ingress, Request::Put(COUNTER), 0, 0)?;
+        let gets = self.get_until_sent(ingress)?;
+        let first = ingress.offloaded();
+        self.ask(ingress, Request::Valid(8), 0xfffe, 1)?;
+        self.ask(ingress, Request::Get, 0xffff, 0)?;
+        Ok(Priced {
+            gets,
+            first,
+            all: ingress.offloaded(),
+        })
+    }
+
+    // Passes GETs of slot 1 to `ingress`, one each millisecond, until one is sent to a worker.
+    // Returns their number, at most 1,000.
+    fn get_until_sent<N: Ingress>(&self, ingress: &mut N) -> Result<usize, AllocError> {
+        let mut gets = 0usize;
+        for id in 2..1002 {
+            if ingress.offloaded() > 0 {
+                break;
+            }
+            thread::sleep(self.clock, Duration::from_millis(1));
+            self.ask(ingress, Request::Get, id, 1)?;
+            gets = gets.saturating_add(1);
+        }
+        Ok(gets)
+    }
+
+    // Passes a request's datagram to `ingress`.
+    fn ask<N: Ingress>(
+        &self,
+        ingress: &mut N,
+        request: Request<'_>,
+        id: u16,
+        slot: u8,
+    ) -> Result<(), AllocError>
+        requires { slot < 64 }
+    {
+        let mut reply = blank_emission();
+        let bytes = datagram(self.alloc, request, id, SlotNumber::new(slot))?;
+        let _handled = ingress.handle(0, PEER, &bytes, &mut reply);
+        Ok(())
+    }
+}
+
+// For a job that is run on the receiving thread, the device is read once. For one that is sent it
+// is read twice: for the snapshot that isn't taken here, and for the worker's. A job whose ETag
+// matches takes no snapshot, and isn't sent.
+#[test]
+fn the_device_is_read_again_for_a_sent_job(rt: HostRuntime) -> Result<(), Fail> {
+    let replies = Replies::new();
+    let device = Bare::new();
+    let pool = Pool {
+        workers: 1,
+        offload: Offload::Expensive(6_000),
+        begin: Begin {
+            serial: 7,
+            id: 0,
+            policy: DEFAULT_POLICY,
+        },
+        wire: &replies,
+        times: &replies,
+        device: &device,
+        recorder: &NoChanges,
+    };
+    let mut err = Vec::new(rt.alloc());
+    let prices = Prices {
+        alloc: rt.alloc(),
+        clock: &rt,
+    };
+    let fed = run_pool(&rt, rt.alloc(), &mut err, &pool, prices)?;
+    let Priced { gets, first, all } = fed.given?;
+    assert!(rt; fed.has_workers);
+    assert_eq!(rt; first, 1);
+    assert_eq!(rt; all, 1);
+    assert_eq!(rt; device.count(), gets.saturating_add(2));
     Ok(())
 }

@@ -78,14 +78,14 @@ impl Told {
         rt: &R,
         alloc: Global,
         bench: &B,
-        crew: Crew<B::Tallies, TrackLog<B::Book>>,
+        crew: Crew<B::Tallies, B::Book>,
     ) -> anyhow::Result<Held<B::Tallies>> {
         let Crew {
             mut tallies,
             mut logs,
-            own: mut log,
+            keys,
         } = crew;
-        let (Some(mut own), Some(_)) = (tallies.pop(), logs.pop()) else {
+        let (Some(mut own), Some(mut log)) = (tallies.pop(), logs.pop()) else {
             return Err(anyhow::anyhow!("no tallies"));
         };
         let replies = Replies::new();
@@ -101,7 +101,7 @@ impl Told {
             wire: &replies,
             times: &watch,
         };
-        let mut dispatcher = Dispatcher::new(&context, &jobs, sent, seat, Offload::Never);
+        let mut dispatcher = Dispatcher::new(&context, &jobs, sent, seat, keys, Offload::Never);
         observe_counter(rt, alloc, &mut dispatcher)?;
         let shows = match self {
             Told::Time => shows_time(rt, alloc, &mut dispatcher)?,
@@ -218,7 +218,7 @@ fn handle<B: Bench, R: Wait>(
 
 // Returns whether this call has the expected effect on a server with locks.
 fn is_told<R: Threads + Wait + Clock + Sync>(rt: &R, alloc: Global, told: Told) -> bool {
-    hold(rt, alloc, 2, &Trial::Told(told)).is_ok()
+    hold(rt, alloc, 1, &Trial::Told(told)).is_ok()
 }
 
 // With locks, the front advances to the time of a tick, and expires exchanges.
