@@ -1,26 +1,26 @@
 -- At the beginning nothing has happened, and each slot is in its stored state.
-use Rattle.std.proofs.Common.{◌≡◌, ℕ, zero, suc, ◌+◌, ◌*◌, ◌<◌, ◌≤◌, ◌/◌, ◌%◌, [], ◌∷◌, ◌++◌, length, get_or, refl, sym, ap, ◌∙◌, subst, arith, ⊎_elim, length-append}
+use Rattle.std.proofs.Common.{◌≡◌, ℕ, zero, suc, ◌+◌, ◌*◌, ◌<◌, ◌≤◌, ◌/◌, ◌%◌, [], ◌∷◌, ◌++◌, List, length, map, replicate, get_or, refl, sym, ap, ◌∙◌, subst, arith, ⊎_elim, length-append}
 use Rattle.std.proofs.lemmas.Bool.{cases_lt}
 use Rattle.std.proofs.lemmas.List.{get_or_append_left}
 use Rattle.std.proofs.lemmas.List.Elements.{All-nil}
-use Rattle.std.proofs.lemmas.List.FromFn.{get_or-map-range_with_len}
+use Rattle.std.proofs.lemmas.List.FromFn.{get_or-map-range_with_len, length-map-range_with_len}
 use Rattle.std.proofs.Math.Seq.{get_or-append_seam}
 use Rattle.fc_registry.specs.Restored.{empty_at, restored_slot}
-use Rattle.fc_registry.specs.Shards.{first_shards, no_shard, shard_at, slot_in_shards}
+use Rattle.fc_registry.specs.Shards.{AreShards, first_shards, no_shard, shard_at, slot_in_shards}
 use Rattle.fc_registry.specs.Slots.{Shard, Slot, slot_in, new_slot}
 use Rattle.fc_registry.specs.Starts.{shard_over, shards_over}
 use Rattle.fc_registry.specs.Watches.{new_watches, watch_at}
-use Rattle.fc_observe.specs.Observers.{no_observers}
+use Rattle.fc_observe.specs.Observers.{ObserverList, no_observers}
 use Rattle.fc_store.specs.Stored.{StoredSlots}
 use Rattle.fc_core.specs.History.{Begins, BeginsWith, begun, seen}
 use Rattle.fc_core.specs.Fits.{FitsSlot}
-use Rattle.fc_core.specs.Heads.{first_words, no_words}
+use Rattle.fc_core.specs.Heads.{first_word, first_words, no_words}
 use Rattle.fc_core.specs.Exchanges.{first_front}
 use Rattle.fc_core.specs.declared.policy.Policy.{Policy}
 use Rattle.fc_core.proofs.Calling.{EntryWithin}
 use Rattle.fc_server.specs.Agreement.{ShardsAgree}
 use Rattle.fc_server.specs.Serving.{Serves}
-use Rattle.fc_server.specs.States.{ServerState}
+use Rattle.fc_server.specs.States.{CanBeginWith, ServerState}
 
 module _ (slots : ℕ → Slot) (confirm_after : ℕ) where
   new_at : (i : ℕ) → i < 8 → shard_at (shards_over slots confirm_after) i ≡ shard_over slots confirm_after i
@@ -49,17 +49,33 @@ new_watch i confirm_after (suc n) k lt =
     ap (λ (j : ℕ). get_or (new_watches i confirm_after n ++ no_observers (8 * n + i) confirm_after ∷ []) j (no_observers 0 0)) e ∙ (get_or-append_seam (new_watches i confirm_after n) (no_observers (8 * n + i) confirm_after) [] (no_observers 0 0) ∙ ap (λ (j : ℕ). no_observers (8 * j + i) confirm_after) (sym (e ∙ len))))
     (cases_lt k n)
 
+new_are_shards : (slots : ℕ → Slot) (confirm_after : ℕ) → AreShards (shards_over slots confirm_after)
+new_are_shards slots confirm_after = record {
+  count = refl;
+  index = λ s lt. ap (λ (x : Shard). x.index) (new_at slots confirm_after s lt);
+  size = λ s lt. ap (λ (x : Shard). length x.slots) (new_at slots confirm_after s lt);
+  watched = λ s lt. ap (λ (x : Shard). length x.watches) (new_at slots confirm_after s lt) ∙ length-new_watches s confirm_after 8;
+}
+
+confirms_after : (slots : ℕ → Slot) (confirm_after i : ℕ) → i < 8 → map (λ (w : ObserverList). w.confirm_after) (shard_at (shards_over slots confirm_after) i).watches ≡ replicate 8 confirm_after
+confirms_after slots confirm_after i lt = ap (λ (x : Shard). map (λ (w : ObserverList). w.confirm_after) x.watches) (new_at slots confirm_after i lt)
+
+-- a server can begin with restored shards and their head words.
+pub can_begin : (stored : StoredSlots) (confirm_after : ℕ) (s : ServerState) → s.shards ≡ shards_over (λ n. restored_slot (stored n)) confirm_after → s.words ≡ first_words (λ n. restored_slot (stored n)) → CanBeginWith s
+can_begin stored confirm_after s shards words =
+    let slots : ℕ → Slot = λ n. restored_slot (stored n) in
+    record {
+      shards = subst AreShards (sym shards) (new_are_shards slots confirm_after);
+      confirms = λ i lt. subst (λ (xs : List Shard). map (λ (w : ObserverList). w.confirm_after) (shard_at xs i).watches ≡ replicate 8 (watch_at (shard_at xs 0) 0).confirm_after) (sym shards) (confirms_after slots confirm_after i lt);
+      words = ap (λ (ws : List ℕ). length ws) words ∙ length-map-range_with_len (λ (n : ℕ). first_word (slots n)) 0 64;
+    }
+
 shards_begin : (stored : StoredSlots) (id : ℕ) (policy : Policy) → ShardsAgree (begun stored id policy) (shards_over (λ n. restored_slot (stored n)) policy.confirm_after)
 shards_begin stored id policy =
     let slots : ℕ → Slot = λ n. restored_slot (stored n) in
     let after : ℕ = policy.confirm_after in
     record {
-      are = record {
-        count = refl;
-        index = λ s lt. ap (λ (x : Shard). x.index) (new_at slots after s lt);
-        size = λ s lt. ap (λ (x : Shard). length x.slots) (new_at slots after s lt);
-        watched = λ s lt. ap (λ (x : Shard). length x.watches) (new_at slots after s lt) ∙ length-new_watches s after 8;
-      };
+      are = new_are_shards slots after;
       slot = slots_new slots after;
       now = λ s lt. ap (λ (x : Shard). x.now) (new_at slots after s lt);
       watch = λ i k low lt. ap (λ (x : Shard). watch_at x k) (new_at slots after i low) ∙ new_watch i after 8 k lt;

@@ -146,8 +146,8 @@ FindsProgram now shard = (job : Job) × (shard_turn now shard ≡ Some job) × (
 abbrev pub Turns : List ℕ → ℕ → ℕ → ServerState → Task → ServerState → Option Emission → Type 0
 Turns readings now random old task new out = (h : History) → (rest : List Task) → Serves h old (rest ++ task ∷ []) → Turned readings h (length rest) now random new out
 
--- the newest job, of this task, runs after every history so far, and its response is `out`. `memory`
--- says whether memory for the job's snapshot was allocated.
+-- the newest job, of this task, runs after every history so far, and its response is `out`.
+-- `memory` says whether memory for the job's snapshot was allocated.
 abbrev pub Runs : List ℕ → Bool → ℕ → ServerState → Task → ServerState → Option Emission → Type 0
 Runs readings memory now old task new out = (h : History) → (rest : List Task) → Serves h old (rest ++ task ∷ [])
     → Reaches (run_through readings (length rest) memory now out h) new

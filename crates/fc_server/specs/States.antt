@@ -1,14 +1,20 @@
 -- The state of a server, and the effect of an event on the server and on a task.
-use Rattle.std.specs.Prelude.{◌≡◌, ℕ, ◌%◌, ◌<◌, ◌≤◌, Bool, true, false, List, Option, Some, None, length, max}
+use Rattle.std.specs.Prelude.{◌≡◌, ℕ, ◌%◌, ◌<◌, ◌≤◌, Bool, true, false, List, Option, Some, None, length, map, max, replicate}
 use Rattle.coap_msg.specs.declared.types.Emission.{Emission}
 use Rattle.fc_registry.specs.declared.job.Job.{Job}
-use Rattle.fc_registry.specs.Shards.{shard_at, slot_in_shards, with_owner}
+use Rattle.fc_registry.specs.Restored.{empty_at, restored_slot}
+use Rattle.fc_registry.specs.Shards.{AreShards, shard_at, slot_in_shards, with_owner}
 use Rattle.fc_registry.specs.Slots.{Shard, last_serial}
+use Rattle.fc_registry.specs.Starts.{shards_over}
+use Rattle.fc_registry.specs.Watches.{watch_at}
+use Rattle.fc_store.specs.Stored.{StoredSlots}
+use Rattle.fc_core.specs.declared.policy.Policy.{Policy}
 use Rattle.fc_core.specs.declared.event.Event.{Event}
 use Rattle.fc_core.specs.declared.stage.Task.{Task}
 use Rattle.fc_core.specs.Answering.{after_answered}
 use Rattle.fc_core.specs.Contents.{Content}
-use Rattle.fc_core.specs.Exchanges.{FrontState, advanced}
+use Rattle.fc_core.specs.Exchanges.{FrontState, advanced, first_front}
+use Rattle.fc_core.specs.Heads.{first_words}
 use Rattle.fc_core.specs.Ids.{drawn, free_id}
 use Rattle.fc_core.specs.Fits.{FitsStage}
 use Rattle.fc_core.specs.History.{AtFront, Answers, Draws, at_front, Begins, History}
@@ -31,6 +37,27 @@ pub record ServerState : Type 0 where
   pub front : FrontState
   pub shards : List Shard
   pub words : List ℕ
+
+-- the server whose slots are restored from these stored states, before any event. It has the
+-- policy, and draws this message ID first.
+abbrev pub server_over : StoredSlots → ℕ → Policy → ServerState
+server_over stored id policy =
+    record { front = first_front policy id; shards = shards_over (λ n. restored_slot (stored n)) policy.confirm_after; words = first_words (λ n. restored_slot (stored n)) }
+
+-- the server with this initial state, before any event: its slots are empty.
+abbrev pub first_server : Begin → ServerState
+first_server b = server_over (empty_at b.serial) b.id b.policy
+
+-- the time in ms after which a notification of slot 0 is confirmable again (RFC 7641, section 4.5).
+abbrev pub confirm_after_of : ServerState → ℕ
+confirm_after_of s = (watch_at (shard_at s.shards 0) 0).confirm_after
+
+-- a server can begin in this state. It has eight shards of eight slots, and 64 head words. The
+-- notifications of all slots are confirmable again after the same time.
+pub record CanBeginWith (s : ServerState) : Type 0 where
+  pub shards : AreShards s.shards
+  pub confirms : (i : ℕ) → i < 8 → map (λ watch. watch.confirm_after) (shard_at s.shards i).watches ≡ replicate 8 (confirm_after_of s)
+  pub words : length s.words ≡ 64
 
 -- the inputs that the jobs of all slots share.
 abbrev pub common_in : FrontState → List ℕ → Common

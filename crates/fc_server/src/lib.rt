@@ -58,13 +58,14 @@
 //!   the restored programs. Otherwise the error names a slot that isn't restored, with the reason,
 //!   or says that memory can't be allocated.
 //!
-//! By the contracts of `Server`, `Engine::handle`, `tick`, `fire`, `resend`, `notify`,
-//! `idle_until`, `gauges`, `observer_counts`, `SingleThread`, `Flushing::begin`, `step`,
+//! By the contracts of `FirstServer`, `Server`, `Engine::handle`, `tick`, `fire`, `resend`,
+//! `notify`, `idle_until`, `gauges`, `observer_counts`, `SingleThread`, `Flushing::begin`, `step`,
 //! `flush::idle_until`.
 #![tactic(auto)]
 
 pub mod alone;
 pub mod engine;
+pub mod first;
 pub mod flush;
 pub mod ingress;
 pub mod server;
@@ -72,6 +73,7 @@ pub mod witness;
 
 pub use alone::SingleThread;
 pub use engine::Engine;
+pub use first::FirstServer;
 pub use ingress::Ingress;
 pub use server::{Begin, DEFAULT_BEGIN, Server};
 pub use witness::{NoWitness, Witness};

@@ -18,13 +18,14 @@ ghost use Rattle.fc_store.specs.Stored.{stored_in};
 ghost use Rattle.fc_server.specs.States.{Responds, AtWork, CanBegin, Does, DrawsId, Works};
 ghost use Rattle.fc_server.specs.Steps.{shard_asked, shard_ticked, shard_told, shard_turn};
 
+use crate::first::FirstServer;
 use coap_msg::{Emission, Endpoint};
 use fc_core::front::blank_emission;
 use fc_core::{DEFAULT_POLICY, Event, Front, FrontGauges, Handled, Heads, Policy, Responded, Task};
 use fc_help::Readings;
 use fc_machine::Frame;
 use fc_observe::Ticked;
-use fc_registry::{Job, PLACES, Shard, SlotNumber, StartError, make_shards, restore_shards};
+use fc_registry::{Job, PLACES, Shard, SlotNumber, StartError};
 use fc_store::StoredSlot;
 use std::alloc::{AllocError, Global};
 use std::marker::Model;
@@ -78,10 +79,15 @@ impl Server {
         ensures shards { IfOk result (λ s. s.shards ≡ first_shards begin.now.serial begin.now.policy.confirm_after) }
         ensures words { IfOk result (λ s. s.words ≡ no_words) }
     {
+        let FirstServer {
+            front,
+            shards,
+            heads,
+        } = FirstServer::new(alloc, begin)?;
         Ok(Server {
-            front: Front::new(alloc, &begin.policy, begin.id)?,
-            shards: make_shards(alloc, begin.serial, begin.policy.confirm_after)?,
-            heads: Heads::new(),
+            front,
+            shards,
+            heads,
             frame: Frame::new(alloc)?,
         })
     }
@@ -107,11 +113,15 @@ impl Server {
         ensures can { IfOk result (λ s. (n : ℕ) → n < 64 → CanRestore (stored_in stored.now n)) }
         ensures cause { IfErr result (IsStartError (stored_in stored.now)) }
     {
-        let shards = restore_shards(alloc, policy.confirm_after, stored)?;
-        Ok(Server {
-            front: Front::new(alloc, policy, id)?,
+        let FirstServer {
+            front,
             shards,
-            heads: Heads::over(stored),
+            heads,
+        } = FirstServer::over(alloc, stored, id, policy)?;
+        Ok(Server {
+            front,
+            shards,
+            heads,
             frame: Frame::new(alloc)?,
         })
     }
