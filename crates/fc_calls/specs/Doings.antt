@@ -30,7 +30,7 @@ use Rattle.fc_registry.specs.declared.shard.Taken as handles
 use Rattle.fc_registry.specs.Calls.{CommitsTo, TakesAt, after_snapshot, install_in, receipt_at, remove_from, run_of, initial_vars_of}
 use Rattle.fc_registry.specs.Changes.{after_changes}
 use Rattle.fc_registry.specs.Notes.{NotesTo}
-use Rattle.fc_registry.specs.Slots.{Shard, Ticket, slot_in, with_slot}
+use Rattle.fc_registry.specs.Slots.{Present, Shard, Ticket, slot_in, with_slot}
 use Rattle.fc_registry.specs.Turns.{due_job}
 use Rattle.fc_registry.specs.Watches.{StaysIdleUntil, after_due, after_given_up, shard_after_tick, due_place, at_time, is_idle, observer_counts, overdue_place, signal_call, signalled, ticked_in}
 
@@ -101,6 +101,15 @@ RemovesFrom job before removal after =
 -- the receipt of the program in a job's slot is read.
 abbrev pub DescribesTo : Job → Shard → Option Receipt → Shard → Type 0
 DescribesTo job before receipt after = (receipt ≡ receipt_at (slot_in before job.origin.slot).present) × (after ≡ before)
+
+-- the cost of the program in a slot, in steps; an empty slot has none.
+abbrev pub cost_at : Option Present → Option ℕ
+cost_at None = None
+cost_at (Some p) = Some p.program.cost
+
+-- the cost of the program in a slot is found.
+abbrev pub FindsCost : ℕ → Shard → Option ℕ → Shard → Type 0
+FindsCost slot before cost after = (cost ≡ cost_at (slot_in before slot).present) × (after ≡ before)
 
 -- the observer of a lease is notified at this time, with this message ID.
 abbrev pub NotesAt : Turn → ℕ → ℕ → ℕ → Notification → Shard → Noted → Shard → Type 0

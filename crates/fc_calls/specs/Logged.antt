@@ -32,6 +32,8 @@ pub data LoggedCall : Type 0 where
   AnswersRequest : (now : ℕ) (job : Job) (content : Content) (sent : Option Emission) → LoggedCall
   -- the receipt of the program in a job's slot is read.
   TellsReceipt : (job : Job) (receipt : Option Receipt) → LoggedCall
+  -- the cost of the program in a slot is read, or the slot is empty.
+  ReadsCost : (slot : ℕ) (cost : Option ℕ) → LoggedCall
   -- the device returns these readings.
   GivesReadings : (readings : List ℕ) → LoggedCall
   -- the head word of a slot is read.
@@ -48,6 +50,8 @@ pub data LoggedCall : Type 0 where
   HandsSignal : (shard : ℕ) (from : Endpoint) (id : ℕ) (reset : Bool) → LoggedCall
   -- a shard that is idle at this time is advanced to it.
   AdvancesIdle : (shard now : ℕ) → LoggedCall
+  -- a shard that is idle at this time is skipped: it isn't called.
+  SkipsIdle : (shard now : ℕ) → LoggedCall
   -- a shard is advanced to this time, with this result.
   AdvancesShard : (shard now : ℕ) (ticked : Ticked) → LoggedCall
   -- a shard is asked at this time for its next lease, with this result.

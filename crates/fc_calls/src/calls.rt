@@ -7,7 +7,7 @@ ghost use Rattle.fc_registry.specs.Notes.{noted_as};
 ghost use Rattle.fc_registry.specs.Slots.{IsOwned, Shard as Seen};
 ghost use Rattle.fc_registry.specs.Turns.{written_if};
 ghost use Rattle.fc_calls.specs.Doings.{CommitsAt, DescribesTo, GivesTurnAt, GivesUpAt, HandsOn, InstallsTo, NotesAt, PassesIfIdle};
-ghost use Rattle.fc_calls.specs.Doings.{RemovesFrom, TakesInto, TellsIdleUntil, TellsObservers, TicksAt};
+ghost use Rattle.fc_calls.specs.Doings.{RemovesFrom, TakesInto, FindsCost, TellsIdleUntil, TellsObservers, TicksAt};
 ghost use Rattle.fc_calls.specs.Kept.{HasEightSlots, commit_changes, confirm_times, install_changes, removal_changes, serials};
 
 use coap_msg::{Emission, Endpoint};
@@ -15,8 +15,8 @@ use fc_help::Readings;
 use fc_machine::Outcome;
 use fc_observe::{Ticked, Turn};
 use fc_registry::{
-    Committed, Job, Made, NoteOutcome, Notification, PLACES, Receipt, Removal, Shard, SlotSnapshot,
-    Taken, Ticket,
+    Committed, Job, Made, NoteOutcome, Notification, PLACES, Receipt, Removal, Shard, SlotNumber,
+    SlotSnapshot, Taken, Ticket,
 };
 use fc_verify::Verified;
 use std::sync::Arc;
@@ -199,6 +199,29 @@ impl<'a> ShardCall for Describe<'a> {
 
     fn call(self, shard: &mut Shard, _: &mut ()) -> Option<Receipt> {
         shard.receipt(self.job.origin.slot)
+    }
+}
+
+/// Returns the cost of the program in a slot, in steps, or `None` if the slot is empty.
+///
+/// See [`Shard::receipt`].
+#[derive(Drop)]
+pub struct ReadCost {
+    pub slot: SlotNumber,
+}
+
+impl ShardCall for ReadCost {
+    type Answer = Option<u32>;
+
+    type Room = ();
+
+    ghost may_ask = { λ call shard. IsOwned shard call.slot };
+
+    ghost does = { λ call before answer room after. FindsCost call.slot before answer after };
+
+    fn call(self, shard: &mut Shard, _: &mut ()) -> Option<u32> {
+        let receipt = shard.receipt(self.slot)?;
+        Some(receipt.cost)
     }
 }
 

@@ -36,7 +36,7 @@ module _ (first_job : ℕ) where
 
   by_thread : (t : ℕ) → 9 ≤ t → t < first_job → (e : FiledEntry) → IsKeyed first_job e → is_on entry_keys t e ≡ (e.who == t)
   by_thread t le lt e k = or_same (part_key e.who (part_of e.operation) == t) (e.who == t) (e.job == t)
-      (part_or_thread (part_of e.operation) e.who t (low_of e.operation k.event) le)
+      (part_or_thread (part_of e.operation) e.who t (low_of e.operation k.of_server) le)
       (job_or_thread e t (is_of_job e.operation) refl k lt)
 
   same_filter : (p q : FiledEntry → Bool) (log : List FiledEntry) → AreKeyed first_job log → ((e : FiledEntry) → IsKeyed first_job e → p e ≡ q e) → filter p log ≡ filter q log

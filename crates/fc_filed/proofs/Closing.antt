@@ -6,12 +6,12 @@ use Rattle.std.proofs.lemmas.Bool.Decides.{nat_tests}
 use Rattle.fc_book.specs.declared.view.Track.{Track}
 use Rattle.fc_book.specs.declared.view.BookView.{BookView}
 use Rattle.fc_book.specs.Tracks.{AreOn, HasKey, is_on, on}
-use Rattle.fc_core.specs.Heads.{no_words}
+use Rattle.fc_core.specs.History.{History}
 use Rattle.fc_registry.specs.Shards.{shard_at}
-use Rattle.fc_server.specs.declared.server.Begin.{Begin}
-use Rattle.fc_server.specs.States.{ServerState, begin_of}
+use Rattle.fc_server.specs.Serving.{Serves}
+use Rattle.fc_server.specs.States.{ServerState}
 use Rattle.fc_linear.specs.Operations.{FrontDoes, LogEntry, Operation, ServerPart, FrontPart, ShardPart, WordsPart, NoPart, ShardDoes, WordsDo, is_front, is_shard, is_words, part_of}
-use Rattle.fc_linear.specs.Parts.{AllEvents, BringsItsJob, HaveNextNumbers, IsHistoryOf, LeadInOrder, RightByParts, bringing, concerns, first_server, history_on}
+use Rattle.fc_linear.specs.Parts.{BringsItsJob, HaveNextNumbers, IsHistoryOf, LeadInOrder, RightByParts, bringing, concerns, history_on, AllOfServer}
 use Rattle.fc_linear.proofs.Ordered.{whole}
 use Rattle.fc_filed.specs.declared.entry.FiledEntry.{FiledEntry}
 use Rattle.fc_filed.specs.Entries.{AreKeyed, ChangesWords, IsKeyed, OperationsLead, entry_keys, is_of_job, log_entry, log_of, part_key}
@@ -86,12 +86,12 @@ module _ (first_job : ℕ) where
   filtered p q [] same k = refl
   filtered p q (e ∷ es) same k = kept_by (p (log_entry first_job e)) (q e) (log_entry first_job e) e (filter p (log_of first_job es)) (filter q es) (same e k.0) refl (filtered p q es same k.1)
 
-  all_events : (log : List FiledEntry) → AreKeyed first_job log → AllEvents (log_of first_job log)
-  all_events [] k = tt
-  all_events (e ∷ es) k = (k.0.event, all_events es k.1)
+  all_of_server : (log : List FiledEntry) → AreKeyed first_job log → AllOfServer (log_of first_job log)
+  all_of_server [] k = tt
+  all_of_server (e ∷ es) k = (k.0.of_server, all_of_server es k.1)
 
-  right : (log : List FiledEntry) (first end : ServerState) → AreTracksRight first_job log first end → RightByParts end first [] (log_of first_job log)
-  right log first end t = record {
+  pub tracks_are_right : (log : List FiledEntry) (first end : ServerState) → AreTracksRight first_job log first end → RightByParts end first [] (log_of first_job log)
+  tracks_are_right log first end t = record {
     front = subst (λ (l : List LogEntry). LeadInOrder FrontDoes l first.front end.front) (sym (filtered (λ e. is_front (part_of e.operation)) (is_on entry_keys 0) log on_front_track t.keyed)) (lead_log FrontDoes first_job (on entry_keys 0 log) first.front end.front t.front);
     shards = λ i lt. subst (λ (l : List LogEntry). LeadInOrder ShardDoes l (shard_at first.shards i) (shard_at end.shards i)) (sym (filtered (λ e. is_shard i (part_of e.operation)) (is_on entry_keys (i + 1)) log (on_shard_track i lt) t.keyed))
         (lead_log ShardDoes first_job (on entry_keys (i + 1) log) (shard_at first.shards i) (shard_at end.shards i) (t.shards i lt));
@@ -99,11 +99,11 @@ module _ (first_job : ℕ) where
     jobs = λ k lt. absurd (omega (arith, lt));
     to_come = λ k le. subst BringsItsJob (sym (filtered (concerns k) (is_on entry_keys (first_job + k)) log (on_job_track k) t.keyed)) (t.jobs k);
     numbered = t.numbered;
-    events = all_events log t.keyed;
+    of_server = all_of_server log t.keyed;
   }
 
-pub tracks_make_history : (first_job : ℕ) (log : List FiledEntry) (b : Begin) (end : ServerState) → AreTracksRight first_job log (first_server b) end → IsHistoryOf (history_on (begin_of b) (log_of first_job log)) end
-tracks_make_history first_job log b end t = whole (log_of first_job log) b end (right first_job log (first_server b) end t)
+pub tracks_make_history : (first_job : ℕ) (log : List FiledEntry) (h : History) (first end : ServerState) → Serves h first [] → AreTracksRight first_job log first end → IsHistoryOf (history_on h (log_of first_job log)) end
+tracks_make_history first_job log h first end serves t = whole (log_of first_job log) h first end serves (tracks_are_right first_job log first end t)
 
 -- ---- an owner of all tracks
 
@@ -122,7 +122,7 @@ has_or_not (t ∷ ts) k = ⊎_elim
     (has_or_not ts k))
     (same_or_not t.key k)
 
-module _ (first_job : ℕ) (v : BookView FiledEntry) (first end : ServerState) (h : HasServerHistory first_job v) (all : OwnsAll first_job v first end) where
+module _ (first_job : ℕ) (v : BookView FiledEntry) (first end : ServerState) (h : HasServerHistory first_job first v) (all : OwnsAll first_job v first end) where
   part_leads : {S : Type 0} (Does : Operation → S → S → Type 0) (k : ℕ) (x y : S) → LeadsPart Does k v.own x y → OperationsLead Does (on entry_keys k h.log) x y
   part_leads Does k x y l = subst (λ (es : List FiledEntry). OperationsLead Does es x y) (track_is h.log l.entries v.own k h.is.own l.has) l.leads
 
@@ -132,13 +132,14 @@ module _ (first_job : ℕ) (v : BookView FiledEntry) (first end : ServerState) (
       (λ (no : HasKey k v.own → ⊥). h.sent all.threads k le no)
       (has_or_not v.own k)
 
-pub attested_make_history : (first_job : ℕ) (b : Begin) (v : BookView FiledEntry) (end : ServerState) (h : HasServerHistory first_job v) → end.words ≡ h.words → HaveNextNumbers 0 (bringing (log_of first_job h.log)) → OwnsAll first_job v (first_server b) end
-    → IsHistoryOf (history_on (begin_of b) (log_of first_job h.log)) end
-attested_make_history first_job b v end h words numbered all = tracks_make_history first_job h.log b end (record {
-  front = part_leads first_job v (first_server b) end h all FrontDoes 0 (first_server b).front end.front all.front;
-  shards = λ i low. part_leads first_job v (first_server b) end h all ShardDoes (i + 1) (shard_at (first_server b).shards i) (shard_at end.shards i) (all.shards i low);
-  heads = subst (λ (ws : List ℕ). OperationsLead ChangesWords h.log no_words ws) (sym words) h.heads;
-  jobs = λ k. job_right first_job v (first_server b) end h all (first_job + k) (omega arith);
+pub attested_make_history : (first_job : ℕ) (before : History) (first end : ServerState) (v : BookView FiledEntry) (h : HasServerHistory first_job first v) → Serves before first []
+    → end.words ≡ h.words → HaveNextNumbers 0 (bringing (log_of first_job h.log)) → OwnsAll first_job v first end
+    → IsHistoryOf (history_on before (log_of first_job h.log)) end
+attested_make_history first_job before first end v h serves words numbered all = tracks_make_history first_job h.log before first end serves (record {
+  front = part_leads first_job v first end h all FrontDoes 0 first.front end.front all.front;
+  shards = λ i low. part_leads first_job v first end h all ShardDoes (i + 1) (shard_at first.shards i) (shard_at end.shards i) (all.shards i low);
+  heads = subst (λ (ws : List ℕ). OperationsLead ChangesWords h.log first.words ws) (sym words) h.heads;
+  jobs = λ k. job_right first_job v first end h all (first_job + k) (omega arith);
   numbered = numbered;
   keyed = h.keyed;
 })

@@ -3,8 +3,9 @@ use Rattle.std.proofs.Common.{◌≡◌, ◌≢◌, ◌⊎◌, ℕ, zero, suc, �
 use Rattle.std.specs.Prelude.{if◌then◌else◌, is_none, is_some}
 use Rattle.std.specs.List.{All}
 use Rattle.std.proofs.lemmas.Bool.{and_parts, cases_lt}
+use Rattle.std.proofs.lemmas.Bool.Decides.{nat_tests}
 use Rattle.std.proofs.lemmas.List.{append-nil, get_or-set_other, get_or-set_same}
-use Rattle.std.proofs.lemmas.List.Elements.{All-weaker}
+use Rattle.std.proofs.lemmas.List.Elements.{All-weaker, filter-append}
 use Rattle.fc_observe.specs.declared.entry.Entry.{Entry}
 use Rattle.fc_observe.specs.Observers.{next_turn, overdue_entry}
 use Rattle.fc_observe.specs.Quiet.{IsIdle, IsIdleUntil}
@@ -13,53 +14,46 @@ use Rattle.fc_registry.specs.Slots.{Shard}
 use Rattle.fc_registry.specs.Watches.{StaysIdleUntil, at_time, due_place, has_due, has_overdue, is_idle, noticed_at, overdue_place, place_from, watch_at}
 use Rattle.fc_registry.proofs.Places.{idle_places}
 use Rattle.fc_registry.specs.Shards.{shard_at}
-use Rattle.fc_server.specs.declared.server.Begin.{Begin}
-use Rattle.fc_book.specs.Tracks.{is_on, on}
-use Rattle.fc_book.proofs.Keys.{is_off, on-append, on-before}
-use Rattle.fc_linear.specs.Operations.{ShardDoes, part_of}
-use Rattle.fc_linear.specs.Parts.{first_server}
+use Rattle.fc_server.specs.States.{ServerState}
+use Rattle.fc_linear.specs.Operations.{ShardDoes, part_of, ServerPart, FrontPart, ShardPart, WordsPart, NoPart, is_shard}
 use Rattle.fc_filed.specs.declared.entry.FiledEntry.{FiledEntry}
-use Rattle.fc_filed.specs.Entries.{IsKeyed, OperationsLead, entry_keys, is_of_job, part_key}
+use Rattle.fc_filed.specs.Entries.{OperationsLead, part_key, shard_entries}
 use Rattle.fc_filed.specs.Idle.{AreIdleWords, IsIdleBefore, LeadToIdle, idle_word}
 use Rattle.fc_filed.specs.Parts.{AreCallsOf}
 use Rattle.fc_filed.proofs.Sent.{same_or_not}
 
--- ---- an entry is on no track of a shard but that of its part
-
-high : (first_job : ℕ) (e : FiledEntry) (b : Bool) → is_of_job e.operation ≡ b → IsKeyed first_job e → 9 ≤ e.job
-high first_job e true is k = let le = k.job is in let who = k.who in omega (arith, le, who.0, who.1)
-high first_job e false is k = let same = k.none is in let who = k.who in omega (arith, same, who.0)
+-- ---- an entry is of no shard but its part
 
 -- the entry's part isn't the shard of this index.
 abbrev pub IsElsewhere : FiledEntry → ℕ → Type 0
 IsElsewhere e index = part_key e.who (part_of e.operation) ≢ index + 1
 
-off_shard : (first_job : ℕ) (e : FiledEntry) (index : ℕ) → IsKeyed first_job e → index < 8 → IsElsewhere e index → is_on entry_keys (index + 1) e ≡ false
-off_shard first_job e index k lt other =
-    let who = k.who.0 in
-    let job = high first_job e (is_of_job e.operation) refl k in
-    is_off entry_keys (index + 1) e other (λ p. omega (arith, p, who, lt)) (λ p. omega (arith, p, job, lt))
+off_shard : (p : ServerPart) (who index : ℕ) → part_key who p ≢ index + 1 → is_shard index p ≡ false
+off_shard FrontPart who index other = refl
+off_shard (ShardPart i) who index other = grind (other, arith, nat_tests)
+off_shard WordsPart who index other = refl
+off_shard NoPart who index other = refl
 
 -- such an entry is not one of the shard's.
-pub same_entries : (first_job : ℕ) (e : FiledEntry) (index : ℕ) (log : List FiledEntry) → IsKeyed first_job e → index < 8 → IsElsewhere e index → on entry_keys (index + 1) log ≡ on entry_keys (index + 1) (log ++ e ∷ [])
-same_entries first_job e index log k lt other =
-    let none = on-before entry_keys (index + 1) e (off_shard first_job e index k lt other) in
-    sym (on-append entry_keys (index + 1) log (e ∷ []) ∙ (ap (λ (l : List FiledEntry). on entry_keys (index + 1) log ++ l) none ∙ append-nil (on entry_keys (index + 1) log)))
+same_entries : (e : FiledEntry) (index : ℕ) (log : List FiledEntry) → IsElsewhere e index → shard_entries index log ≡ shard_entries index (log ++ e ∷ [])
+same_entries e index log other =
+    let none = ap (λ (b : Bool). if b then e ∷ [] else []) (off_shard (part_of e.operation) e.who index other) in
+    sym (filter-append (λ (x : FiledEntry). is_shard index (part_of x.operation)) log (e ∷ []) ∙ (ap (λ (l : List FiledEntry). shard_entries index log ++ l) none ∙ append-nil (shard_entries index log)))
 
-pub idle_still : (begin : Begin) (first_job : ℕ) (e : FiledEntry) (index until : ℕ) (log : List FiledEntry) → IsKeyed first_job e → index < 8 → IsElsewhere e index → IsIdleBefore begin log index until → IsIdleBefore begin (log ++ e ∷ []) index until
-idle_still begin first_job e index until log k lt other idle = λ now before. subst (λ (es : List FiledEntry). LeadToIdle (shard_at (first_server begin).shards index) es now) (same_entries first_job e index log k lt other) (idle now before)
+pub idle_still : (begin : ServerState) (e : FiledEntry) (index until : ℕ) (log : List FiledEntry) → IsElsewhere e index → IsIdleBefore begin log index until → IsIdleBefore begin (log ++ e ∷ []) index until
+idle_still begin e index until log other idle = λ now before. subst (λ (es : List FiledEntry). LeadToIdle (shard_at begin.shards index) es now) (same_entries e index log other) (idle now before)
 
 -- an entry of no shard leaves the idle words right.
-pub idle_more : (begin : Begin) (first_job : ℕ) (e : FiledEntry) (log : List FiledEntry) (words : List ℕ) → IsKeyed first_job e → ((index : ℕ) → index < 8 → IsElsewhere e index) → AreIdleWords begin log words → AreIdleWords begin (log ++ e ∷ []) words
-idle_more begin first_job e log words k other idle = λ index lt. idle_still begin first_job e index (idle_word words index) log k lt (other index lt) (idle index lt)
+pub idle_more : (begin : ServerState) (e : FiledEntry) (log : List FiledEntry) (words : List ℕ) → ((index : ℕ) → index < 8 → IsElsewhere e index) → AreIdleWords begin log words → AreIdleWords begin (log ++ e ∷ []) words
+idle_more begin e log words other idle = λ index lt. idle_still begin e index (idle_word words index) log (other index lt) (idle index lt)
 
 -- other words than these don't matter.
-pub idle_same : (begin : Begin) (log : List FiledEntry) (words vs : List ℕ) → ((index : ℕ) → index < 8 → idle_word vs index ≡ idle_word words index) → AreIdleWords begin log words → AreIdleWords begin log vs
+pub idle_same : (begin : ServerState) (log : List FiledEntry) (words vs : List ℕ) → ((index : ℕ) → index < 8 → idle_word vs index ≡ idle_word words index) → AreIdleWords begin log words → AreIdleWords begin log vs
 idle_same begin log words vs same idle = λ index lt. subst (λ (n : ℕ). IsIdleBefore begin log index n) (sym (same index lt)) (idle index lt)
 
 -- ---- an idle word is written
 
-module _ (begin : Begin) (log : List FiledEntry) (words : List ℕ) (index until : ℕ) (lt : 8 + index < length words) where
+module _ (begin : ServerState) (log : List FiledEntry) (words : List ℕ) (index until : ℕ) (lt : 8 + index < length words) where
   pub idle_set : IsIdleBefore begin log index until → ((i : ℕ) → i < 8 → i ≢ index → IsIdleBefore begin log i (idle_word words i)) → AreIdleWords begin log (set words (8 + index) until)
   idle_set here others i low = ⊎_elim
       (λ (e : i ≡ index). subst (λ (k : ℕ). IsIdleBefore begin log k (idle_word (set words (8 + index) until) k)) (sym e)
@@ -126,10 +120,10 @@ idle_before s until now stays idle before = ⊎_elim
     (cases_lt s.now now)
 
 -- the calls of such a shard lead to one that is idle before that time.
-pub leads_idle : (begin : Begin) (key index until : ℕ) (calls : List FiledEntry) (s : Shard) → index + 1 ≡ key → AreCallsOf begin key calls s → StaysIdleUntil until s → is_idle s ≡ true → (now : ℕ) → now < until → LeadToIdle (shard_at (first_server begin).shards index) calls now
+pub leads_idle : (begin : ServerState) (key index until : ℕ) (calls : List FiledEntry) (s : Shard) → index + 1 ≡ key → AreCallsOf begin key calls s → StaysIdleUntil until s → is_idle s ≡ true → (now : ℕ) → now < until → LeadToIdle (shard_at begin.shards index) calls now
 leads_idle begin key index until calls s key_is led stays idle now before =
     let same : s.index ≡ index = (let e = led.2 in omega (arith, e, key_is)) in record {
       shard = s;
-      led = subst (λ (i : ℕ). OperationsLead ShardDoes calls (shard_at (first_server begin).shards i) s) same led.3;
+      led = subst (λ (i : ℕ). OperationsLead ShardDoes calls (shard_at begin.shards i) s) same led.3;
       idle = idle_before s until now stays idle before;
     }

@@ -10,11 +10,11 @@ use Rattle.fc_book.specs.declared.view.Track.{Track}
 use Rattle.fc_book.specs.declared.view.BookView.{BookView}
 use Rattle.fc_book.specs.Tracks.{EntryKeys, HasKey, entries_at, entries_of, entries_with, is_on, with_entry}
 use Rattle.fc_book.proofs.Keys.{has-with, is_off, keeps-key}
-use Rattle.fc_calls.specs.Logged.{HandlesDatagram, AdvancesFront, FiresTimer, DrawsId, AnswersRequest, TellsReceipt, GivesReadings, LooksAt, RaisesWord}
-use Rattle.fc_calls.specs.Logged.{TakesForJob, CommitsRun, InstallsProgram, RemovesProgram, HandsSignal, AdvancesIdle, AdvancesShard, GivesTurn, NotesTurn, GivesUpTurn}
+use Rattle.fc_calls.specs.Logged.{HandlesDatagram, AdvancesFront, FiresTimer, DrawsId, AnswersRequest, TellsReceipt, GivesReadings, ReadsCost, LooksAt, RaisesWord}
+use Rattle.fc_calls.specs.Logged.{TakesForJob, CommitsRun, InstallsProgram, RemovesProgram, HandsSignal, AdvancesIdle, SkipsIdle, AdvancesShard, GivesTurn, NotesTurn, GivesUpTurn}
 use Rattle.fc_core.specs.Stage.{Stage}
 use Rattle.fc_core.specs.Stages.{first_stage}
-use Rattle.fc_linear.specs.Operations.{Operation, Logged, RejectsImage, LacksMemory, FailsToSave, IsEvent, StageMoves, is_for_job, job_brought, part_of}
+use Rattle.fc_linear.specs.Operations.{Operation, Logged, RejectsImage, LacksMemory, FailsToSave, IsOfServer, StageMoves, is_for_job, job_brought, part_of}
 use Rattle.fc_linear.specs.Parts.{FollowsStages}
 use Rattle.fc_filed.specs.declared.entry.FiledEntry.{FiledEntry}
 use Rattle.fc_filed.specs.Books.{IsRightForJob}
@@ -25,35 +25,37 @@ use Rattle.fc_filed.proofs.Keyed.{low_of, part_below}
 
 -- ---- an operation that a stage needs
 
--- the operation is for a job that arrived before, and is an event.
+-- the operation is for a job that arrived before, and one of a server.
 pub record IsOfOldJob (operation : Operation) : Type 0 where
   pub for : is_for_job operation ≡ true
-  pub event : IsEvent operation
+  pub of_server : IsOfServer operation
   pub none : job_brought operation ≡ None
 
 pub of_old_job : (operation : Operation) (job : Job) (s t : Stage) → StageMoves operation job s t → IsOfOldJob operation
 of_old_job (Logged (HandlesDatagram now from bytes brings)) job s t m = absurd m
 of_old_job (Logged (AdvancesFront now)) job s t m = absurd m
 of_old_job (Logged (FiresTimer slot now)) job s t m = absurd m
-of_old_job (Logged (DrawsId now id)) job s t m = record { for = refl; event = tt; none = refl }
-of_old_job (Logged (AnswersRequest now j content sent)) job s t m = record { for = refl; event = tt; none = refl }
-of_old_job (Logged (TellsReceipt j receipt)) job s t m = record { for = refl; event = tt; none = refl }
+of_old_job (Logged (DrawsId now id)) job s t m = record { for = refl; of_server = tt; none = refl }
+of_old_job (Logged (AnswersRequest now j content sent)) job s t m = record { for = refl; of_server = tt; none = refl }
+of_old_job (Logged (TellsReceipt j receipt)) job s t m = record { for = refl; of_server = tt; none = refl }
 of_old_job (Logged (GivesReadings readings)) job s t m = absurd m
-of_old_job (Logged (LooksAt slot word)) job s t m = record { for = refl; event = tt; none = refl }
-of_old_job (Logged (TakesForJob j readings taken)) job s t m = record { for = refl; event = tt; none = refl }
-of_old_job (Logged (CommitsRun now ran ticket committed)) job s t m = record { for = refl; event = tt; none = refl }
-of_old_job (Logged (InstallsProgram j program answer)) job s t m = record { for = refl; event = tt; none = refl }
-of_old_job (Logged (RemovesProgram j removal)) job s t m = record { for = refl; event = tt; none = refl }
+of_old_job (Logged (ReadsCost slot cost)) job s t m = absurd m
+of_old_job (Logged (LooksAt slot word)) job s t m = record { for = refl; of_server = tt; none = refl }
+of_old_job (Logged (TakesForJob j readings taken)) job s t m = record { for = refl; of_server = tt; none = refl }
+of_old_job (Logged (CommitsRun now ran ticket committed)) job s t m = record { for = refl; of_server = tt; none = refl }
+of_old_job (Logged (InstallsProgram j program answer)) job s t m = record { for = refl; of_server = tt; none = refl }
+of_old_job (Logged (RemovesProgram j removal)) job s t m = record { for = refl; of_server = tt; none = refl }
 of_old_job (Logged (HandsSignal shard from id reset)) job s t m = absurd m
 of_old_job (Logged (AdvancesIdle shard now)) job s t m = absurd m
+of_old_job (Logged (SkipsIdle shard now)) job s t m = absurd m
 of_old_job (Logged (AdvancesShard shard now ticked)) job s t m = absurd m
 of_old_job (Logged (GivesTurn shard now turn)) job s t m = absurd m
-of_old_job (Logged (NotesTurn turn id now random told noted)) job s t m = record { for = refl; event = tt; none = refl }
-of_old_job (Logged (GivesUpTurn turn now)) job s t m = record { for = refl; event = tt; none = refl }
-of_old_job (Logged (RaisesWord slot word)) job s t m = record { for = refl; event = tt; none = refl }
-of_old_job (RejectsImage j content) job s t m = record { for = refl; event = tt; none = refl }
-of_old_job (LacksMemory j) job s t m = record { for = refl; event = tt; none = refl }
-of_old_job (FailsToSave j) job s t m = record { for = refl; event = tt; none = refl }
+of_old_job (Logged (NotesTurn turn id now random told noted)) job s t m = record { for = refl; of_server = tt; none = refl }
+of_old_job (Logged (GivesUpTurn turn now)) job s t m = record { for = refl; of_server = tt; none = refl }
+of_old_job (Logged (RaisesWord slot word)) job s t m = record { for = refl; of_server = tt; none = refl }
+of_old_job (RejectsImage j content) job s t m = record { for = refl; of_server = tt; none = refl }
+of_old_job (LacksMemory j) job s t m = record { for = refl; of_server = tt; none = refl }
+of_old_job (FailsToSave j) job s t m = record { for = refl; of_server = tt; none = refl }
 
 -- ---- the entries on a track, after an entry is filed
 
@@ -115,7 +117,7 @@ module _ (first_job who : ℕ) (job : Job) where
     job_is = ap (λ (b : Bool). if b then key_of_first before.own else who) of_job
 
     part_low : part_key who (part_of operation) < first_job
-    part_low = part_below (part_of operation) who first_job (low_of operation (of_old_job operation job s t moves).event) own.key.0 own.key.1
+    part_low = part_below (part_of operation) who first_job (low_of operation (of_old_job operation job s t moves).of_server) own.key.0 own.key.1
 
     on_job : is_on entry_keys (key_of_first before.own) filed ≡ true
     on_job = on_third (part_key who (part_of operation)) who filed.job (key_of_first before.own) job_is

@@ -4,9 +4,9 @@ use Rattle.std.specs.Prelude.{if◌then◌else◌}
 use Rattle.fc_book.specs.declared.view.Track.{Track}
 use Rattle.fc_book.specs.declared.view.BookView.{BookView}
 use Rattle.fc_book.specs.Tracks.{HasKey}
-use Rattle.fc_calls.specs.Logged.{HandlesDatagram, AdvancesFront, FiresTimer, DrawsId, AnswersRequest, TellsReceipt, GivesReadings, LooksAt, RaisesWord}
-use Rattle.fc_calls.specs.Logged.{TakesForJob, CommitsRun, InstallsProgram, RemovesProgram, HandsSignal, AdvancesIdle, AdvancesShard, GivesTurn, NotesTurn, GivesUpTurn}
-use Rattle.fc_linear.specs.Operations.{Operation, Logged, RejectsImage, LacksMemory, FailsToSave, ServerPart, FrontPart, ShardPart, WordsPart, NoPart, IsEvent, part_of}
+use Rattle.fc_calls.specs.Logged.{HandlesDatagram, AdvancesFront, FiresTimer, DrawsId, AnswersRequest, TellsReceipt, GivesReadings, ReadsCost, LooksAt, RaisesWord}
+use Rattle.fc_calls.specs.Logged.{TakesForJob, CommitsRun, InstallsProgram, RemovesProgram, HandsSignal, AdvancesIdle, SkipsIdle, AdvancesShard, GivesTurn, NotesTurn, GivesUpTurn}
+use Rattle.fc_linear.specs.Operations.{Operation, Logged, RejectsImage, LacksMemory, FailsToSave, ServerPart, FrontPart, ShardPart, WordsPart, NoPart, IsOfServer, part_of}
 use Rattle.fc_filed.specs.declared.entry.FiledEntry.{FiledEntry}
 use Rattle.fc_filed.specs.Entries.{AreKeyed, IsKeyed, is_of_job, part_key}
 use Rattle.fc_filed.specs.Threads.{MayFile, entry_by, key_of_first}
@@ -16,7 +16,7 @@ abbrev pub IsLow : ServerPart → Type 0
 IsLow (ShardPart index) = index < 8
 IsLow other = Unit {0}
 
-pub low_of : (operation : Operation) → IsEvent operation → IsLow (part_of operation)
+pub low_of : (operation : Operation) → IsOfServer operation → IsLow (part_of operation)
 low_of (Logged (HandlesDatagram now from bytes brings)) p = tt
 low_of (Logged (AdvancesFront now)) p = tt
 low_of (Logged (FiresTimer slot now)) p = tt
@@ -24,6 +24,7 @@ low_of (Logged (DrawsId now id)) p = tt
 low_of (Logged (AnswersRequest now job content sent)) p = tt
 low_of (Logged (TellsReceipt job receipt)) p = omega arith
 low_of (Logged (GivesReadings readings)) p = tt
+low_of (Logged (ReadsCost slot cost)) p = omega arith
 low_of (Logged (LooksAt slot word)) p = tt
 low_of (Logged (TakesForJob job readings taken)) p = omega arith
 low_of (Logged (CommitsRun now ran ticket committed)) p = omega arith
@@ -31,6 +32,7 @@ low_of (Logged (InstallsProgram job program made)) p = omega arith
 low_of (Logged (RemovesProgram job removal)) p = omega arith
 low_of (Logged (HandsSignal shard from id reset)) p = p
 low_of (Logged (AdvancesIdle shard now)) p = p
+low_of (Logged (SkipsIdle shard now)) p = tt
 low_of (Logged (AdvancesShard shard now ticked)) p = p
 low_of (Logged (GivesTurn shard now turn)) p = p
 low_of (Logged (NotesTurn turn id now random told noted)) p = omega arith
@@ -48,7 +50,7 @@ part_below WordsPart who first_job low le lt = lt
 part_below NoPart who first_job low le lt = lt
 
 pub part_of_keyed : (first_job : ℕ) (e : FiledEntry) → IsKeyed first_job e → part_key e.who (part_of e.operation) < first_job
-part_of_keyed first_job e k = part_below (part_of e.operation) e.who first_job (low_of e.operation k.event) k.who.0 k.who.1
+part_of_keyed first_job e k = part_below (part_of e.operation) e.who first_job (low_of e.operation k.of_server) k.who.0 k.who.1
 
 pub keyed_more : (first_job : ℕ) (log : List FiledEntry) (e : FiledEntry) → AreKeyed first_job log → IsKeyed first_job e → AreKeyed first_job (log ++ e ∷ [])
 keyed_more first_job [] e a k = (k, tt)
@@ -78,7 +80,7 @@ module _ (first_job who : ℕ) (v : BookView FiledEntry) (operation : Operation)
     who = m.thread.key;
     job = job_keyed first_job who (key_of_first v.own) (is_of_job operation) m.job;
     none = none_keyed who (key_of_first v.own) (is_of_job operation);
-    event = m.event;
+    of_server = m.of_server;
   }
 
   pub has_job : HasKey (entry_by who v operation).job v.own

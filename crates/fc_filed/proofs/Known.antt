@@ -4,14 +4,13 @@ use Rattle.std.specs.Prelude.{◌==◌}
 use Rattle.std.specs.List.{filter}
 use Rattle.std.proofs.lemmas.Bool.Decides.{nat_tests}
 use Rattle.std.proofs.lemmas.Grind.{common_steps}
-use Rattle.std.proofs.lemmas.List.{length-replicate, length-set}
+use Rattle.std.proofs.lemmas.List.{length-set}
 use native.Mathlib.Decide.{ℕ_discrete}
 use Rattle.fc_book.specs.declared.view.Track.{Track}
 use Rattle.fc_book.specs.declared.view.BookView.{BookView}
 use Rattle.fc_book.specs.Tracks.{AreOn, HasKey, IsViewOf, entries_with, is_on, with_entry}
-use Rattle.fc_core.specs.Heads.{no_words, word_at}
-use Rattle.fc_calls.specs.Logged.{HandlesDatagram, AdvancesFront, FiresTimer, DrawsId, AnswersRequest, TellsReceipt, GivesReadings, LooksAt, RaisesWord}
-use Rattle.fc_calls.specs.Logged.{TakesForJob, CommitsRun, InstallsProgram, RemovesProgram, HandsSignal, AdvancesIdle, AdvancesShard, GivesTurn, NotesTurn, GivesUpTurn}
+use Rattle.fc_core.specs.Heads.{word_at}
+use Rattle.fc_calls.specs.Logged.{HandlesDatagram, AdvancesFront, FiresTimer, DrawsId, AnswersRequest, TellsReceipt, GivesReadings, LooksAt, RaisesWord, TakesForJob, CommitsRun, InstallsProgram, RemovesProgram, HandsSignal, AdvancesIdle, AdvancesShard, GivesTurn, NotesTurn, GivesUpTurn, ReadsCost, SkipsIdle}
 use Rattle.fc_linear.specs.Operations.{Operation, Logged, RejectsImage, LacksMemory, FailsToSave}
 use Rattle.fc_filed.specs.declared.entry.FiledEntry.{FiledEntry}
 use Rattle.fc_filed.specs.Entries.{ChangesWords, OperationsLead, entry_keys}
@@ -60,6 +59,7 @@ module _ (slot : ℕ) where
   kept (Logged (AnswersRequest now job content sent)) ws vs lt d = unchanged (Logged (AnswersRequest now job content sent)) ws vs lt d (omega arith)
   kept (Logged (TellsReceipt job receipt)) ws vs lt d = unchanged (Logged (TellsReceipt job receipt)) ws vs lt d (omega arith)
   kept (Logged (GivesReadings readings)) ws vs lt d = unchanged (Logged (GivesReadings readings)) ws vs lt d (omega arith)
+  kept (Logged (ReadsCost n cost)) ws vs lt d = unchanged (Logged (ReadsCost n cost)) ws vs lt d (omega arith)
   kept (Logged (LooksAt n word)) ws vs lt d = unchanged (Logged (LooksAt n word)) ws vs lt d.1
       (if_same (n == slot) n slot word (word_at ws slot) refl (λ same. let e = d.0 in let s = ap (λ (k : ℕ). word_at ws k) same in omega (arith, e, s)))
   kept (Logged (TakesForJob job readings taken)) ws vs lt d = unchanged (Logged (TakesForJob job readings taken)) ws vs lt d (omega arith)
@@ -68,6 +68,7 @@ module _ (slot : ℕ) where
   kept (Logged (RemovesProgram job removal)) ws vs lt d = unchanged (Logged (RemovesProgram job removal)) ws vs lt d (omega arith)
   kept (Logged (HandsSignal shard from id reset)) ws vs lt d = unchanged (Logged (HandsSignal shard from id reset)) ws vs lt d (omega arith)
   kept (Logged (AdvancesIdle shard now)) ws vs lt d = unchanged (Logged (AdvancesIdle shard now)) ws vs lt d (omega arith)
+  kept (Logged (SkipsIdle shard now)) ws vs lt d = unchanged (Logged (SkipsIdle shard now)) ws vs lt d (omega arith)
   kept (Logged (AdvancesShard shard now ticked)) ws vs lt d = unchanged (Logged (AdvancesShard shard now ticked)) ws vs lt d (omega arith)
   kept (Logged (GivesTurn shard now turn)) ws vs lt d = unchanged (Logged (GivesTurn shard now turn)) ws vs lt d (omega arith)
   kept (Logged (NotesTurn turn id now random told noted)) ws vs lt d = unchanged (Logged (NotesTurn turn id now random told noted)) ws vs lt d (omega arith)
@@ -114,10 +115,10 @@ module _ (slot : ℕ) where
       let rest = known log ts a.1 in
       omega (arith, here, same, rest)
 
-  pub known_at_most : (log : List FiledEntry) (v : BookView FiledEntry) (ws : List ℕ) → slot < 64 → IsViewOf entry_keys log v → OperationsLead ChangesWords log no_words ws → known_word slot v.own ≤ word_at ws slot
-  known_at_most log v ws lt is leads =
+  pub known_at_most : (log : List FiledEntry) (v : BookView FiledEntry) (first ws : List ℕ) → slot < length first → IsViewOf entry_keys log v → OperationsLead ChangesWords log first ws → known_word slot v.own ≤ word_at ws slot
+  known_at_most log v first ws lt is leads =
       let of = known log v.own is.own in
-      let by = (kept_by log no_words ws (let size = length-replicate {A = ℕ} 64 0 in omega (arith, size, lt)) leads).knows in
+      let by = (kept_by log first ws lt leads).knows in
       omega (arith, of, by)
 
   -- ---- an entry is filed

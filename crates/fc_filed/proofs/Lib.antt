@@ -5,6 +5,8 @@ pub mod Rule
 pub mod Closing
 pub mod Leading
 pub mod Shards
+pub mod Skips
 pub mod ByThread
 pub mod JobTracks
 pub mod Known
+pub mod TableWords

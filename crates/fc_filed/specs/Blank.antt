@@ -1,7 +1,8 @@
 -- Placeholders, for a name that no call chooses.
 use Rattle.std.specs.Prelude.{[]}
+use Rattle.fc_core.specs.Exchanges.{first_front}
 use Rattle.fc_core.specs.Policies.{default_policy}
-use Rattle.fc_server.specs.declared.server.Begin.{Begin}
+use Rattle.fc_server.specs.States.{ServerState}
 use Rattle.fc_calls.specs.Logged.{GivesReadings}
 use Rattle.fc_linear.specs.Operations.{Operation, Logged}
 use Rattle.fc_filed.specs.declared.entry.FiledOperation.TheInside.{Inside}
@@ -12,5 +13,5 @@ no_operation = Logged (GivesReadings [])
 abbrev pub any_operation : Inside → Operation
 any_operation o = no_operation
 
-abbrev pub some_begin : Begin
-some_begin = record { serial = 0; id = 0; policy = default_policy }
+abbrev pub some_server : ServerState
+some_server = record { front = first_front default_policy 0; shards = []; words = [] }

@@ -7,21 +7,19 @@ use Rattle.atomic_table.specs.Seated.{TableId}
 use Rattle.fc_book.specs.declared.view.Track.{Track}
 use Rattle.fc_book.specs.declared.view.BookView.{BookView}
 use Rattle.fc_book.specs.Tracks.{AreViewsOf, HasKey, IsViewOf, on}
-use Rattle.fc_core.specs.Heads.{no_words}
-use Rattle.fc_registry.specs.Shards.{shard_at}
-use Rattle.fc_server.specs.declared.server.Begin.{Begin}
-use Rattle.fc_linear.specs.Parts.{BringsItsJob, first_server}
+use Rattle.fc_server.specs.States.{ServerState}
+use Rattle.fc_linear.specs.Parts.{BringsItsJob}
 use Rattle.fc_filed.specs.declared.entry.FiledEntry.{FiledEntry}
 use Rattle.fc_filed.specs.declared.book_begin.BookBegin.{BookBegin}
 use Rattle.fc_filed.specs.Entries.{AreKeyed, ChangesWords, OperationsLead, entry_keys, log_of}
-use Rattle.fc_filed.specs.Idle.{AreIdleWords, LeadToIdle}
+use Rattle.fc_filed.specs.Idle.{AreIdleWords, AreSkipsIdle}
 
--- a book, as contracts see it: its table, the first key of a job's track, and the state that the
--- server begins with.
+-- a book, as contracts see it: its table, the first key of a job's track, and the server's first
+-- state.
 pub record SeenBook : Type 0 where
   pub table : TableId
   pub first_job : ℕ
-  pub begin : Begin
+  pub first : ServerState
 
 -- the table's words after the first sixteen, which are padding and idle words: the head words of
 -- slots 0 to 63.
@@ -55,31 +53,26 @@ IsFirstSent first_job (t ∷ ts) = (first_job ≤ t.key) × IsRightForJob first_
 -- ---- the rule
 
 -- there is one history, each view is a view of it, and no two views have the same track. The
--- history's operations of the head words lead these from 0 to the table's words. The idle words are
--- right after the history. The keys of each entry are right (`IsKeyed`). A job's track that no
--- thread has is right for its job.
+-- history's operations of the head words lead these from the server's first words to the table's.
+-- The idle words are right after the history, and each shard that was skipped was idle. The keys of
+-- each entry are right (`IsKeyed`). A job's track that no thread has is right for its job.
 pub record HaveServerHistory (start : BookBegin) (words : List ℕ) (views : List (BookView FiledEntry)) : Type 0 where
   pub log : List FiledEntry
   pub views_of : AreViewsOf entry_keys log views
   pub size : length words ≡ 80
-  pub heads : OperationsLead ChangesWords log no_words (heads_in words)
-  pub idle : AreIdleWords start.begin log words
+  pub heads : OperationsLead ChangesWords log start.first.words (heads_in words)
+  pub idle : AreIdleWords start.first log words
+  pub skips : AreSkipsIdle start.first log
   pub keyed : AreKeyed start.first_job log
   pub sent : AreSent start.first_job log views
 
 -- the view is a view of such a history. If the view has the tracks of all threads, each job's track
 -- that the view doesn't have is right for that job.
-pub record HasServerHistory (first_job : ℕ) (v : BookView FiledEntry) : Type 0 where
+pub record HasServerHistory (first_job : ℕ) (first : ServerState) (v : BookView FiledEntry) : Type 0 where
   pub log : List FiledEntry
   pub is : IsViewOf entry_keys log v
   pub words : List ℕ
-  pub heads : OperationsLead ChangesWords log no_words words
+  pub heads : OperationsLead ChangesWords log first.words words
+  pub skips : AreSkipsIdle first log
   pub keyed : AreKeyed first_job log
   pub sent : ((t : ℕ) → 9 ≤ t → t < first_job → HasKey t v.own) → (k : ℕ) → first_job ≤ k → (HasKey k v.own → ⊥) → IsRightForJob first_job (on entry_keys k log)
-
--- some such history fits the view. Its operations of the shard with this index lead from the
--- server's first shard to one that is idle at `now`. The view doesn't say which calls other owners
--- made.
-pub record HasIdleShard (first_job : ℕ) (begin : Begin) (index now : ℕ) (v : BookView FiledEntry) : Type 0 where
-  pub history : HasServerHistory first_job v
-  pub leads : LeadToIdle (shard_at (first_server begin).shards index) (on entry_keys (index + 1) history.log) now

@@ -4,7 +4,7 @@
 use Rattle.std.specs.Prelude.{◌≡◌, ℕ, ◌+◌, ◌-◌, ◌<◌, ◌≤◌, ◌==◌, ◌||◌, Bool, true, false, List, [], ◌∷◌, map, is_some}
 use Rattle.std.specs.List.{filter}
 use Rattle.fc_book.specs.Tracks.{EntryKeys}
-use Rattle.fc_linear.specs.Operations.{LogEntry, Operation, ServerPart, FrontPart, ShardPart, WordsPart, NoPart, IsEvent, WordsDo, is_for_job, is_front, is_shard, is_words, job_brought, part_of}
+use Rattle.fc_linear.specs.Operations.{LogEntry, Operation, ServerPart, FrontPart, ShardPart, WordsPart, NoPart, IsOfServer, WordsDo, is_for_job, is_front, is_shard, is_words, job_brought, part_of}
 use Rattle.fc_filed.specs.declared.entry.FiledEntry.{FiledEntry}
 use Rattle.fc_filed.specs.Blank.{no_operation}
 
@@ -31,7 +31,7 @@ pub record IsKeyed (first_job : ℕ) (e : FiledEntry) : Type 0 where
   pub who : (9 ≤ e.who) × (e.who < first_job)
   pub job : is_of_job e.operation ≡ true → first_job ≤ e.job
   pub none : is_of_job e.operation ≡ false → e.job ≡ e.who
-  pub event : IsEvent e.operation
+  pub of_server : IsOfServer e.operation
 
 abbrev pub AreKeyed : ℕ → List FiledEntry → Type 0
 AreKeyed first_job [] = Unit {0}
@@ -54,7 +54,8 @@ shard_entries index log = filter (λ e. is_shard index (part_of e.operation)) lo
 abbrev pub word_entries : List FiledEntry → List FiledEntry
 word_entries log = filter (λ e. is_words (part_of e.operation)) log
 
--- ---- the log of the entries, whose jobs have the numbers from 0 up
+-- ---- the log of the entries, whose jobs have the numbers from 0 up; `first_job` is the key of the
+-- first job that was brought
 
 abbrev pub log_entry : ℕ → FiledEntry → LogEntry
 log_entry first_job e = record { job = e.job - first_job; operation = e.operation }

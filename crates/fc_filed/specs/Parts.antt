@@ -1,22 +1,19 @@
 -- The views of a front and a shard that are under a lock with the track of their calls.
-use Rattle.std.specs.Prelude.{◌≡◌, ℕ, ◌+◌, ◌<◌, ◌≤◌, Bool, true, false, is_some, List, Option, Some, None, refl}
+use Rattle.std.specs.Prelude.{◌≡◌, ℕ, ◌+◌, ◌<◌, ◌≤◌, Bool, true, false, List, Result, Ok, Err, Some, refl}
 use Rattle.fc_registry.specs.declared.job.Job.{Job}
 use Rattle.fc_registry.specs.declared.shard.Taken.{Taken}
 use Rattle.fc_registry.specs.declared.shard.Taken.TheVariants.{Given}
-use Rattle.fc_registry.specs.Calls.{TakesAt}
 use Rattle.fc_registry.specs.Taken.{SlotSnapshot}
 use Rattle.fc_registry.specs.Views.{taken_with}
 use Rattle.fc_core.specs.Exchanges.{FrontState}
 use Rattle.fc_registry.specs.Slots.{IsOwned, Shard}
 use Rattle.fc_registry.specs.Shards.{shard_at}
-use Rattle.fc_server.specs.declared.server.Begin.{Begin}
-use Rattle.fc_calls.specs.Doings.{PassesIfIdle, TakesInto}
+use Rattle.fc_server.specs.States.{ServerState}
+use Rattle.fc_calls.specs.Doings.{PassesIfIdle, TakesInto, FindsCost}
 use Rattle.fc_calls.specs.Kept.{HasEightSlots, confirm_times, serials}
-use Rattle.fc_calls.specs.Logged.{AdvancesIdle, TakesForJob}
-use Rattle.fc_linear.specs.Parts.{first_server}
-use Rattle.fc_linear.specs.Operations.{Logged, Operation, ShardPart, IsEvent, ShardDoes, part_of}
+use Rattle.fc_calls.specs.Logged.{AdvancesIdle, TakesForJob, ReadsCost}
+use Rattle.fc_linear.specs.Operations.{Logged, Operation, ShardPart, ShardDoes, part_of, IsOfServer}
 use Rattle.fc_filed.specs.declared.entry.FiledEntry.{FiledEntry}
-use Rattle.fc_filed.specs.Blank.{no_operation}
 use Rattle.fc_filed.specs.Entries.{OperationsLead, is_of_job}
 
 -- a front, and the operations that led to it from the server's first front.
@@ -29,13 +26,13 @@ pub record ShardCalls : Type 0 where
   pub shard : Shard
   pub calls : List FiledEntry
 
--- the operation is one of this shard, and led from one state of the shard to the other. It is for no
--- job, or `of_job` says that it may be for one.
+-- the operation is one of this shard, and led from one state of the shard to the other. It is for
+-- no job, or `of_job` says that it may be for one.
 pub record IsOperationOf (of_job : Bool) (operation : Operation) (before after : Shard) : Type 0 where
   pub does : ShardDoes operation before after
   pub part : part_of operation ≡ ShardPart before.index
   pub job : is_of_job operation ≡ true → of_job ≡ true
-  pub event : before.index < 8 → IsEvent operation
+  pub of_server : before.index < 8 → IsOfServer operation
 
 -- the call is filed as this operation, or it isn't filed and the shard is unchanged.
 abbrev pub IsFiledAs : Bool → Bool → Operation → Shard → Shard → Type 0
@@ -44,15 +41,15 @@ IsFiledAs false of_job operation before after = after ≡ before
 
 -- an advance of an idle shard is filed.
 pub advance_filed : (now : ℕ) (before after : Shard) (idle : Bool) → PassesIfIdle now before idle after → IsFiledAs idle false (Logged (AdvancesIdle before.index now)) before after
-advance_filed now before after true does = record { does = does; part = refl; job = λ is. is; event = λ low. low }
+advance_filed now before after true does = record { does = does; part = refl; job = λ is. is; of_server = λ low. low }
 advance_filed now before after false does = does.1
 
--- the operations lead to the shard from a new server's first shard of its index, 0 to 7; the key is
+-- the operations lead to the shard from the server's first shard of its index, 0 to 7; the key is
 -- the index plus one.
-abbrev pub AreCallsOf : Begin → ℕ → List FiledEntry → Shard → Type 0
-AreCallsOf begin key calls shard =
+abbrev pub AreCallsOf : ServerState → ℕ → List FiledEntry → Shard → Type 0
+AreCallsOf first key calls shard =
     HasEightSlots shard × (shard.index < 8) × (key ≡ shard.index + 1)
-    × OperationsLead ShardDoes calls (shard_at (first_server begin).shards shard.index) shard
+    × OperationsLead ShardDoes calls (shard_at first.shards shard.index) shard
 
 -- a call keeps the shard's index, and the times after which its notifications are confirmable. The
 -- shard's serials increase by the number of changes that the call's result reports. If that number
@@ -63,39 +60,27 @@ pub record KeepsShard (changes : ℕ) (before after : Shard) : Type 0 where
   pub slots : changes ≡ 0 → after.slots ≡ before.slots
   pub risen : serials after ≡ serials before + changes
 
--- ---- a snapshot unless its program is expensive
+-- ---- a snapshot unless the slot's program is expensive
 
--- the snapshot has a program that may take this number of instructions or more.
-abbrev pub CostsFrom : ℕ → Taken → Type 0
-CostsFrom least (Given program) = least ≤ program.value.cost
-CostsFrom least other = ⊥
-
--- the snapshot has no such program.
+-- the snapshot has no program whose cost is this number of steps or more.
 abbrev pub IsCheap : ℕ → Taken → Type 0
 IsCheap least (Given program) = program.value.cost < least
 IsCheap least other = Unit {0}
 
--- a snapshot for the job would have a program that may take this number of instructions or more.
-pub record IsExpensiveIn (least : ℕ) (job : Job) (readings : List ℕ) (shard : Shard) : Type 0 where
-  pub taken : Taken
-  pub found : SlotSnapshot
-  pub takes : TakesAt job readings shard (taken_with taken found)
-  pub costs : CostsFrom least taken
+-- a job takes a snapshot, unless the slot has a program whose cost is this number of steps or more.
+-- Then the job takes none, the program's cost is read, and `found` has any contents.
+abbrev pub TakesIfCheap : ℕ → Job → List ℕ → Shard → Result Taken ℕ → SlotSnapshot → Shard → Type 0
+TakesIfCheap least job readings before (Ok taken) found after = TakesInto job readings before taken found after × IsCheap least taken
+TakesIfCheap least job readings before (Err cost) found after = FindsCost job.origin.slot before (Some cost) after × (least ≤ cost)
 
--- a job takes a snapshot, unless the slot has a program that may take this number of instructions
--- or more. Then the job takes none, the shard is unchanged, and `found` has any contents.
-abbrev pub TakesIfCheap : ℕ → Job → List ℕ → Shard → Option Taken → SlotSnapshot → Shard → Type 0
-TakesIfCheap least job readings before (Some taken) found after = TakesInto job readings before taken found after × IsCheap least taken
-TakesIfCheap least job readings before None found after = IsExpensiveIn least job readings before × (after ≡ before)
+-- the operation of such a snapshot, or of the read of the cost.
+abbrev pub cheap_operation : Job → List ℕ → Result Taken ℕ → SlotSnapshot → Operation
+cheap_operation job readings (Ok taken) found = Logged (TakesForJob job readings (taken_with taken found))
+cheap_operation job readings (Err cost) found = Logged (ReadsCost job.origin.slot (Some cost))
 
--- the operation of such a snapshot; a snapshot that isn't taken is no operation, and is not filed.
-abbrev pub cheap_operation : Job → List ℕ → Option Taken → SlotSnapshot → Operation
-cheap_operation job readings (Some taken) found = Logged (TakesForJob job readings (taken_with taken found))
-cheap_operation job readings None found = no_operation
-
--- a snapshot that is taken is filed.
-pub cheap_filed : (least : ℕ) (job : Job) (readings : List ℕ) (before : Shard) (taken : Option Taken) (found : SlotSnapshot) (after : Shard)
+-- the snapshot is filed, or the read of the cost.
+pub cheap_filed : (least : ℕ) (job : Job) (readings : List ℕ) (before : Shard) (taken : Result Taken ℕ) (found : SlotSnapshot) (after : Shard)
     → IsOwned before job.origin.slot → TakesIfCheap least job readings before taken found after
-    → IsFiledAs (is_some taken) true (cheap_operation job readings taken found) before after
-cheap_filed least job readings before (Some taken) found after owned does = record { does = does.0.0; part = λ i. ShardPart (owned.index i); job = λ is. is; event = λ low. tt }
-cheap_filed least job readings before None found after owned does = does.1
+    → IsOperationOf true (cheap_operation job readings taken found) before after
+cheap_filed least job readings before (Ok taken) found after owned does = record { does = does.0.0; part = λ i. ShardPart (owned.index i); job = λ is. is; of_server = λ low. tt }
+cheap_filed least job readings before (Err cost) found after owned does = record { does = does.0; part = λ i. ShardPart (owned.index i); job = λ is. refl; of_server = λ low. tt }

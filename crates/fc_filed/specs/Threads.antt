@@ -5,8 +5,8 @@ use Rattle.fc_book.specs.declared.view.BookView.{BookView}
 use Rattle.fc_book.specs.Tracks.{HasKey, with_begun, with_filed}
 use Rattle.fc_core.specs.declared.front.Handled.{Handled}
 use Rattle.fc_core.specs.declared.front.Handled.TheVariants as hearing
-use Rattle.fc_calls.specs.Logged.{LooksAt, RaisesWord}
-use Rattle.fc_linear.specs.Operations.{IsEvent, Logged, Operation}
+use Rattle.fc_calls.specs.Logged.{LooksAt, RaisesWord, SkipsIdle}
+use Rattle.fc_linear.specs.Operations.{IsOfServer, Logged, Operation}
 use Rattle.fc_filed.specs.declared.entry.FiledEntry.{FiledEntry}
 use Rattle.fc_filed.specs.Entries.{entry_keys, is_of_job}
 
@@ -24,9 +24,18 @@ entry_by who v operation = record { who = who; job = if is_of_job operation then
 abbrev pub did_by : ℕ → Operation → BookView FiledEntry → BookView FiledEntry
 did_by who operation v = with_filed entry_keys (entry_by who v operation) v
 
+-- the tracks after the entry is filed, or isn't.
+abbrev pub filed_if : Bool → FiledEntry → BookView FiledEntry → BookView FiledEntry
+filed_if files e v = if files then with_filed entry_keys e v else v
+
 -- the thread's tracks after a call that it has filed, or hasn't.
 abbrev pub did_if : Bool → ℕ → Operation → BookView FiledEntry → BookView FiledEntry
-did_if files who operation v = if files then did_by who operation v else v
+did_if files who operation v = filed_if files (entry_by who v operation) v
+
+-- the time of a skip; otherwise 0.
+abbrev pub skip_time : Operation → ℕ
+skip_time (Logged (SkipsIdle index now)) = now
+skip_time other = 0
 
 -- the thread has its own track.
 pub record HasOwnTrack (first_job who : ℕ) (v : BookView FiledEntry) : Type 0 where
@@ -42,7 +51,7 @@ HasJobFirst first_job v = first_job ≤ key_of_first v.own
 pub record MayFile (first_job who : ℕ) (v : BookView FiledEntry) (operation : Operation) : Type 0 where
   pub thread : HasOwnTrack first_job who v
   pub job : is_of_job operation ≡ true → HasJobFirst first_job v
-  pub event : IsEvent operation
+  pub of_server : IsOfServer operation
 
 -- the track of a job begins if there is a job.
 abbrev pub begun_if : Bool → BookView FiledEntry → BookView FiledEntry

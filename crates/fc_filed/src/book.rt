@@ -1,16 +1,15 @@
 //! The book of a server's history, and the owners of its tracks.
-ghost use Rattle.std.specs.Prelude.{◌≡◌, ◌+◌, ◌<◌, ◌≤◌, ◌++◌, ◌∷◌, ℕ, [], true, false, IfOk};
+ghost use Rattle.std.specs.Prelude.{◌≡◌, ◌+◌, ◌<◌, ◌≤◌, ◌++◌, ◌∷◌, ℕ, [], length, true, false, IfOk};
 ghost use Rattle.atomic_table.specs.Seated.{TableId};
 ghost use Rattle.fc_book.specs.Tracks.{first_own, first_view, merged_with, own_view, part_view, with_begun, with_next, with_part, without_first};
-ghost use Rattle.fc_server.specs.declared.server.Begin.{Begin as Initial};
-ghost use Rattle.fc_calls.specs.Logged.{LooksAt, RaisesWord};
-ghost use Rattle.fc_linear.specs.Operations.{LacksMemory, Logged, NoPart, RejectsImage, is_words, part_of};
+ghost use Rattle.fc_server.specs.States.{ServerState};
+ghost use Rattle.fc_calls.specs.Logged.{LooksAt, RaisesWord, SkipsIdle};
+ghost use Rattle.fc_linear.specs.Operations.{LacksMemory, Logged, NoPart, RejectsImage, part_of, is_for_job, is_locked};
 ghost use Rattle.fc_registry.specs.Shards.{shard_at};
-ghost use Rattle.fc_linear.specs.Parts.{first_server};
-ghost use Rattle.fc_filed.specs.Books.{HasIdleShard, HasServerHistory, IsFirstSent};
+ghost use Rattle.fc_filed.specs.Books.{HasServerHistory, IsFirstSent};
 ghost use Rattle.fc_filed.specs.Idle.{LeadToIdle};
 ghost use Rattle.fc_filed.specs.Entries.{part_key};
-ghost use Rattle.fc_filed.specs.Threads.{HasJobFirst, HasOwnTrack, MayFile, did_by, entry_by, known_word};
+ghost use Rattle.fc_filed.specs.Threads.{HasJobFirst, HasOwnTrack, MayFile, did_by, did_if, entry_by, known_word};
 
 use crate::book_begin::BookBegin;
 use crate::steps::{self, FiledSeat, FiledWords};
@@ -19,7 +18,7 @@ use atomic_table::Table;
 use fc_book::Part;
 use fc_core::Answer;
 use fc_registry::Job;
-use fc_server::Begin;
+use fc_server::FirstServer;
 use std::alloc::{AllocError, Global};
 use std::marker::{Brand, Model, PhantomData};
 use std::mem::replace;
@@ -27,7 +26,7 @@ use std::mem::replace;
 /// The name of a server's book.
 ///
 /// A book and tracks whose types have the same name belong together. The name states the book's
-/// table, the key of the first job's track, and the state that the server begins with.
+/// table, the key of the first job's track, and the server's first state.
 pub trait ServerName {
     ghost use Rattle.std.specs.Prelude.{ℕ};
 
@@ -35,29 +34,29 @@ pub trait ServerName {
 
     ghost first_job: { ℕ };
 
-    ghost begin: { Initial };
+    ghost first: { ServerState };
 }
 
 impl ServerName for Brand {
     ghost use Rattle.fc_book.specs.Tracks.{no_table};
-    ghost use Rattle.fc_filed.specs.Blank.{some_begin};
+    ghost use Rattle.fc_filed.specs.Blank.{some_server};
 
     ghost table = { no_table };
 
     ghost first_job = { 0 };
 
-    ghost begin = { some_begin };
+    ghost first = { some_server };
 }
 
-/// A book with an empty history and without a name yet.
+/// A book with an empty history and without a name yet, and the server's first state.
 ///
-/// Contracts see the book's table, the first key of a job's track, and the state that the server
-/// begins with.
+/// Contracts see the book's table, the first key of a job's track, and the server's first state.
 #[derive(Drop)]
 pub struct NewServerBook {
     words: FiledWords,
     seat: FiledSeat,
     threads: u16,
+    first: FirstServer,
 }
 
 impl Model for NewServerBook {
@@ -67,11 +66,13 @@ impl Model for NewServerBook {
 
     ghost use Rattle.std.specs.Prelude.{◌≡◌, ◌+◌, []};
     ghost use Rattle.fc_book.specs.Tracks.{first_view};
+    ghost use Rattle.fc_server.specs.States.{CanBeginWith};
 
-    ghost view = { λ b. record { table = b.words.shared.table_id; first_job = b.words.shared.key.first_job; begin = b.words.shared.key.begin } };
+    ghost view = { λ b. record { table = b.words.shared.table_id; first_job = b.words.shared.key.first_job; first = b.words.shared.key.first } };
 
     ghost invariant = { λ b. (b.seat.table_id ≡ b.words.shared.table_id) × (b.words.shared.table_id.words ≡ 80)
-        × (b.seat.me ≡ (first_view, [])) × (b.words.shared.key.first_job ≡ 9 + b.threads) };
+        × (b.seat.me ≡ (first_view, [])) × (b.words.shared.key.first_job ≡ 9 + b.threads)
+        × (b.first ≡ b.words.shared.key.first) × CanBeginWith b.words.shared.key.first };
 }
 
 /// A server's book: eight words of padding, the idle words of eight shards, and the head words.
@@ -79,7 +80,7 @@ impl Model for NewServerBook {
 /// The padding is never written. A step that needs no idle word and no head word loads the first
 /// word of the padding. A shard's idle word is a time in milliseconds, before which the shard is
 /// idle. The step that files a call of the shard resets the word to 0. Contracts see the table, the
-/// first key of a job's track, and the state that the server begins with.
+/// first key of a job's track, and the server's first state.
 #[derive(Drop)]
 pub struct ServerBook<J: ServerName> {
     words: FiledWords,
@@ -91,11 +92,12 @@ impl<J: ServerName> Model for ServerBook<J> {
 
     ghost Value = { SeenBook };
 
-    ghost use Rattle.std.specs.Prelude.{◌≡◌};
+    ghost use Rattle.std.specs.Prelude.{◌≡◌, length};
 
-    ghost view = { λ b. record { table = b.words.shared.table_id; first_job = b.words.shared.key.first_job; begin = b.words.shared.key.begin } };
+    ghost view = { λ b. record { table = b.words.shared.table_id; first_job = b.words.shared.key.first_job; first = b.words.shared.key.first } };
 
-    ghost invariant = { λ b. (b.words.shared.table_id ≡ J.table) × (b.words.shared.key.first_job ≡ J.first_job) × (b.words.shared.key.begin ≡ J.begin) × (b.words.shared.table_id.words ≡ 80) };
+    ghost invariant = { λ b. (b.words.shared.table_id ≡ J.table) × (b.words.shared.key.first_job ≡ J.first_job) × (b.words.shared.key.first ≡ J.first)
+        × (b.words.shared.table_id.words ≡ 80) × (length b.words.shared.key.first.words ≡ 64) };
 }
 
 /// The tracks that a thread or a message owns.
@@ -144,24 +146,27 @@ impl<P: Part> Model for FiledTrack<P> {
 impl NewServerBook {
     /// Makes a book with an empty history, for `threads` threads.
     ///
-    /// `begin` is the state that the server begins with. The first key of a job's track is
-    /// `9 + threads`.
+    /// The server begins as `first`. The table has its head words, and no shard is known to be
+    /// idle. The first key of a job's track is `9 + threads`.
     ///
     /// # Errors
     /// Returns `AllocError` if memory can't be allocated.
-    pub fn new(alloc: Global, threads: u16, begin: &Begin) -> Result<NewServerBook, AllocError>
+    pub fn new(alloc: Global, threads: u16, first: FirstServer) -> Result<NewServerBook, AllocError>
         ensures first_job { IfOk result (λ b. b.first_job ≡ 9 + threads) }
-        ensures begin { IfOk result (λ b. b.begin ≡ begin.now) }
+        ensures first { IfOk result (λ b. b.first ≡ first) }
     {
+        let table = steps::table_words(first.heads());
         let start = BookBegin {
             first_job: 9 + u64::from(threads),
-            begin: *begin,
+            first,
         };
-        let (words, seat) = Table::of_words(alloc, &[0; 80], &start)?;
+        let (words, seat) = Table::of_words(alloc, &table, &start)?;
+        let BookBegin { first, .. } = start;
         Ok(NewServerBook {
             words,
             seat,
             threads,
+            first,
         })
     }
 
@@ -172,16 +177,22 @@ impl NewServerBook {
         self.threads
     }
 
-    /// Names the book, and returns it with its first owner.
+    /// Names the book, and returns it with its first owner and the server's first state.
     ///
     /// The owner has no track yet, and may begin each track.
-    pub fn with_name<J: ServerName>(self) -> (ServerBook<J>, ServerTracks<J>)
+    pub fn with_name<J: ServerName>(self) -> (ServerBook<J>, ServerTracks<J>, FirstServer)
         requires named { self.table ≡ J.table }
         requires key { self.first_job ≡ J.first_job }
-        requires book_begins { self.begin ≡ J.begin }
-        ensures { result.1 ≡ first_view }
+        requires server { self.first ≡ J.first }
+        ensures owner { result.1 ≡ first_view }
+        ensures server { result.2 ≡ J.first }
     {
-        let NewServerBook { words, seat, .. } = self;
+        let NewServerBook {
+            words,
+            seat,
+            first,
+            ..
+        } = self;
         (
             ServerBook {
                 words,
@@ -191,6 +202,7 @@ impl NewServerBook {
                 seat,
                 of: PhantomData,
             },
+            first,
         )
     }
 }
@@ -268,7 +280,7 @@ impl<J: ServerName> ServerTracks<J> {
 
     /// Attests that there is one history, of which the owner's tracks are subhistories.
     pub fn attest(&mut self, book: &ServerBook<J>)
-        ensures one { HasServerHistory J.first_job self.old }
+        ensures one { HasServerHistory J.first_job J.first self.old }
         ensures kept { self.new ≡ self.old }
     {
         steps::attest::<J>(&book.words, &mut self.seat);
@@ -300,18 +312,17 @@ impl<J: ServerName> ServerTracks<J> {
         look_as::<Brand, J>(book, self, who, slot)
     }
 
-    /// Returns a time before which the shard of an index, 0 to 7, is idle, or 0.
+    /// Skips the shard of an index, 0 to 7, if its idle word is later than `now`, in milliseconds.
     ///
-    /// The time is in milliseconds. Before it, the shard is idle after its filed calls: no
-    /// notification has timed out, and no observer has a pending one. The contract says so of some
-    /// history that fits these tracks. By the rule of the book (`AreIdleWords`) this is the history
-    /// at this step. No lock is taken, and nothing is filed.
-    pub fn idle_until(&mut self, book: &ServerBook<J>, index: usize) -> u64
+    /// Returns whether the shard was skipped. A skip is filed for thread `who`. By the rule of the
+    /// book (`AreSkipsIdle`) the shard is idle at `now` after its operations before the skip: no
+    /// notification has timed out, and no observer has a pending one. No lock is taken.
+    pub fn skip_if_idle(&mut self, book: &ServerBook<J>, who: u64, index: usize, now: u64) -> bool
         requires index { index < 8 }
-        ensures idle { (now : ℕ) → now < result → HasIdleShard J.first_job J.begin index now self.old }
-        ensures kept { self.new ≡ self.old }
+        requires thread { HasOwnTrack J.first_job who self.old }
+        ensures filed { self.new ≡ did_if result who (Logged (SkipsIdle index now)) self.old }
     {
-        steps::idle_until::<J>(&book.words, &mut self.seat, index)
+        skip_as::<Brand, J>(book, self, who, index, now)
     }
 
     /// Raises the head word of `slot`, 0 to 63, to `word` if `word` is greater.
@@ -362,14 +373,14 @@ impl<P: Part> FiledTrack<P> {
     )
         requires same { P.table ≡ J.table }
         requires index { (index < 8) × (P.key ≡ index + 1) }
-        requires idle { (now : ℕ) → now < until → LeadToIdle (shard_at (first_server J.begin).shards index) self.old now }
+        requires idle { (now : ℕ) → now < until → LeadToIdle (shard_at J.first.shards index) self.old now }
         ensures kept { self.new ≡ self.old }
     {
         steps::note_idle(&book.words, &mut self.seat, index, until);
     }
 }
 
-/// Files the operation that `X` names, which belongs to no part.
+/// Files the operation that `X` names, which is for a job and belongs to no part.
 ///
 /// The entry becomes the last one on two tracks: that of thread `who`, and that of the job whose
 /// track is the first in `tracks`.
@@ -380,6 +391,7 @@ fn file_alone_as<X: FiledName, J: ServerName>(
 )
     requires entry { X.entry ≡ entry_by who tracks.old X.entry.operation }
     requires no_part { part_of X.entry.operation ≡ NoPart }
+    requires for_job { is_for_job X.entry.operation ≡ true }
     requires may { MayFile J.first_job who tracks.old X.entry.operation }
     ensures filed { tracks.new ≡ did_by who X.entry.operation tracks.old }
 {
@@ -439,7 +451,7 @@ pub fn file_as<X: FiledName, J: ServerName, P: Part>(
     requires entry { X.entry ≡ entry_by who tracks.old X.entry.operation }
     requires same { P.table ≡ J.table }
     requires part { part_key who (part_of X.entry.operation) ≡ P.key }
-    requires no_words { is_words (part_of X.entry.operation) ≡ false }
+    requires locked { is_locked (part_of X.entry.operation) ≡ true }
     requires may { MayFile J.first_job who tracks.old X.entry.operation }
     ensures part { part.new ≡ part.old ++ X.entry ∷ [] }
     ensures filed { tracks.new ≡ did_by who X.entry.operation tracks.old }
@@ -470,6 +482,25 @@ fn look_as<X: FiledName, J: ServerName>(
 {
     let _ = who;
     steps::look::<X>(&book.words, &mut tracks.seat, slot)
+}
+
+/// Skips the shard of an index if its idle word is later than `now`, and files the skip.
+///
+/// `X` names the entry. See [`ServerTracks::skip_if_idle`].
+fn skip_as<X: FiledName, J: ServerName>(
+    book: &ServerBook<J>,
+    tracks: &mut ServerTracks<J>,
+    who: u64,
+    index: usize,
+    now: u64,
+) -> bool
+    requires entry { X.entry ≡ entry_by who tracks.old (Logged (SkipsIdle index now)) }
+    requires index { index < 8 }
+    requires thread { HasOwnTrack J.first_job who tracks.old }
+    ensures filed { tracks.new ≡ did_if result who (Logged (SkipsIdle index now)) tracks.old }
+{
+    let _ = who;
+    steps::skip_if_idle::<X>(&book.words, &mut tracks.seat, index, now)
 }
 
 /// Raises the head word of `slot` to at least `word`, and files the raise.

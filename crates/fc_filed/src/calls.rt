@@ -1,17 +1,16 @@
 //! The calls of a shard, and the operations that are filed for them.
 //!
-//! [`crate::FiledShard::ask`] makes them. An advance is filed only if the shard is idle, and a
-//! snapshot that may be dropped ([`TakeIfCheap`]) only if it is taken. A lease that begins a track
-//! is a method of `FiledShard`.
-ghost use Rattle.std.specs.Prelude.{◌≡◌, true, false, None, is_some, ⊤, refl, MatchBool};
+//! [`crate::FiledShard::ask`] makes them. An advance is filed only if the shard is idle. A lease
+//! that begins a track is a method of `FiledShard`.
+ghost use Rattle.std.specs.Prelude.{◌≡◌, true, false, None, ⊤, refl};
 ghost use Rattle.fc_registry.specs.Slots.{IsOwned};
 ghost use Rattle.fc_linear.specs.Operations.{Logged, ShardPart};
-ghost use Rattle.fc_filed.specs.Parts.{CostsFrom, IsCheap};
 
 use crate::shard::FiledCall;
 use fc_calls::ShardCall;
 use fc_calls::calls::{
-    AdvanceIfIdle, Commit, Describe, GiveUp, Install, NextDue, Note, Remove, Signal, Take, Tick,
+    AdvanceIfIdle, Commit, Describe, GiveUp, Install, NextDue, Note, ReadCost, Remove, Signal,
+    Take, Tick,
 };
 use fc_help::Readings;
 use fc_registry::{Job, Shard, SlotSnapshot, Taken};
@@ -34,14 +33,15 @@ impl<'a> FiledCall for Take<'a> {
     }
 
     ghost right = { λ call before answer room after is does.
-        record { does = does.0; part = λ i. ShardPart (is.index i); job = λ is. is; event = λ low. tt } };
+        record { does = does.0; part = λ i. ShardPart (is.index i); job = λ is. is; of_server = λ low. tt } };
 }
 
 /// Takes a snapshot of a request's slot unless the slot's program is expensive.
 ///
-/// The slot is that of `job`, which has no lease. See [`Shard::take_into`]. If the program may take
-/// `least` instructions or more, the snapshot is dropped, the shard is unchanged, and nothing is
-/// filed. Then the result is `None`, and a worker has to take its own snapshot.
+/// The slot is that of `job`, which has no lease. See [`Shard::take_into`]. If the program's cost
+/// is `least` steps or more, the snapshot is dropped, and the shard is unchanged. Then the result
+/// is the program's cost as `Err`, a read of the cost is filed, and a worker has to take its own
+/// snapshot.
 #[derive(Drop)]
 pub struct TakeIfCheap<'a> {
     pub job: &'a Job,
@@ -53,7 +53,7 @@ impl<'a> ShardCall for TakeIfCheap<'a> {
     ghost use Rattle.fc_registry.specs.Slots.{IsOwned};
     ghost use Rattle.fc_filed.specs.Parts.{TakesIfCheap};
 
-    type Answer = Option<Taken>;
+    type Answer = Result<Taken, u32>;
 
     type Room = SlotSnapshot;
 
@@ -61,17 +61,15 @@ impl<'a> ShardCall for TakeIfCheap<'a> {
 
     ghost does = { λ call before answer room after. TakesIfCheap call.least call.job.now call.readings.now before answer room after };
 
-    fn call(self, shard: &mut Shard, room: &mut SlotSnapshot) -> Option<Taken> {
-        let taken = shard.take_into(self.job, self.readings, room);
-        if is_expensive(&taken, self.least) {
-            None
-        } else {
-            Some(taken)
+    fn call(self, shard: &mut Shard, room: &mut SlotSnapshot) -> Result<Taken, u32> {
+        match shard.take_into(self.job, self.readings, room) {
+            Taken::Given(program) if program.cost() >= self.least => Err(program.cost()),
+            taken => Ok(taken),
         }
     }
 }
 
-/// It is filed only if the snapshot is taken; else the shard is unchanged.
+/// The snapshot is filed, or the read of the cost.
 impl<'a> FiledCall for TakeIfCheap<'a> {
     ghost use Rattle.fc_filed.specs.Parts.{cheap_filed, cheap_operation};
 
@@ -79,14 +77,13 @@ impl<'a> FiledCall for TakeIfCheap<'a> {
 
     ghost of_job = { true };
 
-    ghost files = { λ answer. is_some answer };
-
     ghost operation = { λ index call answer room. cheap_operation call.job.now call.readings.now answer room };
 
-    fn is_filed(answer: &Option<Taken>) -> bool
-        ensures { result ≡ is_some answer.now }
+    fn is_filed(answer: &Result<Taken, u32>) -> bool
+        ensures { result ≡ true }
     {
-        answer.is_some()
+        let _ = answer;
+        true
     }
 
     ghost right = { λ call before answer room after is does.
@@ -110,7 +107,7 @@ impl<'a> FiledCall for Commit<'a> {
     }
 
     ghost right = { λ call before answer room after is does.
-        record { does = does; part = λ i. ShardPart (is.index i); job = λ is. is; event = λ low. tt } };
+        record { does = does; part = λ i. ShardPart (is.index i); job = λ is. is; of_server = λ low. tt } };
 }
 
 impl<'a> FiledCall for Install<'a> {
@@ -130,7 +127,7 @@ impl<'a> FiledCall for Install<'a> {
     }
 
     ghost right = { λ call before answer room after is does.
-        record { does = does; part = λ i. ShardPart (is.index i); job = λ is. is; event = λ low. tt } };
+        record { does = does; part = λ i. ShardPart (is.index i); job = λ is. is; of_server = λ low. tt } };
 }
 
 impl<'a> FiledCall for Remove<'a> {
@@ -150,7 +147,7 @@ impl<'a> FiledCall for Remove<'a> {
     }
 
     ghost right = { λ call before answer room after is does.
-        record { does = does; part = λ i. ShardPart (is.index i); job = λ is. is; event = λ low. tt } };
+        record { does = does; part = λ i. ShardPart (is.index i); job = λ is. is; of_server = λ low. tt } };
 }
 
 impl<'a> FiledCall for Describe<'a> {
@@ -170,7 +167,27 @@ impl<'a> FiledCall for Describe<'a> {
     }
 
     ghost right = { λ call before answer room after is does.
-        record { does = does; part = λ i. ShardPart (is.index i); job = λ is. is; event = λ low. tt } };
+        record { does = does; part = λ i. ShardPart (is.index i); job = λ is. is; of_server = λ low. tt } };
+}
+
+impl FiledCall for ReadCost {
+    ghost use Rattle.fc_calls.specs.Logged.{ReadsCost};
+
+    ghost is_of = { λ call shard. IsOwned shard call.slot };
+
+    ghost of_job = { false };
+
+    ghost operation = { λ index call answer room. Logged (ReadsCost call.slot answer) };
+
+    fn is_filed(answer: &Option<u32>) -> bool
+        ensures { result ≡ true }
+    {
+        let _ = answer;
+        true
+    }
+
+    ghost right = { λ call before answer room after is does.
+        record { does = does; part = λ i. ShardPart (is.index i); job = λ is. is; of_server = λ low. tt } };
 }
 
 impl<'a> FiledCall for Note<'a> {
@@ -191,7 +208,7 @@ impl<'a> FiledCall for Note<'a> {
     }
 
     ghost right = { λ call before answer room after is does.
-        record { does = does; part = λ i. ShardPart (is.index i); job = λ is. is; event = λ low. tt } };
+        record { does = does; part = λ i. ShardPart (is.index i); job = λ is. is; of_server = λ low. tt } };
 }
 
 impl FiledCall for GiveUp {
@@ -209,7 +226,7 @@ impl FiledCall for GiveUp {
     }
 
     ghost right = { λ call before answer room after is does.
-        record { does = does; part = λ i. ShardPart (is.index i); job = λ is. is; event = λ low. tt } };
+        record { does = does; part = λ i. ShardPart (is.index i); job = λ is. is; of_server = λ low. tt } };
 }
 
 impl FiledCall for Signal {
@@ -227,7 +244,7 @@ impl FiledCall for Signal {
     }
 
     ghost right = { λ call before answer room after is does.
-        record { does = does; part = refl; job = λ is. is; event = λ low. low } };
+        record { does = does; part = refl; job = λ is. is; of_server = λ low. low } };
 }
 
 impl FiledCall for Tick {
@@ -245,7 +262,7 @@ impl FiledCall for Tick {
     }
 
     ghost right = { λ call before answer room after is does.
-        record { does = does; part = refl; job = λ is. is; event = λ low. low } };
+        record { does = does; part = refl; job = λ is. is; of_server = λ low. low } };
 }
 
 impl FiledCall for NextDue {
@@ -264,7 +281,7 @@ impl FiledCall for NextDue {
     }
 
     ghost right = { λ call before answer room after is does.
-        record { does = does; part = refl; job = λ is. refl; event = λ low. low } };
+        record { does = does; part = refl; job = λ is. refl; of_server = λ low. low } };
 }
 
 /// It is filed only if the shard is idle; else the shard is unchanged.
@@ -285,14 +302,4 @@ impl FiledCall for AdvanceIfIdle {
     }
 
     ghost right = { λ call before answer room after is does. advance_filed call.now before after answer does };
-}
-
-// Returns whether a snapshot has a program that may take `least` instructions or more.
-fn is_expensive(taken: &Taken, least: u32) -> bool
-    ensures { MatchBool result (CostsFrom least taken.now) (IsCheap least taken.now) }
-{
-    match taken {
-        Taken::Given(program) => program.cost() >= least,
-        Taken::Missing | Taken::Stale | Taken::Refused => false,
-    }
 }

@@ -9,7 +9,6 @@ ghost use Rattle.fc_book.specs.Tracks.{part_view, with_part};
 ghost use Rattle.fc_calls.specs.Doings.{AdvancesTo, AnswersAt, DrawsAt, FiresAt, HandlesAt};
 ghost use Rattle.fc_calls.specs.Logged.{AdvancesFront, AnswersRequest, DrawsId, FiresTimer, HandlesDatagram};
 ghost use Rattle.fc_linear.specs.Operations.{FrontDoes, Logged};
-ghost use Rattle.fc_linear.specs.Parts.{first_server};
 ghost use Rattle.fc_filed.specs.Entries.{OperationsLead};
 ghost use Rattle.fc_filed.specs.Threads.{HasJobFirst, HasOwnTrack, MayFile, begun_if, brings_job, did_by, entry_by};
 
@@ -53,16 +52,15 @@ impl<J: ServerName> Model for FiledFront<J> {
     ghost view = { λ f. record { front = f.front; calls = f.track } };
 
     ghost use Rattle.fc_linear.specs.Operations.{FrontDoes};
-    ghost use Rattle.fc_linear.specs.Parts.{first_server};
     ghost use Rattle.fc_filed.specs.Entries.{OperationsLead};
 
-    ghost invariant = { λ f. OperationsLead FrontDoes f.track (first_server J.begin).front f.front };
+    ghost invariant = { λ f. OperationsLead FrontDoes f.track J.first.front f.front };
 }
 
 impl<J: ServerName> FiledFront<J> {
     /// Makes a filed front of the server's first front, with an empty track.
     pub fn new(front: Front, track: FiledTrack<FrontOf<J>>) -> FiledFront<J>
-        requires front { front ≡ (first_server J.begin).front }
+        requires front { front ≡ J.first.front }
         requires track { track ≡ [] }
         ensures { result ≡ record { front = front; calls = [] } }
     {
@@ -241,7 +239,7 @@ impl<J: ServerName> FiledFront<J> {
     /// Moves the front's track to `tracks`, and returns the front.
     pub fn close(self, book: &ServerBook<J>, tracks: &mut ServerTracks<J>) -> Front
         ensures front { result ≡ self.front }
-        ensures led { OperationsLead FrontDoes self.calls (first_server J.begin).front result }
+        ensures led { OperationsLead FrontDoes self.calls J.first.front result }
         ensures closed { tracks.new ≡ with_part tracks.old (part_view 0 self.calls) }
     {
         let FiledFront { front, track } = self;

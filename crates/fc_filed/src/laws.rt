@@ -1,36 +1,51 @@
 //! Laws of tracks: right tracks are one legal history, and a thread knows the words on its tracks.
-ghost use Rattle.std.specs.Prelude.{◌≡◌, ℕ, [], ◌∷◌, List};
+//!
+//! The last laws are of idle words, and of programs that are expensive.
+ghost use Rattle.std.specs.Prelude.{◌≡◌, ℕ, [], ◌∷◌, List, None, Some, Ok, Err, slice_index};
 ghost use Rattle.fc_book.specs.Tracks.{track};
 ghost use Rattle.fc_book.specs.declared.view.BookView.{BookView};
+ghost use Rattle.fc_observe.specs.declared.entry.Entry.{Entry};
+ghost use Rattle.fc_observe.specs.declared.entry.Phase.TheVariants.{Outstanding};
+ghost use Rattle.fc_observe.specs.Observers.{ObserverList};
+ghost use Rattle.fc_registry.specs.declared.job.Job.{Job};
+ghost use Rattle.fc_registry.specs.declared.shard.Taken.TheVariants.{Given};
+ghost use Rattle.fc_registry.specs.Slots.{Shard, slot_in};
+ghost use Rattle.fc_registry.specs.Taken.{SlotSnapshot};
+ghost use Rattle.fc_core.specs.Heads.{word_at};
+ghost use Rattle.fc_calls.specs.Doings.{cost_at};
 ghost use Rattle.fc_calls.specs.Logged.{LooksAt, RaisesWord};
-ghost use Rattle.fc_server.specs.declared.server.Begin.{Begin};
-ghost use Rattle.fc_server.specs.States.{ServerState, begin_of};
+ghost use Rattle.fc_core.specs.History.{History};
+ghost use Rattle.fc_server.specs.Serving.{Serves};
+ghost use Rattle.fc_server.specs.States.{ServerState};
 ghost use Rattle.fc_linear.specs.Operations.{Logged};
-ghost use Rattle.fc_linear.specs.Parts.{HaveNextNumbers, IsHistoryOf, bringing, first_server, history_on};
+ghost use Rattle.fc_linear.specs.Parts.{HaveNextNumbers, IsHistoryOf, bringing, history_on};
 ghost use Rattle.fc_filed.specs.declared.entry.FiledEntry.{FiledEntry};
-ghost use Rattle.fc_filed.specs.Books.{HasServerHistory};
+ghost use Rattle.fc_filed.specs.Books.{HasServerHistory, heads_in};
 ghost use Rattle.fc_filed.specs.Entries.{log_of};
+ghost use Rattle.fc_filed.specs.Idle.{LeadToIdle, idle_word};
+ghost use Rattle.fc_filed.specs.Parts.{TakesIfCheap};
 ghost use Rattle.fc_filed.specs.Threads.{known_word};
 ghost use Rattle.fc_filed.specs.Tracked.{AreTracksRight, OwnsAll};
 
-/// If the tracks of a new server are right, they are one legal history.
+/// If the tracks of a server are right, they continue its history legally.
 ///
-/// The history leaves the server in the state `end`, to which the tracks of the parts lead.
+/// The server begins in the state `first`, which some history leaves without jobs. Its tracks lead
+/// the parts to the state `end`, in which the longer history leaves the server.
 pub fn tracks_are_one_history()
-    ensures { (first_job : ℕ) (log : List FiledEntry) (b : Begin) (end : ServerState) → AreTracksRight first_job log (first_server b) end →
-        IsHistoryOf (history_on (begin_of b) (log_of first_job log)) end }
+    ensures { (first_job : ℕ) (log : List FiledEntry) (h : History) (first end : ServerState) → Serves h first [] → AreTracksRight first_job log first end →
+        IsHistoryOf (history_on h (log_of first_job log)) end }
 {}
 
 /// An attested history is legal if one owner has all parts' and threads' tracks.
 ///
-/// The tracks of the parts lead from a new server to `end`, whose head words are those of the
-/// history. Each job's track that the owner has must be right for its job. The jobs must come in
-/// the order of their keys. A job's track that the owner doesn't have, such as that of a lost
-/// message, is right by the book's rule.
+/// It continues a history that leaves the server `first` without jobs. The tracks of the parts lead
+/// from `first` to `end`, whose head words are those of the attested history. Each job's track that
+/// the owner has must be right for its job. The jobs must come in the order of their keys. A job's
+/// track that the owner doesn't have, such as that of a lost message, is right by the book's rule.
 pub fn attested_tracks_are_one_history()
-    ensures { (first_job : ℕ) (b : Begin) (v : BookView FiledEntry) (end : ServerState) (h : HasServerHistory first_job v) →
-        end.words ≡ h.words → HaveNextNumbers 0 (bringing (log_of first_job h.log)) → OwnsAll first_job v (first_server b) end →
-        IsHistoryOf (history_on (begin_of b) (log_of first_job h.log)) end }
+    ensures { (first_job : ℕ) (before : History) (first end : ServerState) (v : BookView FiledEntry) (h : HasServerHistory first_job first v) → Serves before first [] →
+        end.words ≡ h.words → HaveNextNumbers 0 (bringing (log_of first_job h.log)) → OwnsAll first_job v first end →
+        IsHistoryOf (history_on before (log_of first_job h.log)) end }
 {}
 
 /// A thread knows the greatest word of a slot in the entries of all its tracks.
@@ -40,4 +55,40 @@ pub fn attested_tracks_are_one_history()
 pub fn threads_know_the_greatest_word()
     ensures any_track { known_word 5 (track 11 [] ∷ track 9 (record { who = 9; job = 11; operation = Logged (RaisesWord 5 3) } ∷ record { who = 9; job = 11; operation = Logged (LooksAt 5 2) } ∷ []) ∷ []) ≡ 3 }
     ensures own_slot { known_word 6 (track 9 (record { who = 9; job = 11; operation = Logged (RaisesWord 5 3) } ∷ []) ∷ []) ≡ 0 }
+{}
+
+/// The table of a book has eight words of padding, the idle words, and the head words.
+///
+/// The idle word of shard 0 is word 8, and that of shard 7 is word 15. The head word of slot 0 is
+/// word 16, and that of slot 63 is word 79.
+pub fn idle_words_come_before_head_words()
+    ensures idle { (words : List ℕ) → (idle_word words 0 ≡ slice_index words 8) × (idle_word words 7 ≡ slice_index words 15) }
+    ensures heads { (words : List ℕ) → (word_at (heads_in words) 0 ≡ slice_index words 16) × (word_at (heads_in words) 63 ≡ slice_index words 79) }
+{}
+
+/// A shard that is overdue from 5,000 ms on is idle at 4,999 ms, and not at 5,000 ms.
+///
+/// Its one observer's notification was sent at 3,000 ms with a timeout of 2,000 ms, and isn't
+/// acknowledged.
+pub fn overdue_shards_are_not_skipped()
+    ensures { (o : Entry) (bytes : _) → let held = record o { serial = 0; phase = Outstanding 3000 2000 0 bytes } in
+        let watch : ObserverList = record { slot = 0; confirm_after = 86400000; time = 3000; turns = 1; held = held ∷ [] } in
+        let shard : Shard = record { index = 0; now = 3000; slots = []; watches = watch ∷ [] } in
+        LeadToIdle shard [] 4999 × (LeadToIdle shard [] 5000 → ⊥) }
+{}
+
+/// A program is expensive if its cost is the limit or more.
+///
+/// The limit is 10,000 steps. A program of cost 60,764 may be found expensive, with that cost. No
+/// snapshot of a program of cost 10,000 is taken. Neither a program of cost 9,999 nor an empty slot
+/// is found expensive.
+pub fn programs_are_expensive_from_the_limit()
+    ensures expensive { (job : Job) (readings : List ℕ) (shard : Shard) (found : SlotSnapshot) → cost_at (slot_in shard job.origin.slot).present ≡ Some 60764
+        → TakesIfCheap 10000 job readings shard (Err 60764) found shard }
+    ensures cheap { (job : Job) (readings : List ℕ) (before after : Shard) (cost : ℕ) (found : SlotSnapshot) → cost_at (slot_in before job.origin.slot).present ≡ Some 9999
+        → TakesIfCheap 10000 job readings before (Err cost) found after → ⊥ }
+    ensures empty { (job : Job) (readings : List ℕ) (before after : Shard) (cost : ℕ) (found : SlotSnapshot) → (slot_in before job.origin.slot).present ≡ None
+        → TakesIfCheap 10000 job readings before (Err cost) found after → ⊥ }
+    ensures taken { (job : Job) (readings : List ℕ) (before after : Shard) (program : _) (found : SlotSnapshot) →
+        TakesIfCheap 10000 job readings before (Ok (Given program)) found after → program.value.cost ≡ 10000 → ⊥ }
 {}

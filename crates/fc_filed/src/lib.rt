@@ -12,7 +12,8 @@
 //!
 //! The table also has an idle word for each shard: a time before which the shard is idle. The step
 //! that files a call of the shard resets the word, and an advance of the idle shard writes it. So a
-//! thread can learn without a lock that a shard is idle ([`ServerTracks::idle_until`]).
+//! thread can skip an idle shard without a lock ([`ServerTracks::skip_if_idle`]). The skip is filed
+//! in the step that reads the word.
 //!
 //! The front's track has key 0, shard i's track key `i + 1`, and the threads' tracks keys from 9
 //! on. From the *first job's* key on, each job has a key of its own. The rule is
@@ -53,23 +54,23 @@
 //! - Each call of a front or a shard becomes the last entry on the tracks of its part, thread and
 //!   job. The entry has its arguments and its answer. A part's calls lead from the server's first
 //!   front, or shard, to the one under the lock.
-//! - Three kinds of calls leave the shard unchanged and aren't filed: an advance of a shard that
-//!   isn't idle, a snapshot that is dropped, and a call by `FiledShard::inspect`.
+//! - Two kinds of calls leave the shard unchanged and aren't filed: an advance of a shard that
+//!   isn't idle, and a call by `FiledShard::inspect`.
 //! - A look at a head word and a raise are entries too, made in the step itself. The history's
-//!   looks and raises lead the head words from 0 to those of the table. A look returns at least
-//!   every word of its slot in the entries on the owner's tracks, whichever track it is on. So does
-//!   a read that isn't filed (`ServerTracks::read_word`). A rejected image and refused memory are
-//!   also entries; they belong to no part.
+//!   looks and raises lead the head words from the server's first ones to those of the table. A
+//!   look returns at least every word of its slot in the entries on the owner's tracks, whichever
+//!   track it is on. So does a read that isn't filed (`ServerTracks::read_word`). A rejected image
+//!   and refused memory are also entries; they belong to no part.
 //! - Before the time in a shard's idle word, the shard is idle after its entries in the history: no
-//!   notification has timed out, and no observer has a pending one. This is the rule of the book.
-//!   The contract of a read says so of *some* history that fits the owner's tracks.
+//!   notification has timed out, and no observer has a pending one. So each shard that was skipped
+//!   was idle at that place of the history. Both are part of the rule of the book.
 //! - Under every schedule there is one history, and each track has exactly the entries with its
 //!   key. No track has two owners. The keys of each entry are of their kind.
 //! - A job's track that no thread has, such as that of a lost message, is right for its job.
-//! - A snapshot of an expensive program can be dropped under the lock (`calls::TakeIfCheap`). It
-//!   then changes nothing and isn't filed. A snapshot that isn't dropped is filed.
-//! - A history of a new server is legal if each of its tracks is right. It leaves the server in the
-//!   state of its parts.
+//! - A snapshot of an expensive program can be dropped under the lock (`calls::TakeIfCheap`). Then
+//!   the read of the program's cost is filed, and the shard is unchanged.
+//! - A history that leaves the server's first state without jobs is continued legally if each track
+//!   is right. The longer history leaves the server in the state of its parts.
 //! - The same holds for an attested history if its owner has the tracks of all parts and threads,
 //!   and the jobs came in the order of their keys.
 //!

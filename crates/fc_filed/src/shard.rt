@@ -8,8 +8,7 @@ ghost use Rattle.fc_book.specs.Tracks.{part_view, with_part};
 ghost use Rattle.fc_calls.specs.Doings.{PassesIfIdle};
 ghost use Rattle.fc_calls.specs.Logged.{AdvancesIdle, GivesTurn};
 ghost use Rattle.fc_calls.specs.Kept.{HasEightSlots};
-ghost use Rattle.fc_linear.specs.Operations.{Logged, Operation, ShardDoes, is_words, part_of};
-ghost use Rattle.fc_linear.specs.Parts.{first_server};
+ghost use Rattle.fc_linear.specs.Operations.{Logged, Operation, ShardDoes, part_of, is_locked};
 ghost use Rattle.fc_filed.specs.Entries.{OperationsLead, part_key};
 ghost use Rattle.fc_filed.specs.Parts.{IsFiledAs, KeepsShard};
 ghost use Rattle.fc_filed.specs.Threads.{HasJobFirst, HasOwnTrack, MayFile, begun_if, did_by, did_if, entry_by};
@@ -95,7 +94,7 @@ impl<J: ServerName, P: Part> Model for FiledShard<J, P> {
 
     ghost use Rattle.fc_filed.specs.Parts.{AreCallsOf};
 
-    ghost invariant = { λ s. AreCallsOf J.begin P.key s.track s.shard };
+    ghost invariant = { λ s. AreCallsOf J.first P.key s.track s.shard };
 }
 
 impl<J: ServerName, P: Part> FiledShard<J, P> {
@@ -106,7 +105,7 @@ impl<J: ServerName, P: Part> FiledShard<J, P> {
         requires index { shard.index < 8 }
         requires key { P.key ≡ shard.index + 1 }
         requires slots { HasEightSlots shard }
-        requires shard { shard ≡ shard_at (first_server J.begin).shards shard.index }
+        requires shard { shard ≡ shard_at J.first.shards shard.index }
         requires track { track ≡ [] }
         ensures { result ≡ record { shard = shard; calls = [] } }
     {
@@ -225,7 +224,7 @@ impl<J: ServerName, P: Part> FiledShard<J, P> {
     pub fn close(self, book: &ServerBook<J>, tracks: &mut ServerTracks<J>) -> Shard
         requires { P.table ≡ J.table }
         ensures shard { result ≡ self.shard }
-        ensures led { OperationsLead ShardDoes self.calls (shard_at (first_server J.begin).shards result.index) result }
+        ensures led { OperationsLead ShardDoes self.calls (shard_at J.first.shards result.index) result }
         ensures closed { tracks.new ≡ with_part tracks.old (part_view P.key self.calls) }
     {
         let FiledShard {
@@ -288,7 +287,7 @@ fn file_answer<Y: FiledName, J: ServerName, P: Part, A, B, X: OperationName<A, B
     requires entry { Y.entry ≡ entry_by who tracks.old (X.operation answer.now room.now) }
     requires same { P.table ≡ J.table }
     requires part { part_key who (part_of (X.operation answer.now room.now)) ≡ P.key }
-    requires no_words { is_words (part_of (X.operation answer.now room.now)) ≡ false }
+    requires locked { is_locked (part_of (X.operation answer.now room.now)) ≡ true }
     requires may { MayFile J.first_job who tracks.old (X.operation answer.now room.now) }
     ensures track { track.new ≡ track.old ++ Y.entry ∷ [] }
     ensures filed { tracks.new ≡ did_by who Y.entry.operation tracks.old }

@@ -6,28 +6,30 @@
 //!
 //! A step splits a seat off, joins a seat to another one, or loads or writes a word of the table. A
 //! load that needs no idle word and no head word loads the first word of the padding.
-ghost use Rattle.std.specs.Prelude.{◌≡◌, ◌≢◌, ◌+◌, ◌<◌, ◌≤◌, ℕ, [], true, false};
+ghost use Rattle.std.specs.Prelude.{◌≡◌, ◌≢◌, ◌+◌, ◌<◌, ◌≤◌, ℕ, [], length, true, false};
 ghost use Rattle.fc_book.specs.Tracks.{AreSingle, HasKey, entries_of, filed_on_all, filed_with, first_own, locked_of, merged_with, no_tracks, own_view, part_view, with_begun, with_filed, with_locked, with_next, with_part, without_first, without_locked};
 ghost use Rattle.fc_registry.specs.Shards.{shard_at};
-ghost use Rattle.fc_linear.specs.Operations.{NoPart, is_words, part_of};
-ghost use Rattle.fc_linear.specs.Parts.{first_server};
-ghost use Rattle.fc_filed.specs.Books.{HasIdleShard, HasServerHistory, IsFirstSent};
+ghost use Rattle.fc_linear.specs.Operations.{NoPart, part_of, Logged, is_for_job, is_locked};
+ghost use Rattle.fc_filed.specs.Books.{HasServerHistory, IsFirstSent, heads_in};
 ghost use Rattle.fc_filed.specs.Entries.{IsKeyed, entry_keys};
-ghost use Rattle.fc_filed.specs.Idle.{LeadToIdle};
-ghost use Rattle.fc_filed.specs.Threads.{entry_of_look, entry_of_raise, known_word};
+ghost use Rattle.fc_filed.specs.Idle.{LeadToIdle, idle_word};
+ghost use Rattle.fc_filed.specs.Threads.{entry_of_look, entry_of_raise, known_word, filed_if};
+ghost use Rattle.fc_calls.specs.Logged.{SkipsIdle};
 
 use crate::book::ServerName;
 use crate::book_begin::BookBegin;
 use crate::entry::FiledEntry;
 use crate::view::{
     AttestsServer, FiledName, FilesAlone, FilesEntry, FilesForShard, LooksAtWord, NotesIdle,
-    RaisesHead, ReadsIdle, ReadsWord, ServerRule,
+    RaisesHead, ReadsWord, ServerRule, SkipsShard,
 };
 use atomic_table::{Seat, Table};
 use fc_book::view::{
     Begins, BeginsPart, BeginsTracks, BookView, Closes, MakesEmpty, Merges, ReturnsPart,
     SplitsFirst, TakesPart,
 };
+use fc_core::Heads;
+use fc_registry::{SLOTS, SlotNumber};
 use std::alloc::Global;
 
 pub(crate) type FiledSeat = Seat<u8, BookView<FiledEntry>>;
@@ -39,6 +41,22 @@ const IDLE: usize = 8;
 
 /// The place of the first head word, after the idle words of eight shards.
 const HEADS: usize = 16;
+
+/// Returns the first words of a book's table: zeros, and then these head words.
+///
+/// A zero in a shard's idle word says nothing of the shard.
+pub(crate) fn table_words(heads: &Heads) -> [u64; 80]
+    requires { length heads.now ≡ 64 }
+    ensures size { length result ≡ 80 }
+    ensures idle { (index : ℕ) → index < 8 → idle_word result index ≡ 0 }
+    ensures heads { heads_in result ≡ heads.now }
+{
+    let mut words = [0; 80];
+    for slot in 0..SLOTS {
+        words[HEADS + usize::from(slot)] = heads.peek(SlotNumber::new(slot));
+    }
+    words
+}
 
 /// Makes a seat with no track.
 ///
@@ -70,7 +88,7 @@ pub(crate) fn file<X: FiledName>(
     requires key { key ≡ (entry_keys X.entry).part }
     requires on_part { HasKey (entry_keys X.entry).part part.me.0.locked }
     requires on { HasKey X.entry.who seat.old.me.0.own × HasKey X.entry.job seat.old.me.0.own }
-    requires no_words { is_words (part_of X.entry.operation) ≡ false }
+    requires locked { is_locked (part_of X.entry.operation) ≡ true }
     requires keyed { IsKeyed words.now.shared.key.first_job X.entry }
     ensures table { seat.new.table_id ≡ seat.old.table_id }
     ensures filed { seat.new.me ≡ (filed_with entry_keys X.entry seat.old.me.0 part.me.0, seat.old.me.1) }
@@ -92,7 +110,7 @@ fn file_for_other<X: FiledName>(words: &FiledWords, seat: &mut FiledSeat, part: 
     requires other { (index : ℕ) → index < 8 → (entry_keys X.entry).part ≢ index + 1 }
     requires on_part { HasKey (entry_keys X.entry).part part.me.0.locked }
     requires on { HasKey X.entry.who seat.old.me.0.own × HasKey X.entry.job seat.old.me.0.own }
-    requires no_words { is_words (part_of X.entry.operation) ≡ false }
+    requires locked { is_locked (part_of X.entry.operation) ≡ true }
     requires keyed { IsKeyed words.now.shared.key.first_job X.entry }
     ensures table { seat.new.table_id ≡ seat.old.table_id }
     ensures filed { seat.new.me ≡ (filed_with entry_keys X.entry seat.old.me.0 part.me.0, seat.old.me.1) }
@@ -116,7 +134,7 @@ fn file_for_shard<X: FiledName>(
     requires index { (index < 8) × ((entry_keys X.entry).part ≡ index + 1) }
     requires on_part { HasKey (entry_keys X.entry).part part.me.0.locked }
     requires on { HasKey X.entry.who seat.old.me.0.own × HasKey X.entry.job seat.old.me.0.own }
-    requires no_words { is_words (part_of X.entry.operation) ≡ false }
+    requires locked { is_locked (part_of X.entry.operation) ≡ true }
     requires keyed { IsKeyed words.now.shared.key.first_job X.entry }
     ensures table { seat.new.table_id ≡ seat.old.table_id }
     ensures filed { seat.new.me ≡ (filed_with entry_keys X.entry seat.old.me.0 part.me.0, seat.old.me.1) }
@@ -147,35 +165,40 @@ pub(crate) fn note_idle(words: &FiledWords, seat: &mut FiledSeat, index: usize, 
     requires table { seat.old.table_id ≡ words.now.shared.table_id }
     requires index { index < 8 }
     requires part { seat.old.me ≡ (part_view (index + 1) (entries_of seat.old.me.0.locked), []) }
-    requires idle { (now : ℕ) → now < until → LeadToIdle (shard_at (first_server words.now.shared.key.begin).shards index) (entries_of seat.old.me.0.locked) now }
+    requires idle { (now : ℕ) → now < until → LeadToIdle (shard_at words.now.shared.key.first.shards index) (entries_of seat.old.me.0.locked) now }
     ensures kept { (seat.new.table_id ≡ seat.old.table_id) × (seat.new.me ≡ seat.old.me) }
 {
     words.shared.store::<NotesIdle>(seat, IDLE + index, until);
 }
 
-/// Returns the idle word of the shard with this index.
+/// Returns whether the idle word of the shard with this index is later than `now`.
 ///
-/// Before the returned time the shard is idle, after its operations in the history at this step.
-pub(crate) fn idle_until<J: ServerName>(
+/// If it is, files the skip of the shard that `X` names. The shard is idle at `now` after its
+/// operations in the history before the skip.
+pub(crate) fn skip_if_idle<X: FiledName>(
     words: &FiledWords,
     seat: &mut FiledSeat,
     index: usize,
-) -> u64
+    now: u64,
+) -> bool
     requires size { words.now.shared.table_id.words ≡ 80 }
     requires table { seat.old.table_id ≡ words.now.shared.table_id }
-    requires key { (words.now.shared.key.first_job ≡ J.first_job) × (words.now.shared.key.begin ≡ J.begin) }
     requires index { index < 8 }
-    ensures kept { (seat.new.table_id ≡ seat.old.table_id) × (seat.new.me ≡ seat.old.me) }
-    ensures idle { (now : ℕ) → now < result → HasIdleShard J.first_job J.begin index now seat.old.me.0 }
+    requires skips { X.entry.operation ≡ Logged (SkipsIdle index now) }
+    requires on { HasKey X.entry.who seat.old.me.0.own × HasKey X.entry.job seat.old.me.0.own }
+    requires keyed { IsKeyed words.now.shared.key.first_job X.entry }
+    ensures table { seat.new.table_id ≡ seat.old.table_id }
+    ensures filed { seat.new.me ≡ (filed_if result X.entry seat.old.me.0, seat.old.me.1) }
 {
-    words.shared.load::<ReadsIdle<J>>(seat, IDLE + index)
+    words.shared.load::<SkipsShard<X>>(seat, IDLE + index) > now
 }
 
-/// Files the entry that `X` names, which belongs to no part.
+/// Files the entry that `X` names, of an operation for a job that belongs to no part.
 pub(crate) fn file_alone<X: FiledName>(words: &FiledWords, seat: &mut FiledSeat)
     requires size { words.now.shared.table_id.words ≡ 80 }
     requires table { seat.old.table_id ≡ words.now.shared.table_id }
     requires no_part { part_of X.entry.operation ≡ NoPart }
+    requires for_job { is_for_job X.entry.operation ≡ true }
     requires on { HasKey X.entry.who seat.old.me.0.own × HasKey X.entry.job seat.old.me.0.own }
     requires keyed { IsKeyed words.now.shared.key.first_job X.entry }
     ensures table { seat.new.table_id ≡ seat.old.table_id }
@@ -266,9 +289,9 @@ pub(crate) fn close(words: &FiledWords, seat: &mut FiledSeat, part: FiledSeat)
 pub(crate) fn attest<J: ServerName>(words: &FiledWords, seat: &mut FiledSeat)
     requires size { words.now.shared.table_id.words ≡ 80 }
     requires table { seat.old.table_id ≡ words.now.shared.table_id }
-    requires key { words.now.shared.key.first_job ≡ J.first_job }
+    requires key { (words.now.shared.key.first_job ≡ J.first_job) × (words.now.shared.key.first ≡ J.first) }
     ensures kept { (seat.new.table_id ≡ seat.old.table_id) × (seat.new.me ≡ seat.old.me) }
-    ensures one { HasServerHistory J.first_job seat.old.me.0 }
+    ensures one { HasServerHistory J.first_job J.first seat.old.me.0 }
 {
     let _ = words.shared.load::<AttestsServer<J>>(seat, 0);
 }
@@ -276,6 +299,7 @@ pub(crate) fn attest<J: ServerName>(words: &FiledWords, seat: &mut FiledSeat)
 /// Returns the head word of `slot`, and files nothing.
 pub(crate) fn read_word(words: &FiledWords, seat: &mut FiledSeat, slot: usize) -> u64
     requires size { words.now.shared.table_id.words ≡ 80 }
+    requires heads { length words.now.shared.key.first.words ≡ 64 }
     requires table { seat.old.table_id ≡ words.now.shared.table_id }
     requires slot { slot < 64 }
     ensures rises { known_word slot seat.old.me.0.own ≤ result }
@@ -289,6 +313,7 @@ pub(crate) fn read_word(words: &FiledWords, seat: &mut FiledSeat, slot: usize) -
 /// The filed entry has the thread and the job of the entry that `X` names.
 pub(crate) fn look<X: FiledName>(words: &FiledWords, seat: &mut FiledSeat, slot: usize) -> u64
     requires size { words.now.shared.table_id.words ≡ 80 }
+    requires heads { length words.now.shared.key.first.words ≡ 64 }
     requires table { seat.old.table_id ≡ words.now.shared.table_id }
     requires slot { slot < 64 }
     requires on { HasKey X.entry.who seat.old.me.0.own × HasKey X.entry.job seat.old.me.0.own }

@@ -73,16 +73,18 @@ impl Play<u8, BookView<FiledEntry>> for NotesIdle {
     ghost then = { λ s v found w. w ≡ v };
 }
 
-/// Reads an idle word, and shows that the shard is idle before that time.
-pub(crate) struct ReadsIdle<J: ServerName> {
-    of: PhantomData<J>,
+/// Reads an idle word, and files the skip of its shard in the same step.
+///
+/// The skip is filed only if its time is before the one that was read.
+pub(crate) struct SkipsShard<X: FiledName> {
+    of: PhantomData<X>,
 }
 
-impl<J: ServerName> Play<u8, BookView<FiledEntry>> for ReadsIdle<J> {
-    ghost use Rattle.std.specs.Prelude.{◌≡◌, ◌<◌, ◌-◌, ℕ};
-    ghost use Rattle.fc_filed.specs.Books.{HasIdleShard};
+impl<X: FiledName> Play<u8, BookView<FiledEntry>> for SkipsShard<X> {
+    ghost use Rattle.std.specs.Prelude.{◌≡◌, nat_lt};
+    ghost use Rattle.fc_filed.specs.Threads.{filed_if, skip_time};
 
-    ghost then = { λ s v found w. (w ≡ v) × ((now : ℕ) → now < found → HasIdleShard J.first_job J.begin (s.word - 8) now v.0) };
+    ghost then = { λ s v found w. w ≡ (filed_if (nat_lt (skip_time X.entry.operation) found) X.entry v.0, v.1) };
 }
 
 /// Files an entry that belongs to no part.
@@ -109,7 +111,7 @@ impl<J: ServerName> Play<u8, BookView<FiledEntry>> for AttestsServer<J> {
     ghost use Rattle.std.specs.Prelude.{◌≡◌};
     ghost use Rattle.fc_filed.specs.Books.{HasServerHistory};
 
-    ghost then = { λ s v found w. (w ≡ v) × HasServerHistory J.first_job v.0 };
+    ghost then = { λ s v found w. (w ≡ v) × HasServerHistory J.first_job J.first v.0 };
 }
 
 /// Reads a head word, and files nothing.

@@ -51,7 +51,7 @@ module _ (k : ℕ) (es : List LogEntry) (h : History) (end s : ServerState) (tas
         server = t;
         tasks = tasks;
         serves = served_on h (Tick now) s tasks None t tasks (ticked_done now s t tasks (ticked now s.front r.0 r.1) refl refl) v;
-        rest = record { front = r.2; shards = st.shards; words = st.words; jobs = st.jobs; to_come = st.to_come; numbered = st.numbered; events = st.events.1 };
+        rest = record { front = r.2; shards = st.shards; words = st.words; jobs = st.jobs; to_come = st.to_come; numbered = st.numbered; of_server = st.of_server.1 };
       }
 
   -- if the first call is a delivery that produces no job, the history with this call leaves a
@@ -76,7 +76,7 @@ module _ (k : ℕ) (es : List LogEntry) (h : History) (end s : ServerState) (tas
           jobs = λ j l. subst (λ (x : List LogEntry). FollowsStages x (task_at tasks j)) (still.0 j) (st.jobs j l);
           to_come = λ j l. subst BringsItsJob (still.0 j) (st.to_come j l);
           numbered = subst (HaveNextNumbers (length tasks)) still.1 st.numbered;
-          events = st.events.1;
+          of_server = st.of_server.1;
         };
       }
 
@@ -94,7 +94,7 @@ module _ (k : ℕ) (es : List LogEntry) (h : History) (end s : ServerState) (tas
         server = t;
         tasks = tasks ++ new_task job ∷ [];
         serves = delivered_on now from (borrowed bytes) s t (Brings job) (sym r.1.0) r.1.1 refl refl h tasks v;
-        rest = record { front = r.2; shards = st.shards; words = st.words; jobs = b.jobs; to_come = b.to_come; numbered = b.numbered; events = st.events.1 };
+        rest = record { front = r.2; shards = st.shards; words = st.words; jobs = b.jobs; to_come = b.to_come; numbered = b.numbered; of_server = st.of_server.1 };
       }
 
   pub after_fire : (slot now : ℕ) → RightByParts end s tasks (entry_for k (Logged (FiresTimer slot now)) ∷ es) → After k (Logged (FiresTimer slot now)) es h end
@@ -107,7 +107,7 @@ module _ (k : ℕ) (es : List LogEntry) (h : History) (end s : ServerState) (tas
         server = t;
         tasks = tasks ++ new_task (timer_job slot) ∷ [];
         serves = fired_on slot now s t (fired now s.front r.0 r.1) refl refl h tasks v;
-        rest = record { front = r.2; shards = st.shards; words = st.words; jobs = b.jobs; to_come = b.to_come; numbered = b.numbered; events = st.events.1 };
+        rest = record { front = r.2; shards = st.shards; words = st.words; jobs = b.jobs; to_come = b.to_come; numbered = b.numbered; of_server = st.of_server.1 };
       }
 
   pub after_draw : (now : ℕ) (id : Option ℕ) → RightByParts end s tasks (entry_for k (Logged (DrawsId now id)) ∷ es) → After k (Logged (DrawsId now id)) es h end
@@ -132,7 +132,7 @@ module _ (k : ℕ) (es : List LogEntry) (h : History) (end s : ServerState) (tas
         server = t;
         tasks = set tasks k later;
         serves = served_on h (Fresh k now) s tasks None t (set tasks k later) (draws_done k now s t tasks (set tasks k later) task later refl refl d) v;
-        rest = record { front = r.2; shards = st.shards; words = st.words; jobs = n.jobs; to_come = n.to_come; numbered = n.numbered; events = st.events.1 };
+        rest = record { front = r.2; shards = st.shards; words = st.words; jobs = n.jobs; to_come = n.to_come; numbered = n.numbered; of_server = st.of_server.1 };
       }
 
 -- the emission of an answer is the one that `IsAnswered` permits.
@@ -176,5 +176,5 @@ module _ (k : ℕ) (es : List LogEntry) (h : History) (end s : ServerState) (tas
         server = t;
         tasks = set tasks k later;
         serves = served_on h (Answer k now) s tasks sent t (set tasks k later) (responds_done k now s t tasks (set tasks k later) task later sent refl refl d) v;
-        rest = record { front = r.2; shards = st.shards; words = st.words; jobs = n.jobs; to_come = n.to_come; numbered = n.numbered; events = st.events.1 };
+        rest = record { front = r.2; shards = st.shards; words = st.words; jobs = n.jobs; to_come = n.to_come; numbered = n.numbered; of_server = st.of_server.1 };
       }

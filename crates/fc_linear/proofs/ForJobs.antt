@@ -80,7 +80,7 @@ module _ (k : ℕ) (es : List LogEntry) (h : History) (end s : ServerState) (tas
         server = s;
         tasks = set tasks k later;
         serves = job_served h (Peek k slot) k (refl, refl, refl) s s tasks later None (does_quietly (Peek k slot) s s task later (transition (Peek k slot) (inputs_in s task)).stage (peek_idle k slot (inputs_in s task)) refl is refl) v;
-        rest = record { front = st.front; shards = st.shards; words = subst (λ (ws : List ℕ). LeadInOrder WordsDo (of_words es) ws end.words) r.1.1 r.2; jobs = n.jobs; to_come = n.to_come; numbered = n.numbered; events = st.events.1 };
+        rest = record { front = st.front; shards = st.shards; words = subst (λ (ws : List ℕ). LeadInOrder WordsDo (of_words es) ws end.words) r.1.1 r.2; jobs = n.jobs; to_come = n.to_come; numbered = n.numbered; of_server = st.of_server.1 };
       }
 
   pub after_raise : (slot word : ℕ) → RightByParts end s tasks (entry_for k (Logged (RaisesWord slot word)) ∷ es) → After k (Logged (RaisesWord slot word)) es h end
@@ -103,7 +103,7 @@ module _ (k : ℕ) (es : List LogEntry) (h : History) (end s : ServerState) (tas
               safe = tt;
               emits = refl;
             })) v;
-        rest = record { front = st.front; shards = st.shards; words = r.2; jobs = n.jobs; to_come = n.to_come; numbered = n.numbered; events = st.events.1 };
+        rest = record { front = st.front; shards = st.shards; words = r.2; jobs = n.jobs; to_come = n.to_come; numbered = n.numbered; of_server = st.of_server.1 };
       }
 
 -- ---- a snapshot
@@ -182,5 +182,5 @@ module _ (k : ℕ) (es : List LogEntry) (h : History) (end s : ServerState) (tas
         server = t;
         tasks = set tasks k later;
         serves = job_served h (Take k (had_memory taken) readings) k (refl, refl, refl) s t tasks later None (takes_on s task k (may_work h s tasks k v) readings taken n.stage j n.moves.0 n.moves.1 o.after o.does) v;
-        rest = record { front = st.front; shards = o.shards; words = st.words; jobs = n.jobs; to_come = n.to_come; numbered = n.numbered; events = st.events.1 };
+        rest = record { front = st.front; shards = o.shards; words = st.words; jobs = n.jobs; to_come = n.to_come; numbered = n.numbered; of_server = st.of_server.1 };
       }

@@ -287,7 +287,7 @@ module _ (k : ℕ) (es : List LogEntry) (h : History) (end s : ServerState) (tas
         server = t;
         tasks = set tasks k later;
         serves = job_served h (Commit k now) k (refl, refl, refl) s t tasks later None (commits_on s task k (may_work h s tasks k v) now ran ticket committed n.stage n.moves.1.0 n.moves.0 n.moves.1.1 n.moves.1.2 o.after o.does) v;
-        rest = record { front = st.front; shards = o.shards; words = st.words; jobs = n.jobs; to_come = n.to_come; numbered = n.numbered; events = st.events.1 };
+        rest = record { front = st.front; shards = o.shards; words = st.words; jobs = n.jobs; to_come = n.to_come; numbered = n.numbered; of_server = st.of_server.1 };
       }
 
   pub after_install : (j : Job) (p : Program) (answer : Made) → RightByParts end s tasks (entry_for k (Logged (InstallsProgram j p answer)) ∷ es) → After k (Logged (InstallsProgram j p answer)) es h end
@@ -303,7 +303,7 @@ module _ (k : ℕ) (es : List LogEntry) (h : History) (end s : ServerState) (tas
         server = t;
         tasks = set tasks k later;
         serves = job_served h (Install k true) k (refl, refl, refl) s t tasks later None (installs_on s task k p answer n.stage j n.moves.0 n.moves.1 n.moves.2 n.moves.3 n.moves.4 o.after o.does) v;
-        rest = record { front = st.front; shards = o.shards; words = st.words; jobs = n.jobs; to_come = n.to_come; numbered = n.numbered; events = st.events.1 };
+        rest = record { front = st.front; shards = o.shards; words = st.words; jobs = n.jobs; to_come = n.to_come; numbered = n.numbered; of_server = st.of_server.1 };
       }
 
   pub after_remove : (j : Job) (removal : Removal) → RightByParts end s tasks (entry_for k (Logged (RemovesProgram j removal)) ∷ es) → After k (Logged (RemovesProgram j removal)) es h end
@@ -319,7 +319,7 @@ module _ (k : ℕ) (es : List LogEntry) (h : History) (end s : ServerState) (tas
         server = t;
         tasks = set tasks k later;
         serves = job_served h (Remove k) k (refl, refl, refl) s t tasks later None (removes_on s task k removal n.stage j n.moves.0 n.moves.1 n.moves.2 o.after o.does) v;
-        rest = record { front = st.front; shards = o.shards; words = st.words; jobs = n.jobs; to_come = n.to_come; numbered = n.numbered; events = st.events.1 };
+        rest = record { front = st.front; shards = o.shards; words = st.words; jobs = n.jobs; to_come = n.to_come; numbered = n.numbered; of_server = st.of_server.1 };
       }
 
   pub after_receipt : (j : Job) (receipt : Option Facts) → RightByParts end s tasks (entry_for k (Logged (TellsReceipt j receipt)) ∷ es) → After k (Logged (TellsReceipt j receipt)) es h end
@@ -335,7 +335,7 @@ module _ (k : ℕ) (es : List LogEntry) (h : History) (end s : ServerState) (tas
         server = t;
         tasks = set tasks k later;
         serves = job_served h (Receipt k) k (refl, refl, refl) s t tasks later None (describes_on s task k receipt n.stage j n.moves.0 n.moves.1 o.after o.does) v;
-        rest = record { front = st.front; shards = o.shards; words = st.words; jobs = n.jobs; to_come = n.to_come; numbered = n.numbered; events = st.events.1 };
+        rest = record { front = st.front; shards = o.shards; words = st.words; jobs = n.jobs; to_come = n.to_come; numbered = n.numbered; of_server = st.of_server.1 };
       }
 
   pub after_give_up : (turn : Turn) (now : ℕ) → RightByParts end s tasks (entry_for k (Logged (GivesUpTurn turn now)) ∷ es) → After k (Logged (GivesUpTurn turn now)) es h end
@@ -351,7 +351,7 @@ module _ (k : ℕ) (es : List LogEntry) (h : History) (end s : ServerState) (tas
         server = t;
         tasks = set tasks k later;
         serves = job_served h (GiveUp k now) k (refl, refl, refl) s t tasks later None (gives_up_on s task k (may_work h s tasks k v) turn now n.stage n.moves.0 n.moves.1 n.moves.2 o.after o.does) v;
-        rest = record { front = st.front; shards = o.shards; words = st.words; jobs = n.jobs; to_come = n.to_come; numbered = n.numbered; events = st.events.1 };
+        rest = record { front = st.front; shards = o.shards; words = st.words; jobs = n.jobs; to_come = n.to_come; numbered = n.numbered; of_server = st.of_server.1 };
       }
 
   pub after_note : (turn : Turn) (id now random : ℕ) (said : Notification) (noted : Noted) → RightByParts end s tasks (entry_for k (Logged (NotesTurn turn id now random said noted)) ∷ es) → After k (Logged (NotesTurn turn id now random said noted)) es h end
@@ -367,7 +367,7 @@ module _ (k : ℕ) (es : List LogEntry) (h : History) (end s : ServerState) (tas
         server = t;
         tasks = set tasks k later;
         serves = job_served h (Note k now random) k (refl, refl, refl) s t tasks later (sent_of noted) (notes_on s task k (may_work h s tasks k v) turn id now random said noted n.stage n.moves.0 n.moves.1 n.moves.2 n.moves.3 o.after o.does) v;
-        rest = record { front = st.front; shards = o.shards; words = st.words; jobs = n.jobs; to_come = n.to_come; numbered = n.numbered; events = st.events.1 };
+        rest = record { front = st.front; shards = o.shards; words = st.words; jobs = n.jobs; to_come = n.to_come; numbered = n.numbered; of_server = st.of_server.1 };
       }
 
   pub after_reject : (j : Job) (content : Content) → RightByParts end s tasks (entry_for k (RejectsImage j content) ∷ es) → After k (RejectsImage j content) es h end
@@ -390,7 +390,7 @@ module _ (k : ℕ) (es : List LogEntry) (h : History) (end s : ServerState) (tas
         tasks = set tasks k later;
         serves = job_served h e k (refl, refl, refl) s s tasks later None (does_quietly e s s task later (ToAnswer (refused (Broken f))) there refl
             (ap (λ (x : Stage). record { job = task.job; stage = x }) (n.moves.3 ∙ ap (λ (c : Content). ToAnswer c) n.moves.1.2) ∙ ap (λ (m : Effect). task_moved task m) (sym there)) refl) v;
-        rest = record { front = st.front; shards = st.shards; words = st.words; jobs = n.jobs; to_come = n.to_come; numbered = n.numbered; events = st.events.1 };
+        rest = record { front = st.front; shards = st.shards; words = st.words; jobs = n.jobs; to_come = n.to_come; numbered = n.numbered; of_server = st.of_server.1 };
       }
 
   pub after_refuse : (j : Job) → RightByParts end s tasks (entry_for k (FailsToSave j) ∷ es) → After k (FailsToSave j) es h end
@@ -406,7 +406,7 @@ module _ (k : ℕ) (es : List LogEntry) (h : History) (end s : ServerState) (tas
         tasks = set tasks k later;
         serves = job_served h e k (refl, refl, refl) s s tasks later None (does_quietly e s s task later (ToAnswer Unavailable) there refl
             (ap (λ (x : Stage). record { job = task.job; stage = x }) n.moves.2 ∙ ap (λ (m : Effect). task_moved task m) (sym there)) refl) v;
-        rest = record { front = st.front; shards = st.shards; words = st.words; jobs = n.jobs; to_come = n.to_come; numbered = n.numbered; events = st.events.1 };
+        rest = record { front = st.front; shards = st.shards; words = st.words; jobs = n.jobs; to_come = n.to_come; numbered = n.numbered; of_server = st.of_server.1 };
       }
 
   pub after_lack : (j : Job) → RightByParts end s tasks (entry_for k (LacksMemory j) ∷ es) → After k (LacksMemory j) es h end
@@ -422,5 +422,5 @@ module _ (k : ℕ) (es : List LogEntry) (h : History) (end s : ServerState) (tas
         tasks = set tasks k later;
         serves = job_served h e k (refl, refl, refl) s s tasks later None (does_quietly e s s task later (ToAnswer Unavailable) there refl
             (ap (λ (x : Stage). record { job = task.job; stage = x }) n.moves.2 ∙ ap (λ (m : Effect). task_moved task m) (sym there)) refl) v;
-        rest = record { front = st.front; shards = st.shards; words = st.words; jobs = n.jobs; to_come = n.to_come; numbered = n.numbered; events = st.events.1 };
+        rest = record { front = st.front; shards = st.shards; words = st.words; jobs = n.jobs; to_come = n.to_come; numbered = n.numbered; of_server = st.of_server.1 };
       }

@@ -1,5 +1,5 @@
 -- Operations of a server with many threads, as the entries of one history. Each operation has a
--- part of the server, an effect on that part, an effect on a job, and an event.
+-- part of the server, an effect on that part, an effect on a job, and an event, or none of these.
 use Rattle.std.specs.Prelude.{◌≡◌, ◌⊎◌, ℕ, ◌%◌, ◌<◌, ◌==◌, Bool, true, false, List, [], ◌∷◌, ◌++◌, length, Option, Some, None}
 use Rattle.std.specs.Borrow.{Bor}
 use Rattle.arrayvec.specs.ArrayVec.{ArrayVec}
@@ -32,9 +32,9 @@ use Rattle.fc_core.specs.Legal.{resent}
 use Rattle.fc_core.specs.Stages.{after_commit, had_memory, image_of, is_refusable, listed, made, matched, removed, receipt_content, took, turn_took, with_id}
 use Rattle.fc_core.specs.Timers.{timer_job}
 use Rattle.fc_calls.specs.Logged.{LoggedCall}
-use Rattle.fc_calls.specs.Logged.{HandlesDatagram, AdvancesFront, FiresTimer, DrawsId, AnswersRequest, TellsReceipt, GivesReadings, LooksAt, RaisesWord}
-use Rattle.fc_calls.specs.Logged.{TakesForJob, CommitsRun, InstallsProgram, RemovesProgram, HandsSignal, AdvancesIdle, AdvancesShard, GivesTurn, NotesTurn, GivesUpTurn}
-use Rattle.fc_calls.specs.Doings.{AdvancesTo, AnswersAt, CommitsAt, DescribesTo, DrawsAt, FiresAt, GivesTurnAt, GivesUpAt, HandsOn, HandlesAt, InstallsTo, NotesAt, PassesIfIdle, RemovesFrom, TakesTo, TicksAt}
+use Rattle.fc_calls.specs.Logged.{HandlesDatagram, AdvancesFront, FiresTimer, DrawsId, AnswersRequest, TellsReceipt, GivesReadings, ReadsCost, LooksAt, RaisesWord}
+use Rattle.fc_calls.specs.Logged.{TakesForJob, CommitsRun, InstallsProgram, RemovesProgram, HandsSignal, AdvancesIdle, SkipsIdle, AdvancesShard, GivesTurn, NotesTurn, GivesUpTurn}
+use Rattle.fc_calls.specs.Doings.{AdvancesTo, AnswersAt, CommitsAt, DescribesTo, DrawsAt, FiresAt, GivesTurnAt, GivesUpAt, HandsOn, HandlesAt, InstallsTo, NotesAt, PassesIfIdle, RemovesFrom, TakesTo, FindsCost, TicksAt}
 use Rattle.fc_calls.specs.Doings.{SaysFound}
 
 -- an operation of a thread.
@@ -69,6 +69,7 @@ part_by (FiresTimer slot now) = FrontPart
 part_by (DrawsId now id) = FrontPart
 part_by (AnswersRequest now job content sent) = FrontPart
 part_by (TellsReceipt job receipt) = ShardPart (job.origin.slot % 8)
+part_by (ReadsCost slot cost) = ShardPart (slot % 8)
 part_by (GivesReadings readings) = NoPart
 part_by (LooksAt slot word) = WordsPart
 part_by (TakesForJob job readings taken) = ShardPart (job.origin.slot % 8)
@@ -77,6 +78,7 @@ part_by (InstallsProgram job program made) = ShardPart (job.origin.slot % 8)
 part_by (RemovesProgram job removal) = ShardPart (job.origin.slot % 8)
 part_by (HandsSignal shard from id reset) = ShardPart shard
 part_by (AdvancesIdle shard now) = ShardPart shard
+part_by (SkipsIdle shard now) = NoPart
 part_by (AdvancesShard shard now ticked) = ShardPart shard
 part_by (GivesTurn shard now turn) = ShardPart shard
 part_by (NotesTurn turn id now random told noted) = ShardPart (turn.slot % 8)
@@ -97,6 +99,12 @@ abbrev pub is_words : ServerPart → Bool
 is_words WordsPart = true
 is_words other = false
 
+-- whether the part has a lock.
+abbrev pub is_locked : ServerPart → Bool
+is_locked FrontPart = true
+is_locked (ShardPart index) = true
+is_locked other = false
+
 abbrev pub is_shard : ℕ → ServerPart → Bool
 is_shard i (ShardPart index) = index == i
 is_shard i other = false
@@ -113,6 +121,7 @@ FrontDoes other f g = ⊥
 
 abbrev pub ShardDoes : Operation → Shard → Shard → Type 0
 ShardDoes (Logged (TellsReceipt job receipt)) x y = DescribesTo job x receipt y
+ShardDoes (Logged (ReadsCost slot cost)) x y = FindsCost slot x cost y
 ShardDoes (Logged (TakesForJob job readings taken)) x y = TakesTo job readings x taken y
 ShardDoes (Logged (CommitsRun now ran ticket committed)) x y = CommitsAt now ran ticket x committed y
 ShardDoes (Logged (InstallsProgram job program made)) x y = InstallsTo job program x made y
@@ -130,15 +139,16 @@ WordsDo (Logged (LooksAt slot word)) ws vs = (word ≡ word_at ws slot) × (vs �
 WordsDo (Logged (RaisesWord slot word)) ws vs = vs ≡ word_raised slot word ws
 WordsDo other ws vs = ⊥
 
--- the operation is an event: it isn't a call for readings, and its shard's index, if it names one,
--- is below 8.
-abbrev pub IsEvent : Operation → Type 0
-IsEvent (Logged (GivesReadings readings)) = ⊥
-IsEvent (Logged (HandsSignal shard from id reset)) = shard < 8
-IsEvent (Logged (AdvancesIdle shard now)) = shard < 8
-IsEvent (Logged (AdvancesShard shard now ticked)) = shard < 8
-IsEvent (Logged (GivesTurn shard now turn)) = shard < 8
-IsEvent other = Unit {0}
+-- the operation is one of a server with eight shards. A call for readings isn't: the device gives
+-- these. Nor is a call of a shard with an index above 7.
+abbrev pub IsOfServer : Operation → Type 0
+IsOfServer (Logged (GivesReadings readings)) = ⊥
+IsOfServer (Logged (HandsSignal shard from id reset)) = shard < 8
+IsOfServer (Logged (AdvancesIdle shard now)) = shard < 8
+IsOfServer (Logged (SkipsIdle shard now)) = shard < 8
+IsOfServer (Logged (AdvancesShard shard now ticked)) = shard < 8
+IsOfServer (Logged (GivesTurn shard now turn)) = shard < 8
+IsOfServer other = Unit {0}
 
 -- ---- its effect on its job
 
@@ -159,8 +169,10 @@ is_for_job (Logged (HandlesDatagram now from bytes brings)) = false
 is_for_job (Logged (AdvancesFront now)) = false
 is_for_job (Logged (FiresTimer slot now)) = false
 is_for_job (Logged (GivesReadings readings)) = false
+is_for_job (Logged (ReadsCost slot cost)) = false
 is_for_job (Logged (HandsSignal shard from id reset)) = false
 is_for_job (Logged (AdvancesIdle shard now)) = false
+is_for_job (Logged (SkipsIdle shard now)) = false
 is_for_job (Logged (AdvancesShard shard now ticked)) = false
 is_for_job (Logged (GivesTurn shard now turn)) = false
 is_for_job other = true
@@ -197,39 +209,43 @@ StageMoves (LacksMemory j) job s t = (j ≡ job) × (s ≡ ToInstall) × (t ≡ 
 StageMoves (FailsToSave j) job s t = (j ≡ job) × (is_refusable s ≡ true) × (t ≡ ToAnswer Unavailable)
 StageMoves other job s t = ⊥
 
--- ---- its event, and what that emits
+-- ---- its event, if it is one, and what that emits
 
 abbrev pub borrowed : List ℕ → Bor (List ℕ)
 borrowed bytes = record { ref_ptr = (0, 0); now = bytes }
 
-abbrev pub event_by : ℕ → LoggedCall → Event
-event_by k (HandlesDatagram now from bytes brings) = Deliver now from (borrowed bytes)
-event_by k (AdvancesFront now) = Tick now
-event_by k (FiresTimer slot now) = Fire slot now
-event_by k (DrawsId now id) = Fresh k now
-event_by k (AnswersRequest now job content sent) = Answer k now
-event_by k (TellsReceipt job receipt) = Receipt k
-event_by k (GivesReadings readings) = Tick 0
-event_by k (LooksAt slot word) = Peek k slot
-event_by k (TakesForJob job readings taken) = Take k (had_memory taken) readings
-event_by k (CommitsRun now ran ticket committed) = Commit k now
-event_by k (InstallsProgram job program made) = Install k true
-event_by k (RemovesProgram job removal) = Remove k
-event_by k (HandsSignal shard from id reset) = Signal shard from id reset
-event_by k (AdvancesIdle shard now) = ShardTick shard now
-event_by k (AdvancesShard shard now ticked) = ShardTick shard now
-event_by k (GivesTurn shard now turn) = Due shard now
-event_by k (NotesTurn turn id now random told noted) = Note k now random
-event_by k (GivesUpTurn turn now) = GiveUp k now
-event_by k (RaisesWord slot word) = Raise k
+-- the event of a call for job k, or none: a call for readings, a read of a cost and a skip are no
+-- events.
+abbrev pub event_by : ℕ → LoggedCall → Option Event
+event_by k (HandlesDatagram now from bytes brings) = Some (Deliver now from (borrowed bytes))
+event_by k (AdvancesFront now) = Some (Tick now)
+event_by k (FiresTimer slot now) = Some (Fire slot now)
+event_by k (DrawsId now id) = Some (Fresh k now)
+event_by k (AnswersRequest now job content sent) = Some (Answer k now)
+event_by k (TellsReceipt job receipt) = Some (Receipt k)
+event_by k (ReadsCost slot cost) = None
+event_by k (GivesReadings readings) = None
+event_by k (LooksAt slot word) = Some (Peek k slot)
+event_by k (TakesForJob job readings taken) = Some (Take k (had_memory taken) readings)
+event_by k (CommitsRun now ran ticket committed) = Some (Commit k now)
+event_by k (InstallsProgram job program made) = Some (Install k true)
+event_by k (RemovesProgram job removal) = Some (Remove k)
+event_by k (HandsSignal shard from id reset) = Some (Signal shard from id reset)
+event_by k (AdvancesIdle shard now) = Some (ShardTick shard now)
+event_by k (SkipsIdle shard now) = None
+event_by k (AdvancesShard shard now ticked) = Some (ShardTick shard now)
+event_by k (GivesTurn shard now turn) = Some (Due shard now)
+event_by k (NotesTurn turn id now random told noted) = Some (Note k now random)
+event_by k (GivesUpTurn turn now) = Some (GiveUp k now)
+event_by k (RaisesWord slot word) = Some (Raise k)
 
-abbrev pub event_for : ℕ → Operation → Event
+abbrev pub event_for : ℕ → Operation → Option Event
 event_for k (Logged call) = event_by k call
-event_for k (RejectsImage j content) = Install k true
-event_for k (LacksMemory j) = Install k false
-event_for k (FailsToSave j) = Refuse k
+event_for k (RejectsImage j content) = Some (Install k true)
+event_for k (LacksMemory j) = Some (Install k false)
+event_for k (FailsToSave j) = Some (Refuse k)
 
-abbrev pub event_of : LogEntry → Event
+abbrev pub event_of : LogEntry → Option Event
 event_of e = event_for e.job e.operation
 
 abbrev pub reply_in : Delivered → Option Emission

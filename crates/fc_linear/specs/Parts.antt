@@ -1,21 +1,20 @@
 -- A log of operations that is right for each part of a server and for each job, and the history
 -- that it makes.
-use Rattle.std.specs.Prelude.{◌≡◌, ℕ, ◌+◌, ◌*◌, ◌<◌, ◌≤◌, ◌==◌, ◌&&◌, ◌||◌, Bool, List, [], ◌∷◌, length, Some, is_some}
+use Rattle.std.specs.Prelude.{◌≡◌, ℕ, ◌+◌, ◌*◌, ◌<◌, ◌≤◌, ◌==◌, ◌&&◌, ◌||◌, Bool, List, [], ◌∷◌, length, Option, Some, None, is_some}
 use Rattle.std.specs.List.{filter}
+use Rattle.coap_msg.specs.declared.types.Emission.{Emission}
 use Rattle.fc_registry.specs.declared.job.Job.{Job}
-use Rattle.fc_registry.specs.Shards.{first_shards, shard_at, slot_in_shards}
+use Rattle.fc_registry.specs.Shards.{shard_at, slot_in_shards}
 use Rattle.fc_registry.specs.Watches.{watch_at}
+use Rattle.fc_core.specs.declared.event.Event.{Event}
 use Rattle.fc_core.specs.declared.stage.Task.{Task}
-use Rattle.fc_core.specs.Exchanges.{first_front}
-use Rattle.fc_core.specs.Heads.{no_words}
 use Rattle.fc_core.specs.History.{History, front_in, seen, slot_at, task_at, watch}
 use Rattle.fc_core.specs.Legal.{AllMean, IsLegal}
 use Rattle.fc_core.specs.Stage.{Stage}
 use Rattle.fc_core.specs.Stages.{new_task}
-use Rattle.fc_server.specs.declared.server.Begin.{Begin}
 use Rattle.fc_server.specs.Serving.{Serves, next}
 use Rattle.fc_server.specs.States.{ServerState}
-use Rattle.fc_linear.specs.Operations.{Operation, LogEntry, FrontDoes, IsEvent, ShardDoes, StageMoves, WordsDo, emitted_of, event_of, is_for_job, is_front, is_shard, is_words, job_brought, part_of}
+use Rattle.fc_linear.specs.Operations.{Operation, LogEntry, FrontDoes, IsOfServer, ShardDoes, StageMoves, WordsDo, emitted_of, event_of, is_for_job, is_front, is_shard, is_words, job_brought, part_of}
 
 -- ---- the subhistories of a log
 
@@ -61,9 +60,9 @@ abbrev pub HaveNextNumbers : ℕ → List LogEntry → Type 0
 HaveNextNumbers n [] = Unit {0}
 HaveNextNumbers n (e ∷ es) = (e.job ≡ n) × HaveNextNumbers (n + 1) es
 
-abbrev pub AllEvents : List LogEntry → Type 0
-AllEvents [] = Unit {0}
-AllEvents (e ∷ es) = IsEvent e.operation × AllEvents es
+abbrev pub AllOfServer : List LogEntry → Type 0
+AllOfServer [] = Unit {0}
+AllOfServer (e ∷ es) = IsOfServer e.operation × AllOfServer es
 
 -- the log is right for each part of the server s with these jobs, and for each job, and leads s to
 -- `end`. The operations of each part lead it, in order, from its state in s to its state in `end`.
@@ -76,14 +75,19 @@ pub record RightByParts (end : ServerState) (s : ServerState) (tasks : List Task
   pub jobs : (k : ℕ) → k < length tasks → FollowsStages (of_job k log) (task_at tasks k)
   pub to_come : (k : ℕ) → length tasks ≤ k → BringsItsJob (of_job k log)
   pub numbered : HaveNextNumbers (length tasks) (bringing log)
-  pub events : AllEvents log
+  pub of_server : AllOfServer log
 
 -- ---- the history of a log
 
--- the history continued by the operations of a log, as events.
+-- the history continued by an event, with what it emits, if there is an event.
+abbrev pub next_if : History → Option Event → Option Emission → History
+next_if h (Some event) emitted = next h event emitted
+next_if h None emitted = h
+
+-- the history continued by the operations of a log that are events.
 abbrev pub history_on : History → List LogEntry → History
 history_on h [] = h
-history_on h (e ∷ es) = history_on (next h (event_of e) (emitted_of e.operation)) es
+history_on h (e ∷ es) = history_on (next_if h (event_of e) (emitted_of e.operation)) es
 
 -- the history leaves a server with the parts of `end`.
 pub record LeavesServer (h : History) (end : ServerState) : Type 0 where
@@ -93,10 +97,6 @@ pub record LeavesServer (h : History) (end : ServerState) : Type 0 where
   pub front : server.front ≡ end.front
   pub shards : (i : ℕ) → i < 8 → shard_at server.shards i ≡ shard_at end.shards i
   pub words : server.words ≡ end.words
-
--- the server with this initial state, before any event.
-abbrev pub first_server : Begin → ServerState
-first_server b = record { front = first_front b.policy b.id; shards = first_shards b.serial b.policy.confirm_after; words = no_words }
 
 -- the history is legal, and each snapshot in it that found a program has a meaning. The server is
 -- that of the history. This holds for its front, its slots, the times of its shards, the observers

@@ -1,23 +1,57 @@
 //! Laws of logs of operations.
-ghost use Rattle.std.specs.Prelude.{◌≡◌, ℕ, [], List, false, true};
+ghost use Rattle.std.specs.Prelude.{◌≡◌, ◌<◌, ℕ, [], List, None, Some, false, length, true, ◌∷◌, Option};
+ghost use Rattle.fc_calls.specs.Logged.{GivesReadings, ReadsCost, SkipsIdle};
 ghost use Rattle.fc_core.specs.Contents.{Content, Unavailable};
-ghost use Rattle.fc_core.specs.History.{History};
+ghost use Rattle.fc_core.specs.Heads.{word_at};
+ghost use Rattle.fc_core.specs.History.{BeginsWith, History};
 ghost use Rattle.fc_core.specs.Stage.{Stage, ToAnswer, ToInstall, ToRaise};
 ghost use Rattle.fc_core.specs.declared.event.Event.TheVariants.{Install, Refuse};
+ghost use Rattle.fc_core.specs.declared.policy.Policy.{Policy};
 ghost use Rattle.fc_core.specs.declared.stage.Task.{Task};
+ghost use Rattle.fc_kinds.specs.Meaning.{Program};
+ghost use Rattle.fc_registry.specs.Restored.{restored_slot};
+ghost use Rattle.fc_registry.specs.Shards.{slot_in_shards};
+ghost use Rattle.fc_registry.specs.Starts.{CanRestore};
 ghost use Rattle.fc_registry.specs.declared.job.Job.{Job};
 ghost use Rattle.fc_server.specs.declared.server.Begin.{Begin};
 ghost use Rattle.fc_server.specs.Serving.{Serves};
-ghost use Rattle.fc_server.specs.States.{ServerState, begin_of};
-ghost use Rattle.fc_linear.specs.Operations.{FailsToSave, LacksMemory, LogEntry, NoPart, RejectsImage, StageMoves, event_for, part_of};
-ghost use Rattle.fc_linear.specs.Parts.{IsHistoryOf, LeavesServer, RightByParts, first_server, history_on};
+ghost use Rattle.fc_server.specs.States.{ServerState, begin_of, first_server, server_over};
+ghost use Rattle.fc_store.specs.Stored.{StoredProgram, StoredSlot, StoredSlots, stored_in};
+ghost use Rattle.fc_verify.specs.Accepted.{Accepts};
+ghost use Rattle.fc_verify.specs.Judged.{judged};
+ghost use Rattle.fc_linear.specs.Operations.{FailsToSave, LacksMemory, LogEntry, NoPart, RejectsImage, StageMoves, event_for, part_of, Logged, ShardPart};
+ghost use Rattle.fc_linear.specs.Parts.{IsHistoryOf, LeavesServer, RightByParts, history_on};
 
-/// A log that is right for each part of a new server and each job is one history.
+/// A new server is the one that its history begins with, with empty slots or with restored ones.
 ///
-/// The history of the log's operations is legal, and its server is `end`, to which the log leads.
+/// A server is restored from 64 stored slots if a start can restore each of them.
+pub fn new_servers_begin_a_history()
+    ensures empty { (b : Begin) → Serves (begin_of b) (first_server b) [] }
+    ensures restored { (items : List StoredSlot) (id : ℕ) (policy : Policy) → length items ≡ 64 → ((n : ℕ) → n < 64 → CanRestore (stored_in items n))
+        → Serves (BeginsWith (stored_in items) id policy) (server_over (stored_in items) id policy) [] }
+{}
+
+/// A restored server begins with the head words of its programs, and with the stored slots.
+///
+/// If slot 13 is stored at serial 5 with a program that is accepted, its head word is 11. The head
+/// word of an empty slot is 0 at serial 5, and at serial 0. Slot 13 is restored from its stored
+/// state.
+pub fn restored_servers_have_their_head_words()
+    ensures program { (stored : StoredSlots) (id : ℕ) (policy : Policy) (k : StoredProgram) (p : Program) → judged k.image ≡ Accepts p →
+        stored 13 ≡ record { serial = 5; program = Some k } → word_at (server_over stored id policy).words 13 ≡ 11 }
+    ensures empty { (stored : StoredSlots) (id : ℕ) (policy : Policy) → stored 13 ≡ record { serial = 5; program = None } → word_at (server_over stored id policy).words 13 ≡ 0 }
+    ensures blank { (stored : StoredSlots) (id : ℕ) (policy : Policy) → stored 13 ≡ record { serial = 0; program = None } → word_at (server_over stored id policy).words 13 ≡ 0 }
+    ensures slot { (stored : StoredSlots) (id : ℕ) (policy : Policy) → slot_in_shards (server_over stored id policy).shards 13 ≡ restored_slot (stored 13) }
+{}
+
+/// A log that is right for each part of a server and each job is one history.
+///
+/// The history `h` leaves the server `first` without jobs. For a new server, `h` is its beginning.
+/// The log's operations continue this history legally. The longer history's server is `end`, to
+/// which the log leads.
 pub fn calls_are_one_history()
-    ensures { (log : List LogEntry) (b : Begin) (end : ServerState) → RightByParts end (first_server b) [] log →
-        IsHistoryOf (history_on (begin_of b) log) end }
+    ensures { (log : List LogEntry) (h : History) (first end : ServerState) → Serves h first [] → RightByParts end first [] log →
+        IsHistoryOf (history_on h log) end }
 {}
 
 /// A log that is right for each part of a server and each job continues a history.
@@ -45,5 +79,16 @@ pub fn filed_refusals_name_their_job()
     ensures no_part { (job : Job) (content : Content) →
         (part_of (RejectsImage job content) ≡ NoPart) × (part_of (LacksMemory job) ≡ NoPart) × (part_of (FailsToSave job) ≡ NoPart) }
     ensures events { (k : ℕ) (job : Job) (content : Content) →
-        (event_for k (RejectsImage job content) ≡ Install k true) × (event_for k (LacksMemory job) ≡ Install k false) × (event_for k (FailsToSave job) ≡ Refuse k) }
+        (event_for k (RejectsImage job content) ≡ Some (Install k true)) × (event_for k (LacksMemory job) ≡ Some (Install k false)) × (event_for k (FailsToSave job) ≡ Some (Refuse k)) }
+{}
+
+/// A read of a cost, a skip and a call for readings are no events.
+///
+/// The history of a log doesn't depend on them. A read of the cost in slot 13 is a call of shard 5.
+/// A skip is a call of no part.
+pub fn reads_and_skips_are_no_events()
+    ensures cost { (k : ℕ) (cost : Option ℕ) (h : History) (log : List LogEntry) → history_on h (record { job = k; operation = Logged (ReadsCost 13 cost) } ∷ log) ≡ history_on h log }
+    ensures skip { (k shard now : ℕ) (h : History) (log : List LogEntry) → history_on h (record { job = k; operation = Logged (SkipsIdle shard now) } ∷ log) ≡ history_on h log }
+    ensures readings { (k : ℕ) (readings : List ℕ) (h : History) (log : List LogEntry) → history_on h (record { job = k; operation = Logged (GivesReadings readings) } ∷ log) ≡ history_on h log }
+    ensures part { (cost : Option ℕ) (shard now : ℕ) → (part_of (Logged (ReadsCost 13 cost)) ≡ ShardPart 5) × (part_of (Logged (SkipsIdle shard now)) ≡ NoPart) }
 {}

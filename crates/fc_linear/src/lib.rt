@@ -9,11 +9,14 @@
 //!
 //! # What is proved
 //!
-//! - A log that is right by parts and by jobs, from a server that has just begun, is one legal
-//!   history. Each snapshot in it that found a program has a meaning. The server's front, slots and
-//!   head words are those of the history.
+//! - A new server is the one that its history begins with. Its slots are empty, or restored from
+//!   stored states.
+//! - A log that is right by parts and by jobs continues each history that leaves its first server
+//!   without jobs. The longer history is legal, and each snapshot in it that found a program has a
+//!   meaning. The server's front, slots and head words are those of the longer history.
 //! - A log that is right from a server that a history leaves continues this history. The longer
-//!   history leaves the server to which the log leads.
+//!   history leaves the server to which the log leads. Reads of costs, skips and calls for readings
+//!   are no events.
 //! - An image that isn't installed, or a change that isn't saved, is one of the job that it names.
 //!   It isn't a call of a part of the server. An install, or a change that was made, can't fail to
 //!   be saved.

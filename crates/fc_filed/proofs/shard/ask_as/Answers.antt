@@ -18,5 +18,5 @@ invariant_of-this g c =
     let right = g.met.C.FiledCall.right c.args.call x answer room y (subst (λ (s : Shard). g.C.FiledCall.is_of c.args.call s) at c.requires.is_of) c.call-answer.ensures.does in
     let filed = subst (λ (b : Bool). IsFiledAs b g.C.FiledCall.of_job operation x y) (sym c.is_filed.ensures ∙ c.if-is_filed.true) right in
     let named = c.requires.named answer room ∙ ap (λ (s : Shard). g.C.FiledCall.operation s.index c.args.call answer room) at in
-    calls_more g.J.ServerName.begin g.P.Part.key c.this.inside.track c.file_answer.new.track e x y c.file_answer.ensures.track c.this.invariant
+    calls_more g.J.ServerName.first g.P.Part.key c.this.inside.track c.file_answer.new.track e x y c.file_answer.ensures.track c.this.invariant
     (subst (λ (o : Operation). ShardDoes o x y) (sym named) filed.does) c.call-answer.ensures.index c.call-answer.ensures.eight

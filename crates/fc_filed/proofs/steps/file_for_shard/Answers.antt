@@ -23,7 +23,7 @@ store-requires g c =
             (subst (λ m. HasKey (entry_keys e).part m.0.locked) (sym taken) c.requires.on_part)
             (subst (λ m. HasKey e.who m.0.own) (sym taken) on.0)
             (subst (λ m. HasKey e.job m.0.own) (sym taken) on.1)
-            c.requires.no_words c.requires.keyed c.args.index index.0 index.1,
+            c.requires.locked c.requires.keyed c.args.index index.0 index.1,
         refl,
       ),
     )

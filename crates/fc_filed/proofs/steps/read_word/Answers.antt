@@ -17,6 +17,6 @@ load-requires c =
         keeps,
         tt,
         held_reads key s.words s.views _ v h at (16 + slot),
-        (subst (λ (k : ℕ). known_word k v.own ≤ slice_index s.words (16 + slot)) (after_idle_words slot) (knows_at key s.words s.views _ v h at slot c.requires.slot), refl),
+        (subst (λ (k : ℕ). known_word k v.own ≤ slice_index s.words (16 + slot)) (after_idle_words slot) (knows_at key s.words s.views _ v h at slot c.requires.heads c.requires.slot), refl),
       ),
     )
