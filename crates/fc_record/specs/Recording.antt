@@ -12,7 +12,7 @@ use Rattle.fc_core.specs.Exchanges.{advanced}
 use Rattle.fc_core.specs.Receiving.{delivered, emission_if}
 use Rattle.fc_calls.specs.Logged.{LoggedCall}
 use Rattle.fc_calls.specs.Logged.{AdvancesFront, AdvancesIdle, AdvancesShard, AnswersRequest, CommitsRun, DrawsId, FiresTimer, GivesReadings, GivesTurn, GivesUpTurn}
-use Rattle.fc_calls.specs.Logged.{HandlesDatagram, HandsSignal, InstallsProgram, LooksAt, NotesTurn, RaisesWord, RemovesProgram, TakesForJob, TellsReceipt}
+use Rattle.fc_calls.specs.Logged.{HandlesDatagram, HandsSignal, InstallsProgram, LooksAt, NotesTurn, RaisesWord, ReadsCost, RemovesProgram, SkipsIdle, TakesForJob, TellsReceipt}
 use Rattle.fc_server.specs.SingleThread.{FiresAlone, HandlesAlone, NotifiesAlone, PassesAlone, PassesOverAlone, ResendsAlone, StaysIdleAlone, TellsGaugesAlone, TellsObserversAlone, TellsOffloadedAlone}
 use Rattle.fc_server.specs.Ingresses.{IngressCalls, is_reply, never}
 use Rattle.fc_server.specs.Shown.{IsShown}
@@ -54,6 +54,7 @@ recorded_files Logged Recorded files (AnswersRequest now job content sent) befor
     record { who = (λ i. (is.2.1 i).who) ∙ f.who; tracks = (λ i. (is.2.1 i).tracks) ∙ f.tracks }
 recorded_files Logged Recorded files (GivesReadings readings) before after is = files (GivesReadings readings) before after is
 recorded_files Logged Recorded files (TellsReceipt job receipt) before after is = files (TellsReceipt job receipt) before after is
+recorded_files Logged Recorded files (ReadsCost slot cost) before after is = files (ReadsCost slot cost) before after is
 recorded_files Logged Recorded files (LooksAt slot word) before after is = files (LooksAt slot word) before after is
 recorded_files Logged Recorded files (HandlesDatagram now from bytes brings) before after is = files (HandlesDatagram now from bytes brings) before after is
 recorded_files Logged Recorded files (AdvancesFront now) before after is = files (AdvancesFront now) before after is
@@ -65,6 +66,7 @@ recorded_files Logged Recorded files (InstallsProgram job program made) before a
 recorded_files Logged Recorded files (RemovesProgram job removal) before after is = files (RemovesProgram job removal) before after is
 recorded_files Logged Recorded files (HandsSignal shard from id reset) before after is = files (HandsSignal shard from id reset) before after is
 recorded_files Logged Recorded files (AdvancesIdle shard now) before after is = files (AdvancesIdle shard now) before after is
+recorded_files Logged Recorded files (SkipsIdle shard now) before after is = files (SkipsIdle shard now) before after is
 recorded_files Logged Recorded files (AdvancesShard shard now ticked) before after is = files (AdvancesShard shard now ticked) before after is
 recorded_files Logged Recorded files (GivesTurn shard now turn) before after is = files (GivesTurn shard now turn) before after is
 recorded_files Logged Recorded files (NotesTurn turn id now random told noted) before after is = files (NotesTurn turn id now random told noted) before after is

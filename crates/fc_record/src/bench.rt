@@ -101,7 +101,7 @@ impl<'a, B: Bench, C: Recorder> Bench for RecordedBench<'a, B, C> {
         readings: &Readings,
         found: &mut SlotSnapshot,
         log: &mut TrackLog<B::Book>,
-    ) -> Option<Taken> {
+    ) -> Result<Taken, u32> {
         self.bench
             .take_if_cheap(rt, least, job, readings, found, log)
     }
@@ -138,8 +138,8 @@ impl<'a, B: Bench, C: Recorder> Bench for RecordedBench<'a, B, C> {
         self.bench.advance_if_idle(rt, shard, now, log)
     }
 
-    fn is_known_idle(&self, shard: u8, now: u64, log: &mut TrackLog<B::Book>) -> bool {
-        self.bench.is_known_idle(shard, now, log)
+    fn skip_if_idle(&self, shard: u8, now: u64, log: &mut TrackLog<B::Book>) -> bool {
+        self.bench.skip_if_idle(shard, now, log)
     }
 
     fn idle_until<R: Wait>(&self, rt: &R, shard: u8) -> u64 {
@@ -229,8 +229,13 @@ impl<'a, B: Bench, C: Recorder> Bench for RecordedBench<'a, B, C> {
         self.bench.receipt(rt, job, log)
     }
 
-    fn read_receipt<R: Wait>(&self, rt: &R, job: &Job) -> Option<Receipt> {
-        self.bench.read_receipt(rt, job)
+    fn read_cost<R: Wait>(
+        &self,
+        rt: &R,
+        slot: SlotNumber,
+        log: &mut TrackLog<B::Book>,
+    ) -> Option<u32> {
+        self.bench.read_cost(rt, slot, log)
     }
 
     fn peek(&self, slot: SlotNumber, log: &mut TrackLog<B::Book>) -> u64 {

@@ -19,8 +19,8 @@ module _ {S : Type 0} (Readies : ℕ → S → S → Type 0) (calls : IngressCal
   abbrev Rounds : List Round → Option (List Receive) → Option (List Receive) → S → S → CallLog → SentReplies → Type 0
   Rounds rounds before after old new log replied = HasRounds Readies calls e rounds before after old new log replied
 
-  -- sent replies that were passed on with another log, by a receive of this wait and datagram and by
-  -- the next reading of the clock.
+  -- sent replies that were passed on with another log, by a receive of this wait and datagram and
+  -- by the next reading of the clock.
   pub record AreAsked (wait : Option ℕ) (received : Option Incoming) (now : ℕ) (old new : SentReplies) : Type 0 where
     pub asked : CallLog
     pub receives : e.received (record { wait = wait; came = received }) old.log asked

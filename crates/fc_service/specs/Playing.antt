@@ -3,10 +3,9 @@ use Rattle.std.specs.Prelude.{◌≡◌, ⊤, ℕ, ◌+◌, ◌<◌, List, [], �
 use Rattle.std.specs.Io.BufRead.{DropsThrough, first_piece}
 use Rattle.std.specs.Io.KnownBytes.{Appends, IsAtEnd}
 use Rattle.coap_msg.specs.declared.types.Emission.{Emission}
-use Rattle.fc_workers.specs.Fronts.{beginning}
 use Rattle.fc_workers.specs.declared.closed.ClosedServer.{ClosedServer}
 use Rattle.fc_workers.specs.Answers.{saturated}
-use Rattle.fc_server.specs.States.{begin_of}
+use Rattle.fc_server.specs.States.{begin_of, first_server}
 use Rattle.fc_server.specs.declared.server.Begin.{Begin}
 use Rattle.fc_help.specs.Region.{no_readings}
 use Rattle.fc_server.specs.Serving.{Serves}
@@ -148,5 +147,5 @@ pub record IsFedByLines {S : Type 0} (calls : IngressCalls S) (had : Option (Lis
 -- readings of its device are those of the lines; nothing is known of either. No change is recorded.
 abbrev pub IsPlayedBeside : Begin → Offload → ℕ → Option (List ℕ) → Replies → Type 0
 IsPlayedBeside begin offload workers had replies =
-    (closed : ClosedServer) × IsFedBeside (locked_view (beginning begin.policy begin.id) (λ readings before after. ⊤) (λ now before after. ⊤) (λ random. ⊤) (λ call before after. ⊤) (λ change before after. after ≡ before))
-    (λ calls lines first last given. IsFedByLines calls lines first last) begin offload workers had (tt {0}) replies closed
+    (closed : ClosedServer) × IsFedBeside (locked_view (first_server begin) (λ readings before after. ⊤) (λ now before after. ⊤) (λ random. ⊤) (λ call before after. ⊤) (λ change before after. after ≡ before))
+    (λ calls lines first last given. IsFedByLines calls lines first last) (first_server begin) offload workers had (tt {0}) replies closed

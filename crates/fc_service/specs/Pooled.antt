@@ -7,18 +7,18 @@ use Rattle.coap_msg.specs.declared.types.Endpoint.{Endpoint}
 use Rattle.fc_core.specs.declared.front.Handled.{Handled}
 use Rattle.fc_observe.specs.declared.observers.Ticked.{Ticked}
 use Rattle.fc_server.specs.Notified.{Notified, is_given, notification_in}
-use Rattle.fc_workers.specs.Answers.{IsSomeIdle, IsSomeTick}
+use Rattle.fc_workers.specs.Answers.{IsSomeTick}
 use Rattle.fc_workers.specs.Asked.{IsLoggedCall, IsServerCall}
 use Rattle.fc_calls.specs.Logged.{AdvancesFront, AdvancesShard, LoggedCall}
 use Rattle.fc_workers.specs.Called.{BenchCall, CountsObservers, LooksAhead, ReadsGauges, WorkerView, WireCall, worker_view}
 use Rattle.fc_workers.specs.Counts.{Tallies}
-use Rattle.fc_workers.specs.Fronts.{Beginning}
 use Rattle.fc_workers.specs.Dispatch.{HasCalled, IsAdvancedOrSkipped, IsTakenIn, IsTimerFired, IsTurnAsked}
 use Rattle.fc_workers.specs.Shares.{AreSharesOf, new_share}
 use Rattle.fc_jobs.specs.Ends.{Channel, nothing_got, nothing_sent}
 use Rattle.fc_workers.specs.declared.call_log.CallLog.{CallLog}
 use Rattle.fc_workers.specs.declared.closed.ClosedServer.{ClosedServer}
 use Rattle.fc_workers.specs.Logs.{TrackedLog}
+use Rattle.fc_filed.specs.Threads.{HasJobFirst, HasOwnTrack}
 use Rattle.fc_workers.specs.LegalOrder.{HaveLegalOrder}
 use Rattle.fc_workers.specs.Messages.{TrackedJob}
 use Rattle.fc_workers.specs.OneOrder.{IsNewLog, logs_of}
@@ -30,7 +30,7 @@ use Rattle.fc_service.specs.declared.replies.Replies.{Replies}
 use Rattle.fc_server.specs.Ingresses.{IngressCalls, never}
 use Rattle.fc_server.specs.declared.engine.FireOutcome.{FireOutcome}
 use Rattle.fc_server.specs.declared.engine.FireOutcome.TheVariants as fired
-use Rattle.fc_server.specs.declared.server.Begin.{Begin}
+use Rattle.fc_server.specs.States.{ServerState}
 use Rattle.fc_record.specs.ProgramRequests.{Requested}
 use Rattle.fc_record.specs.Recording.{IsRecordedCall}
 
@@ -44,13 +44,16 @@ abbrev pub offload_where : Bool → Offload → Offload
 offload_where true offload = offload
 offload_where false offload = Never
 
--- a dispatcher with this policy that has sent nothing by this channel, and done nothing, with a new
--- log.
-pub record IsNew {T : Type 0} (channel : Channel TrackedJob) (offload : Offload) (d : PooledIngress T) : Type 0 where
+-- a dispatcher with this policy that has sent nothing by this channel, and done nothing. Its log
+-- is new, and has the dispatcher's own track, so that each call it files is an entry of that track.
+-- The first of its tracks is a job's, so a job that is sent leaves the own track here.
+pub record IsNew {T : Type 0} (first_job : ℕ) (channel : Channel TrackedJob) (offload : Offload) (d : PooledIngress T) : Type 0 where
   pub offload_is : d.offload ≡ offload
   pub tallies : T
   pub log : TrackedLog
   pub new_log : IsNewLog log
+  pub own : HasOwnTrack first_job log.who log.tracks
+  pub job : HasJobFirst first_job log.tracks
   pub done : d.done ≡ record { sent = nothing_sent channel; share = new_share (nothing_got channel) tallies log }
 
 module _ {T : Type 0} (s : WorkerView T) where
@@ -71,9 +74,9 @@ module _ {T : Type 0} (s : WorkerView T) where
   ResendsPooled shard now old new ticked =
       IsSomeTick now ticked × s.logged (AdvancesShard shard now ticked) old.done.share.log new.done.share.log × HasCalled old.done new.done × (new.offload ≡ old.offload)
 
-  -- an idle shard was advanced, or it is known to be idle and wasn't called.
+  -- an idle shard was advanced, or was skipped.
   abbrev pub PassesOverPooled : ℕ → ℕ → PooledIngress T → PooledIngress T → Type 0
-  PassesOverPooled shard now old new = IsSomeIdle now true × IsAdvancedOrSkipped s shard now old.done new.done × (new.offload ≡ old.offload)
+  PassesOverPooled shard now old new = IsAdvancedOrSkipped s shard now old.done new.done × (new.offload ≡ old.offload)
 
   abbrev pub NotifiesPooled : ℕ → ℕ → PooledIngress T → PooledIngress T → Notified → Type 0
   NotifiesPooled shard now old new told =
@@ -108,10 +111,10 @@ module _ {T : Type 0} (s : WorkerView T) where
 
   -- a driver fed a new dispatcher of this channel and policy, and returned this. The dispatcher has
   -- this share in the end.
-  pub record DrivesTo {F X : Type 0} (Drives : IngressCalls (PooledIngress T) → F → PooledIngress T → PooledIngress T → X → Type 0) (channel : Channel TrackedJob) (offload : Offload) (driver : F) (given : X) (own : Share T) : Type 0 where
+  pub record DrivesTo {F X : Type 0} (first_job : ℕ) (Drives : IngressCalls (PooledIngress T) → F → PooledIngress T → PooledIngress T → X → Type 0) (channel : Channel TrackedJob) (offload : Offload) (driver : F) (given : X) (own : Share T) : Type 0 where
     pub first : PooledIngress T
     pub last : PooledIngress T
-    pub new : IsNew channel offload first
+    pub new : IsNew first_job channel offload first
     pub drives : Drives pooled_calls driver first last given
     pub own_is : own ≡ last.done.share
 
@@ -119,19 +122,20 @@ module _ {T : Type 0} (s : WorkerView T) where
   -- the end.
   pub record IsFed {F X : Type 0} (first_job : ℕ) (Drives : IngressCalls (PooledIngress T) → F → PooledIngress T → PooledIngress T → X → Type 0) (offload : Offload) (driver : F) (given : X) (own : Share T) (shares : List (Share T)) : Type 0 where
     pub channel : Channel TrackedJob
-    pub fed : DrivesTo Drives channel offload driver given own
+    pub fed : DrivesTo first_job Drives channel offload driver given own
     pub shares_are : AreSharesAt first_job channel shares
 
   -- the driver fed the dispatcher in this way, with this number of workers. The replies are those
   -- of the dispatcher's own jobs and of the workers'. The calls that the workers and the dispatcher
-  -- filed have one order, which is a legal history. It led from the new server to the closed one.
-  pub record IsFedBeside {F X : Type 0} (Drives : IngressCalls (PooledIngress T) → F → PooledIngress T → PooledIngress T → X → Type 0) (begin : Begin) (offload : Offload) (workers : ℕ) (driver : F) (given : X) (replies : Replies) (closed : ClosedServer) : Type 0 where
+  -- filed have one order, from the server's first state to the closed server. It legally continues
+  -- each history that leaves this state without jobs.
+  pub record IsFedBeside {F X : Type 0} (Drives : IngressCalls (PooledIngress T) → F → PooledIngress T → PooledIngress T → X → Type 0) (first : ServerState) (offload : Offload) (workers : ℕ) (driver : F) (given : X) (replies : Replies) (closed : ClosedServer) : Type 0 where
     pub own : Share T
     pub shares : List (Share T)
     pub fed : IsFed (9 + (workers + 1)) Drives offload driver given own shares
     pub count : length shares ≡ workers
     pub counted : replies ≡ both_replies (replies_of shares) (replies_by own)
-    pub order : HaveLegalOrder begin (logs_of shares own) closed
+    pub order : HaveLegalOrder first (logs_of shares own) closed
 
 -- a worker context whose jobs are never delayed.
 abbrev pub open_view : {T : Type 0} → (T → ℕ → ℕ) → (T → ℕ) → (BenchCall → Type 0) → (LoggedCall → TrackedLog → TrackedLog → Type 0)
@@ -140,7 +144,7 @@ open_view changes ended bench logged time random wire = worker_view changes ende
 
 -- the context of a server with locks that began in this way. Its parameters are the readings of its
 -- device, its times and random words, and the calls of its transmitter and its recorder of changes.
-abbrev pub locked_view : Beginning → (AreReadings : List ℕ → CallLog → CallLog → Type 0) → (IsTime : ℕ → CallLog → CallLog → Type 0) → (IsRandom : ℕ → Type 0)
+abbrev pub locked_view : ServerState → (AreReadings : List ℕ → CallLog → CallLog → Type 0) → (IsTime : ℕ → CallLog → CallLog → Type 0) → (IsRandom : ℕ → Type 0)
     → (WireCall → CallLog → CallLog → Type 0) → (Requested → CallLog → CallLog → Type 0) → WorkerView Tallies
 locked_view first AreReadings IsTime IsRandom Wired Recorded = open_view (λ t. slice_index t.changes) (λ t. t.ended) (IsServerCall first)
     (IsRecordedCall (IsLoggedCall first AreReadings) Recorded) IsTime IsRandom Wired

@@ -8,7 +8,7 @@ use Rattle.fc_workers.specs.Workers.{Share}
 use Rattle.fc_jobs.specs.Ends.{Channel}
 use Rattle.fc_workers.specs.declared.call_log.CallLog.{CallLog}
 use Rattle.fc_workers.specs.Called.{WorkerView}
-use Rattle.fc_workers.specs.Fronts.{Beginning, beginning}
+use Rattle.fc_workers.specs.Deliveries.{Delivery}
 use Rattle.fc_workers.specs.LegalOrder.{HaveLegalOrder}
 use Rattle.fc_workers.specs.Messages.{TrackedJob}
 use Rattle.fc_workers.specs.OneOrder.{logs_of}
@@ -16,7 +16,7 @@ use Rattle.fc_workers.specs.declared.closed.ClosedServer.{ClosedServer}
 use Rattle.fc_server.specs.Ingresses.{IngressCalls, never}
 use Rattle.fc_server.specs.Serving.{Serves}
 use Rattle.fc_server.specs.Flushing.{AreIdleUntil, AreFlushed, AreStepsBy, FlushingStep, sent_in_steps}
-use Rattle.fc_server.specs.States.{begin_of}
+use Rattle.fc_server.specs.States.{ServerState, begin_of, first_server}
 use Rattle.fc_record.specs.ProgramRequests.{Requested}
 use Rattle.fc_record.specs.Recording.{Recording, recorded_calls}
 use Rattle.fc_record.specs.declared.report.Report.{Report}
@@ -65,6 +65,15 @@ received_in (r ∷ rs) = received_in rs ++ option_to_list r.received
 abbrev pub sendings_in : List Round → List Sending
 sendings_in [] = []
 sendings_in (r ∷ rs) = sendings_in rs ++ r.sendings
+
+-- the delivery of a received datagram at this time.
+abbrev pub delivery_at : ℕ → Incoming → Delivery
+delivery_at now incoming = record { now = now; from = incoming.from; bytes = incoming.bytes }
+
+-- the deliveries of rounds, the oldest first: each received datagram, at the time of its round.
+abbrev pub deliveries_of : List Round → List Delivery
+deliveries_of [] = []
+deliveries_of (r ∷ rs) = deliveries_of rs ++ map (delivery_at r.now) (option_to_list r.received)
 
 -- ---- how long a receive waits, by the times until which the shards are idle
 
@@ -249,20 +258,20 @@ HasServedBy (t ∷ ts) every Reported sensors e Recorded limit begin before afte
 -- the calls of a server with workers that began in this way. Its programs read the clock and these
 -- sensors, and its replies are passed to the sink. Each program change that is answered is
 -- recorded, once.
-abbrev pub served_view : (List ℕ → Type 0) → RoundCalls → (Requested → CallLog → CallLog → Type 0) → Beginning → WorkerView Tallies
-served_view sensors e Recorded begin = locked_view begin (AreReadAt e.time sensors) e.time (λ random. ⊤) (IsHanded e.went) Recorded
+abbrev pub served_view : (List ℕ → Type 0) → RoundCalls → (Requested → CallLog → CallLog → Type 0) → ServerState → WorkerView Tallies
+served_view sensors e Recorded first = locked_view first (AreReadAt e.time sensors) e.time (λ random. ⊤) (IsHanded e.went) Recorded
 
 -- this number of datagrams was received, each in a round of one dispatcher, which began new. Runs
--- of 6,000 instructions and more may be sent to the workers, or no job if no worker was started.
--- The replies are those of the rounds, of the jobs of this number of workers, and of the
--- dispatcher's jobs. The calls that the workers and the dispatcher filed have one order, which is a
--- legal history. It led from the new server to a closed one.
+-- of 6,000 steps and more may be sent to the workers, or no job if no worker was started. The
+-- replies are those of the rounds, of the jobs of this number of workers, and of the dispatcher's
+-- jobs. The calls that the workers and the dispatcher filed have one order, from the server's first
+-- state to a closed server. It legally continues each history that leaves this state without jobs.
 pub record HasServedPooled (s : WorkerView Tallies) (timers : List Timer) (every : Option ℕ) (Reported : Report → CallLog → CallLog → Type 0) (e : RoundCalls) (workers limit : ℕ) (begin : Begin) (before after : Option (List Receive)) (replies : Replies) : Type 0 where
   pub channel : Channel TrackedJob
   pub first : PooledIngress Tallies
   pub last : PooledIngress Tallies
   pub has_workers : Bool
-  pub new : IsNew channel (offload_where has_workers (Expensive 6000)) first
+  pub new : IsNew (9 + (workers + 1)) channel (offload_where has_workers (Expensive 6000)) first
   pub at_once : Replies
   pub run : HasReceivedWith timers every Reported (λ now old new. new ≡ old) (pooled_calls s) e limit before after first last at_once
   pub shares : List (Share Tallies)
@@ -270,7 +279,7 @@ pub record HasServedPooled (s : WorkerView Tallies) (timers : List Timer) (every
   pub count : length shares ≡ workers
   pub all : replies ≡ both_replies at_once (both_replies (replies_of shares) (replies_by last.done.share))
   pub closed : ClosedServer
-  pub order : HaveLegalOrder begin (logs_of shares last.done.share) closed
+  pub order : HaveLegalOrder (first_server begin) (logs_of shares last.done.share) closed
 
 -- ---- a server with this number of workers: one is the receiving thread. Its slots begin at the
 -- serial of its start
@@ -281,4 +290,4 @@ begin_by extent = record { serial = serial_of_start extent.started; id = extent.
 abbrev pub IsServed : List Timer → (List ℕ → Type 0) → RoundCalls → (Requested → CallLog → CallLog → Type 0) → Option ℕ → (Report → CallLog → CallLog → Type 0) → Extent → Option (List Receive) → Option (List Receive) → Replies → Type 0
 IsServed timers sensors e Recorded every Reported extent before after replies =
     ((extent.workers ≡ 1) × HasServedBy timers every Reported sensors e Recorded extent.limit (begin_by extent) before after replies)
-    ⊎ ((extent.workers ≡ 1 → ⊥) × HasServedPooled (served_view sensors e Recorded (beginning extent.policy extent.first_id)) timers every Reported e extent.workers extent.limit (begin_by extent) before after replies)
+    ⊎ ((extent.workers ≡ 1 → ⊥) × HasServedPooled (served_view sensors e Recorded (first_server (begin_by extent))) timers every Reported e extent.workers extent.limit (begin_by extent) before after replies)

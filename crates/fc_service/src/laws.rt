@@ -33,13 +33,14 @@ ghost use Rattle.fc_record.specs.declared.gauges.Gauges.{Gauges};
 ghost use Rattle.fc_service.specs.Logs.{ArePeriods, IsReportText};
 ghost use Rattle.fc_service.specs.Reporting.{AreGaugesOf, Reporting, ReportsIfDue, reported_calls, reporting_from};
 ghost use Rattle.fc_workers.specs.Counts.{Tallies};
-ghost use Rattle.fc_workers.specs.Fronts.{Beginning};
+ghost use Rattle.fc_server.specs.States.{ServerState, first_server};
+ghost use Rattle.fc_workers.specs.Deliveries.{deliveries_in};
 ghost use Rattle.fc_workers.specs.LegalOrder.{HaveLegalOrder};
 ghost use Rattle.fc_workers.specs.OneOrder.{logs_of};
 ghost use Rattle.fc_workers.specs.Workers.{Share};
 ghost use Rattle.fc_workers.specs.declared.call_log.CallLog.{CallLog};
 ghost use Rattle.fc_service.specs.Pooled.{PooledIngress, pooled_calls};
-ghost use Rattle.fc_service.specs.Rounds.{EndsInTime, HasServed, HasServedPooled, HasServedReported, HasServedTimed, Round, WaitsAfter, round_calls, sendings_in, served_view, until_due};
+ghost use Rattle.fc_service.specs.Rounds.{EndsInTime, HasServed, HasServedPooled, HasServedReported, HasServedTimed, Round, WaitsAfter, deliveries_of, round_calls, sendings_in, served_view, until_due};
 ghost use Rattle.fc_server.specs.Flushing.{most_steps};
 ghost use Rattle.fc_service.specs.Serials.{IsNewerNumber, serial_of_start};
 ghost use Rattle.fc_server.specs.declared.alone.SingleThread.{SingleThread};
@@ -130,9 +131,9 @@ pub fn first_wait_is_100_ms<
     ensures later { (left : N) (wait : Option ℕ) → ((due : ℕ) → N.calls.is_first_due left due → due ≡ 1000) → WaitsAfter N.calls [] left wait → wait ≡ Some 100 }
     ensures alone { (left : Recording) (wait : Option ℕ) → WaitsAfter (recorded_calls C.recorded) [] left wait → wait ≡ Some 100 }
     ensures alone_reported { (left : Reporting Recording) (wait : Option ℕ) → WaitsAfter (reported_calls Q.reported (recorded_calls C.recorded)) [] left wait → wait ≡ Some 100 }
-    ensures pooled { (first : Beginning) (left : PooledIngress Tallies) (wait : Option ℕ)
+    ensures pooled { (first : ServerState) (left : PooledIngress Tallies) (wait : Option ℕ)
         → WaitsAfter (pooled_calls (served_view Z.are_sensed (round_calls S.received M.is_time K.went) C.recorded first)) [] left wait → wait ≡ Some 100 }
-    ensures pooled_reported { (first : Beginning) (left : Reporting (PooledIngress Tallies)) (wait : Option ℕ)
+    ensures pooled_reported { (first : ServerState) (left : Reporting (PooledIngress Tallies)) (wait : Option ℕ)
         → WaitsAfter (reported_calls Q.reported (pooled_calls (served_view Z.are_sensed (round_calls S.received M.is_time K.went) C.recorded first))) [] left wait → wait ≡ Some 100 }
 {}
 
@@ -354,8 +355,7 @@ pub fn restarts_keep_the_order_of_observe()
 ///
 /// A server that reports each minute makes no report before 60,000 ms. At 61,500 ms, with nothing
 /// counted, it reports that, once, with the gauges of this time, and the next report is due at
-/// 121,500 ms. No server is idle for
-/// longer than until its next report is due.
+/// 121,500 ms. No server is idle for longer than until its next report is due.
 pub fn reports_come_in_time<N: Ingress, Q: Reporter>()
     ensures early { (s : N) (log : CallLog) (new : Reporting N) → ReportsIfDue Q.reported N.calls 59999 (reporting_from 60000 log s) new → new ≡ reporting_from 60000 log s }
     ensures overdue { (s : N) (log : CallLog) (new : Reporting N) → ReportsIfDue Q.reported N.calls 61500 (reporting_from 60000 log s) new
@@ -377,7 +377,7 @@ pub fn replies_of_all_threads_are_counted<
     C: Recorder,
     Q: Reporter,
 >()
-    ensures { (first : Beginning) (timers : List Timer) (every : Option ℕ) (limit : ℕ) (begin : Begin) (before after : Option (List Receive)) (replies : Replies) (one : Share Tallies)
+    ensures { (first : ServerState) (timers : List Timer) (every : Option ℕ) (limit : ℕ) (begin : Begin) (before after : Option (List Receive)) (replies : Replies) (one : Share Tallies)
         → (w : HasServedPooled (served_view Z.are_sensed (round_calls S.received M.is_time K.went) C.recorded first) timers every Q.reported (round_calls S.received M.is_time K.went) 1 limit begin before after replies)
         → w.shares ≡ one ∷ [] → w.at_once ≡ record { sent = 1; failed = 0 } → one.sent ≡ 2 → one.failed ≡ 8
         → w.last.done.share.sent ≡ 4 → w.last.done.share.failed ≡ 16 → replies ≡ record { sent = 7; failed = 24 } }
@@ -396,15 +396,43 @@ pub fn the_order_has_the_dispatchers_calls<
     C: Recorder,
     Q: Reporter,
 >()
-    ensures reported { (first : Beginning) (every workers limit : ℕ) (begin : Begin) (before after : Option (List Receive)) (replies : Replies)
+    ensures reported { (first : ServerState) (every workers limit : ℕ) (begin : Begin) (before after : Option (List Receive)) (replies : Replies)
         → (w : HasServedPooled (served_view Z.are_sensed (round_calls S.received M.is_time K.went) C.recorded first) [] (Some every) Q.reported (round_calls S.received M.is_time K.went) workers limit begin before after replies)
-        → HaveLegalOrder begin (logs_of w.shares w.run.reporting.ingress.done.share) w.closed }
-    ensures timed { (first : Beginning) (t : Timer) (ts : List Timer) (workers limit : ℕ) (begin : Begin) (before after : Option (List Receive)) (replies : Replies)
+        → HaveLegalOrder (first_server begin) (logs_of w.shares w.run.reporting.ingress.done.share) w.closed }
+    ensures timed { (first : ServerState) (t : Timer) (ts : List Timer) (workers limit : ℕ) (begin : Begin) (before after : Option (List Receive)) (replies : Replies)
         → (w : HasServedPooled (served_view Z.are_sensed (round_calls S.received M.is_time K.went) C.recorded first) (t ∷ ts) None Q.reported (round_calls S.received M.is_time K.went) workers limit begin before after replies)
-        → HaveLegalOrder begin (logs_of w.shares w.run.firing.ingress.done.share) w.closed }
-    ensures both { (first : Beginning) (t : Timer) (ts : List Timer) (every workers limit : ℕ) (begin : Begin) (before after : Option (List Receive)) (replies : Replies)
+        → HaveLegalOrder (first_server begin) (logs_of w.shares w.run.firing.ingress.done.share) w.closed }
+    ensures both { (first : ServerState) (t : Timer) (ts : List Timer) (every workers limit : ℕ) (begin : Begin) (before after : Option (List Receive)) (replies : Replies)
         → (w : HasServedPooled (served_view Z.are_sensed (round_calls S.received M.is_time K.went) C.recorded first) (t ∷ ts) (Some every) Q.reported (round_calls S.received M.is_time K.went) workers limit begin before after replies)
-        → HaveLegalOrder begin (logs_of w.shares w.run.run.reporting.ingress.ingress.done.share) w.closed }
+        → HaveLegalOrder (first_server begin) (logs_of w.shares w.run.run.reporting.ingress.ingress.done.share) w.closed }
+{}
+
+/// Each datagram that a server with workers received is delivered in its one history, once.
+///
+/// The datagrams are delivered in the order of the rounds, each whole, from its sender and at its
+/// round's time. No other datagram is delivered. `untimed` is of a server without timers and
+/// reports, `reported` of one with reports, `timed` of one with timers, and `both` of one with
+/// both.
+pub fn received_datagrams_are_delivered<
+    Z: Sensors,
+    S: Source,
+    M: TimeSource,
+    K: Sink,
+    C: Recorder,
+    Q: Reporter,
+>()
+    ensures untimed { (first : ServerState) (workers limit : ℕ) (begin : Begin) (before after : Option (List Receive)) (replies : Replies)
+        → (w : HasServedPooled (served_view Z.are_sensed (round_calls S.received M.is_time K.went) C.recorded first) [] None Q.reported (round_calls S.received M.is_time K.went) workers limit begin before after replies)
+        → deliveries_in w.order.order.calls ≡ deliveries_of w.run.rounds }
+    ensures reported { (first : ServerState) (every : ℕ) (workers limit : ℕ) (begin : Begin) (before after : Option (List Receive)) (replies : Replies)
+        → (w : HasServedPooled (served_view Z.are_sensed (round_calls S.received M.is_time K.went) C.recorded first) [] (Some every) Q.reported (round_calls S.received M.is_time K.went) workers limit begin before after replies)
+        → deliveries_in w.order.order.calls ≡ deliveries_of w.run.run.rounds }
+    ensures timed { (first : ServerState) (t : Timer) (ts : List Timer) (workers limit : ℕ) (begin : Begin) (before after : Option (List Receive)) (replies : Replies)
+        → (w : HasServedPooled (served_view Z.are_sensed (round_calls S.received M.is_time K.went) C.recorded first) (t ∷ ts) None Q.reported (round_calls S.received M.is_time K.went) workers limit begin before after replies)
+        → deliveries_in w.order.order.calls ≡ deliveries_of w.run.run.rounds }
+    ensures both { (first : ServerState) (t : Timer) (ts : List Timer) (every : ℕ) (workers limit : ℕ) (begin : Begin) (before after : Option (List Receive)) (replies : Replies)
+        → (w : HasServedPooled (served_view Z.are_sensed (round_calls S.received M.is_time K.went) C.recorded first) (t ∷ ts) (Some every) Q.reported (round_calls S.received M.is_time K.went) workers limit begin before after replies)
+        → deliveries_in w.order.order.calls ≡ deliveries_of w.run.run.run.rounds }
 {}
 
 /// The gauges of a server on one thread are its own.

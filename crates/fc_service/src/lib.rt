@@ -77,24 +77,26 @@
 //! - **With more workers** a dispatcher handles each datagram, in order, and each lease that some
 //!   shard gave. Nothing else in a round changes the dispatched jobs (`serve_at`, by
 //!   `HasServedPooled`; `run_pool` passes on its driver's effects, by `IsFedBeside`). The
-//!   dispatcher is new: it has sent nothing, and its log is new. It sends runs of 6,000
-//!   instructions and more to the workers, if it sends any.
+//!   dispatcher is new: it has sent nothing, and its log is new and has its own track. It sends
+//!   runs of 6,000 steps and more to the workers, if it sends any.
 //! - **Shares**: the contract names one share for each worker, of some handles at the dispatcher's
 //!   channel (`AreSharesAt`). It doesn't say that they are those of the started threads, nor that a
 //!   sent job is received. A worker's emission is passed to the sink once, by the worker's own log
 //!   (`Wire::called`). The contract doesn't say in which order several threads pass theirs.
 //! - **One history with workers**: the calls that the dispatcher and these shares' workers filed
-//!   are one legal history, with each thread's calls in its own order. It leads from the new server
-//!   to the closed one (`run_pool`, by `HaveLegalOrder`). `serve_at` and `play_by_workers` say so
-//!   too, of *some* closed server. With reports and timers too, the dispatcher's log is the one
-//!   that its last round left (`laws`).
-//! - **A pool** returns at its end the front and eight shards. For each shard it also returns the
-//!   serial that its slots began with, and the number of their changes. The serials of each shard
-//!   have risen by exactly these numbers, which are reported up to 2^64 - 1. The filed
-//!   calls of its workers led to these shards. Its driver's dispatcher sends jobs by the pool's
-//!   dispatch policy. If the pool reports that no worker was started, the dispatcher sends no job
-//!   to a worker (`offload_where`). A test shows that it reports this only if no thread could be
-//!   created.
+//!   have one order, with each thread's calls in its own order. It leads from the server's first
+//!   state to the closed server. It legally continues each history that leaves this state without
+//!   jobs (`run_pool`, by `HaveLegalOrder`). `serve_at` and `play_by_workers` say so too, of *some*
+//!   closed server. With reports and timers too, the dispatcher's log is the one that its last
+//!   round left (`laws`). Exactly the rounds' datagrams are delivered in this history, in order,
+//!   each whole, from its sender and at its round's time (`laws`).
+//! - **A pool** begins with the first state that its caller passes: empty slots, or slots restored
+//!   from stored states. It returns at its end the front and eight shards. For each shard it also
+//!   returns the number of changes of its slots. The serials of each shard have risen by exactly
+//!   these numbers, which are reported up to 2^64 - 1. The filed calls of its workers led to these
+//!   shards. Its driver's dispatcher sends jobs by the pool's dispatch policy. If the pool reports
+//!   that no worker was started, the dispatcher sends no job to a worker (`offload_where`). A test
+//!   shows that it reports this only if no thread could be created.
 //! - **Each request to change a program that a job answers is recorded once**, after its response
 //!   is made. Nothing else is recorded (`serve_at`, by `HasServed` and `HasServedPooled`, whose
 //!   calls are `recorded_calls` and `IsRecordedCall` of `fc_record`). A test shows that a logger

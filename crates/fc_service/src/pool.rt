@@ -4,8 +4,6 @@
 //! the datagrams of a socket.
 ghost use Rattle.std.specs.Prelude.{◌≡◌, ◌+◌, ◌<◌, ◌≤◌, ℕ, ⊤, List, vec_len, IfOk};
 ghost use Rattle.std.specs.List.{All};
-ghost use Rattle.fc_workers.specs.Fronts.{beginning};
-ghost use Rattle.fc_server.specs.States.{CanBegin};
 ghost use Rattle.fc_jobs.specs.Ends.{nothing_got, nothing_sent};
 ghost use Rattle.fc_service.specs.Counting.{both_replies, replies_by, replies_of};
 ghost use Rattle.fc_server.specs.Ingresses.{IngressCalls};
@@ -25,7 +23,7 @@ use fc_filed::NewServerBook;
 use fc_observe::Ticked;
 use fc_record::{RecordedBench, Recorder};
 use fc_registry::{PLACES, SlotNumber};
-use fc_server::Begin;
+use fc_server::FirstServer;
 pub use fc_server::Ingress;
 use fc_server::engine::{FireOutcome, NotifyOutcome};
 use fc_workers::{
@@ -134,7 +132,7 @@ impl<'a, 'b, R: Wait, B: Bench, G: Gate, W: Wire, M: TimeSource> Ingress
     }
 
     fn advance_if_idle(&mut self, shard: u8, now: u64) -> bool {
-        self.dispatcher.advance_if_idle(self.rt, shard, now)
+        self.dispatcher.advance_or_skip(self.rt, shard, now)
     }
 
     // Returns 0 while a job waits or is running, since the job may change a slot or register an
@@ -227,14 +225,13 @@ type EndedOf<X, T, J> = Ended<X, T, TrackLog<J>, JobMessage<J>>;
 
 /// The parts of a pool.
 ///
-/// It has the number of workers, 1 to 16, and the dispatch policy. It also has the server's initial
-/// state, the transmitter of the jobs' replies, and the clock. Its other parts are the
-/// device whose readings programs get, and the recorder of program changes.
+/// It has the number of workers, 1 to 16, and the dispatch policy. It also has the transmitter of
+/// the jobs' replies, and the clock. Its other parts are the device whose readings programs get,
+/// and the recorder of program changes.
 #[derive(Drop)]
 pub struct Pool<'a, W: Wire, M: TimeSource, D: Device, C: Recorder> {
     pub workers: u8,
     pub offload: Offload,
-    pub begin: Begin,
     pub wire: &'a W,
     pub times: &'a M,
     pub device: &'a D,
@@ -253,13 +250,14 @@ impl Gate for Open {
     }
 }
 
-/// Makes a server with empty slots, and runs its workers and a driver to their end.
+/// Makes a server that begins as `first`, and runs its workers and a driver to their end.
 ///
 /// Each worker runs on its own thread, and the driver on the calling thread. Then the server is
 /// closed: the serials of each shard have risen by exactly the counted changes. The filed calls of
-/// the driver's dispatcher and of some shares of the workers are one legal history. It leads from
-/// the new server to the closed one (`HaveLegalOrder`). If no thread can be created for a worker,
-/// the driver's thread runs all jobs, and this is written to `err`.
+/// the driver's dispatcher and of some shares of the workers have one order. If a history leaves
+/// `first` without jobs, the order continues it legally, up to the closed server
+/// (`HaveLegalOrder`). If no thread can be created for a worker, the driver's thread runs all jobs,
+/// and this is written to `err`.
 ///
 /// # Errors
 /// Returns `AllocError` if memory for the server, the workers or their statistics can't be
@@ -278,15 +276,15 @@ pub fn run_pool<
     alloc: Global,
     err: &mut E,
     pool: &Pool<'_, W, M, D, C>,
+    first: FirstServer,
     driver: F,
 ) -> Result<Fed<X>, AllocError>
-    requires { CanBegin pool.now.begin }
-    ensures counted { IfOk result (λ fed. HasCountedAll fed.closed) }
-    ensures fed { let worker_view = locked_view (beginning pool.now.begin.policy pool.now.begin.id) D.are_readings M.is_time M.is_random W.called C.recorded in
-        IfOk result (λ fed. IsFedBeside worker_view (F.drives _) pool.now.begin (offload_where fed.has_workers pool.now.offload) pool.now.workers driver fed.given fed.replies fed.closed) }
+    ensures counted { IfOk result (λ fed. HasCountedAll first.shards fed.closed) }
+    ensures fed { let worker_view = locked_view first D.are_readings M.is_time M.is_random W.called C.recorded in
+        IfOk result (λ fed. IsFedBeside worker_view (F.drives _) first (offload_where fed.has_workers pool.now.offload) pool.now.workers driver fed.given fed.replies fed.closed) }
 {
     let blanks = Blanks::new(u64::from(pool.workers) + 2);
-    let book = NewServerBook::new(alloc, u16::from(pool.workers) + 1, &pool.begin)?;
+    let book = NewServerBook::new(alloc, u16::from(pool.workers) + 1, first)?;
     run_named::<Brand, R, W, M, D, C, E, X, F>(rt, alloc, err, pool, driver, blanks, book)
 }
 
@@ -311,19 +309,16 @@ fn run_named<
     blanks: Blanks,
     book: NewServerBook,
 ) -> Result<Fed<X>, AllocError>
-    requires begin { CanBegin pool.now.begin }
     requires parts { blanks.parts ≡ pool.now.workers + 2 }
     requires names { AreNamed blanks B.names }
     requires books { blanks.parts ≡ B.parts }
-    requires first { B.first ≡ beginning pool.now.begin.policy pool.now.begin.id }
     requires table { book.table ≡ B.table }
     requires book_threads { book.first_job ≡ 9 + pool.now.workers + 1 }
     requires threads { book.first_job ≡ B.first_job }
-    requires book_begin { B.begin ≡ pool.now.begin }
-    requires book_begins { book.begin ≡ pool.now.begin }
-    ensures counted { IfOk result (λ fed. HasCountedAll fed.closed) }
+    requires server { book.first ≡ B.first }
+    ensures counted { IfOk result (λ fed. HasCountedAll B.first.shards fed.closed) }
     ensures fed { let worker_view = locked_view B.first D.are_readings M.is_time M.is_random W.called C.recorded in
-        IfOk result (λ fed. IsFedBeside worker_view (F.drives _) pool.now.begin (offload_where fed.has_workers pool.now.offload) pool.now.workers driver fed.given fed.replies fed.closed) }
+        IfOk result (λ fed. IsFedBeside worker_view (F.drives _) B.first (offload_where fed.has_workers pool.now.offload) pool.now.workers driver fed.given fed.replies fed.closed) }
 {
     let Begun {
         server,
@@ -331,7 +326,7 @@ fn run_named<
         tallies,
         logs,
         keys,
-    } = begin::<B, D>(alloc, pool.begin, pool.workers, pool.device, blanks, book)?;
+    } = begin::<B, D>(alloc, pool.workers, pool.device, blanks, book)?;
     let bench = RecordedBench {
         bench: &server,
         recorder: pool.recorder,
@@ -344,37 +339,25 @@ fn run_named<
 // the unassigned shares. Returns `AllocError` if memory for them can't be allocated.
 fn begin<'a, B: Books, D: Device>(
     alloc: Global,
-    begin: Begin,
     workers: u8,
     device: &'a D,
     blanks: Blanks,
     book: NewServerBook,
 ) -> Result<Begun<'a, B, D>, AllocError>
-    requires begin { CanBegin begin }
     requires parts { blanks.parts ≡ workers + 2 }
     requires names { AreNamed blanks B.names }
     requires books { blanks.parts ≡ B.parts }
-    requires first { B.first ≡ beginning begin.policy begin.id }
     requires table { book.table ≡ B.table }
     requires book_threads { book.first_job ≡ 9 + workers + 1 }
     requires threads { book.first_job ≡ B.first_job }
-    requires book_begin { B.begin ≡ begin }
-    requires book_begins { book.begin ≡ begin }
+    requires server { book.first ≡ B.first }
     ensures count { IfOk result (λ b. vec_len b.tallies ≡ workers + 1) }
     ensures logs { IfOk result (λ b. vec_len b.logs ≡ vec_len b.tallies) }
     ensures new_logs { IfOk result (λ b. All IsNewLog b.logs.items) }
     ensures keys { IfOk result (λ b. b.keys ≡ first_brought B.first_job) }
     ensures parts { IfOk result (λ b. b.unassigned.parts + vec_len b.tallies ≡ B.parts) }
 {
-    let (server, mut unassigned, logs, keys) = Locked::<B, D>::new(
-        alloc,
-        begin.serial,
-        begin.id,
-        &begin.policy,
-        device,
-        blanks,
-        book,
-    )?;
+    let (server, mut unassigned, logs, keys) = Locked::<B, D>::new(alloc, device, blanks, book)?;
     let tallies = unassigned.split_each(alloc, usize::from(workers) + 1)?;
     Ok(Begun {
         server,
@@ -393,12 +376,12 @@ fn close<B: Books, D: Device, X: Drop>(
     ended: EndedOf<X, Tallies<B>, ServerOf<B>>,
 ) -> Fed<X>
     requires { unassigned.parts + vec_len ended.shares + 1 ≡ B.parts }
-    ensures counted { HasCountedAll result.closed }
+    ensures counted { HasCountedAll B.first.shards result.closed }
     ensures given { result.given ≡ ended.given }
     ensures workers { result.has_workers ≡ ended.has_workers }
     ensures replies { result.replies ≡ both_replies (replies_of ended.shares.items) (replies_by ended.own) }
     ensures order { 9 + (vec_len ended.shares + 1) ≡ B.first_job → All (λ s. IsRightWorker B.first_job s.log) ended.shares.items → HasRightOrder B.first_job ended.own.log
-        → HaveLegalOrder B.begin (logs_of ended.shares.items ended.own) result.closed }
+        → HaveLegalOrder B.first (logs_of ended.shares.items ended.own) result.closed }
 {
     let Ended {
         given,
@@ -482,7 +465,7 @@ where
             requires new_log { IsNewLog own.log }
             requires keys { keys ≡ first_brought B.Book.first_job }
             ensures { let worker_view = open_view B.changes B.ended B.called B.logged M.is_time M.is_random W.called in
-                DrivesTo worker_view (F.drives _) channel.entry.now (offload_where result.1 offload) driver result.0 result.2 × HasRightOrder B.Book.first_job result.2.log }
+                DrivesTo worker_view B.Book.first_job (F.drives _) channel.entry.now (offload_where result.1 offload) driver result.0 result.2 × HasRightOrder B.Book.first_job result.2.log }
         {
             if !has_workers {
                 tell_alone(err);

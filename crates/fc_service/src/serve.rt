@@ -5,8 +5,7 @@ ghost use Rattle.std.specs.Prelude.{◌≡◌, ◌≤◌, ◌⊎◌, ⊤, [], if
 ghost use Rattle.fc_host.specs.Clocks.{AreReadAt};
 ghost use Rattle.fc_service.specs.Pooled.{locked_view};
 ghost use Rattle.fc_service.specs.Rounds.{HasReceivedWith, HasServedBy, HasServedPooled, IsServed, begin_by, round_calls};
-ghost use Rattle.fc_server.specs.States.{CanBegin};
-ghost use Rattle.fc_workers.specs.Fronts.{beginning};
+ghost use Rattle.fc_server.specs.States.{CanBegin, first_server};
 ghost use Rattle.fc_service.specs.declared.replies.Replies.{Replies as Counts};
 ghost use Rattle.fc_cli.specs.declared.status.Status.TheVariants.{Done, Failed};
 
@@ -25,7 +24,7 @@ use fc_host::sensors::Sensors;
 use fc_host::socket::{Receiving, Replying, Sink, Source, open};
 use fc_host::timer::Timer;
 use fc_record::{RecordedAlone, Recorder, Reporter};
-use fc_server::{Begin, SingleThread};
+use fc_server::{Begin, FirstServer, SingleThread};
 use fc_workers::{Offload, TimeSource, Wire};
 use log::{Log, info};
 use std::alloc::{AllocError, Global};
@@ -409,13 +408,12 @@ fn serve_pooled<
     timers: TimersOf<'_>,
     extent: Extent,
 ) -> Result<Received<S>, AllocError>
-    ensures { let view = locked_view (beginning extent.policy extent.first_id) (AreReadAt M.is_time Z.are_sensed) M.is_time M.is_random W.called C.recorded in
+    ensures { let view = locked_view (first_server (begin_by extent)) (AreReadAt M.is_time Z.are_sensed) M.is_time M.is_random W.called C.recorded in
         IfOk result (λ r. HasServedPooled view timers.entry.timers.items records.now.reports.every Q.reported (round_calls S.received M.is_time K.went) extent.workers extent.limit (begin_by extent) (S.came source) (S.came r.source) r.replies) }
 {
     let pool = Pool {
         workers: extent.workers,
         offload: Offload::Expensive(EXPENSIVE),
-        begin: begin_by(extent),
         wire,
         times,
         device: &SensingDevice { times, sensors },
@@ -429,7 +427,8 @@ fn serve_pooled<
         reports: &records.reports,
         timers,
     };
-    let fed = run_pool(rt, alloc, err, &pool, receiver)?;
+    let first = FirstServer::new(alloc, &begin_by(extent))?;
+    let fed = run_pool(rt, alloc, err, &pool, first, receiver)?;
     let Received { source, replies } = fed.given;
     Ok(Received {
         source,

@@ -14,7 +14,7 @@ use fc_cli::status::{Status, tell};
 use fc_cli::stop::Stop;
 use fc_host::scripted::ScriptedHost;
 use fc_record::NoChanges;
-use fc_server::Begin;
+use fc_server::{Begin, FirstServer};
 use fc_workers::Offload;
 use std::alloc::Global;
 use std::io::{BufRead, Write};
@@ -100,7 +100,6 @@ fn play_in_pool<R: Threads + Wait + Sync, I: BufRead + Drop, W: Write, E: Write>
     let pool = Pool {
         workers,
         offload: Offload::Every,
-        begin,
         wire: &scripted,
         times: &scripted,
         device: &scripted,
@@ -112,5 +111,6 @@ fn play_in_pool<R: Threads + Wait + Sync, I: BufRead + Drop, W: Write, E: Write>
         out,
         scripted: &scripted,
     };
-    run_pool(rt, alloc, err, &pool, player)?.given
+    let first = FirstServer::new(alloc, &begin)?;
+    run_pool(rt, alloc, err, &pool, first, player)?.given
 }

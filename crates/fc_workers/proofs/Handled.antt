@@ -1,24 +1,26 @@
 -- The effects of a dispatcher's calls on its tracks.
-use Rattle.std.proofs.Common.{◌≡◌, ◌⊎◌, ◌∙◌, ℕ, zero, suc, ◌<◌, ◌≤◌, Bool, true, false, List, [], ◌∷◌, length, Option, Some, None, refl, sym, ap, subst, ⊎_elim, arith, length-append}
-use Rattle.std.specs.Prelude.{is_some}
+use Rattle.std.proofs.Common.{◌≡◌, ◌⊎◌, ◌∙◌, ℕ, zero, suc, ◌<◌, ◌≤◌, Bool, true, false, List, [], ◌∷◌, length, Option, Some, None, refl, sym, ap, subst, ⊎_elim, inl, inr, arith, length-append}
+use Rattle.std.specs.Prelude.{MatchBool, is_some}
 use Rattle.coap_msg.specs.declared.types.Endpoint.{Endpoint}
+use Rattle.fc_book.specs.Tracks.{first_own}
 use Rattle.fc_observe.specs.declared.observers.Ticked.{Ticked}
 use Rattle.fc_registry.specs.declared.job.Job.{Job}
 use Rattle.fc_core.specs.Timers.{timer_job}
 use Rattle.fc_core.specs.declared.front.Delivered.{Delivered}
-use Rattle.fc_calls.specs.Logged.{AdvancesFront, AdvancesIdle, AdvancesShard, FiresTimer, GivesReadings, GivesTurn, HandlesDatagram, HandsSignal}
+use Rattle.fc_calls.specs.Logged.{AdvancesFront, AdvancesIdle, AdvancesShard, FiresTimer, GivesReadings, GivesTurn, HandlesDatagram, HandsSignal, ReadsCost, SkipsIdle}
 use Rattle.fc_linear.specs.Operations.{Logged, job_in}
 use Rattle.fc_workers.specs.Asked.{shard_called}
 use Rattle.fc_workers.specs.Called.{WorkerView}
 use Rattle.fc_jobs.specs.Ends.{Sent}
-use Rattle.fc_workers.specs.Dispatch.{AreSignalled, IsDispatched, IsHandedOver, IsWorkedHere, WithNext}
+use Rattle.fc_workers.specs.Dispatch.{AreSignalled, HasReadCost, IsDispatched, IsHandedOver, IsWorkedHere, MayGo, MayHaveReadCost, MayHaveReadings, WithNext}
 use Rattle.fc_workers.specs.Filed.{FilesEach}
 use Rattle.fc_workers.specs.Logs.{TrackedLog}
 use Rattle.fc_workers.specs.Messages.{TrackedJob}
 use Rattle.fc_workers.specs.Producing.{HasProduced, MayProduce, first_tracked}
 use Rattle.fc_workers.specs.Workers.{Dispatched}
 use Rattle.fc_workers.specs.declared.dispatcher.Offload.{Offload}
-use Rattle.fc_workers.proofs.Producing.{has_produced, still_may, still_produced}
+use Rattle.fc_workers.specs.declared.dispatcher.Offload.TheVariants.{Every, Expensive, Never}
+use Rattle.fc_workers.proofs.Producing.{has_produced, still_may, still_produced, still_produced_by, track_same}
 
 low_called : (shard : ℕ) → shard_called shard < 8
 low_called shard = omega arith
@@ -35,6 +37,9 @@ module _ {T : Type 0} (first_job upcoming : ℕ) (w : WorkerView T) (files : Fil
 
   pub may_pass : (shard now : ℕ) (before after : TrackedLog) → w.logged (AdvancesIdle shard now) before after → May before → May after
   may_pass shard now before after is m = still_may first_job (Logged (AdvancesIdle (shard_called shard) now)) before after m.order.own (low_called shard) (files (AdvancesIdle shard now) before after is) refl upcoming m
+
+  pub may_skip : (shard now : ℕ) (before after : TrackedLog) → w.logged (SkipsIdle shard now) before after → May before → May after
+  may_skip shard now before after is m = still_may first_job (Logged (SkipsIdle (shard_called shard) now)) before after m.order.own (low_called shard) (files (SkipsIdle shard now) before after is) refl upcoming m
 
   pub may_signal : (shard : ℕ) (from : Endpoint) (id : ℕ) (reset : Bool) (before after : TrackedLog) → w.logged (HandsSignal shard from id reset) before after → May before → May after
   may_signal shard from id reset before after is m = still_may first_job (Logged (HandsSignal (shard_called shard) from id reset)) before after m.order.own (low_called shard) (files (HandsSignal shard from id reset) before after is) refl upcoming m
@@ -60,15 +65,45 @@ module _ {T : Type 0} (first_job upcoming : ℕ) (w : WorkerView T) (files : Fil
   pub leased : (shard now : ℕ) (turn : Option Job) (job : Job) (before after : TrackedLog) → turn ≡ Some job → w.logged (GivesTurn shard now turn) before after → May before → HasProduced first_job upcoming job after
   leased shard now turn job before after some is m = has_produced first_job (Logged (GivesTurn (shard_called shard) now turn)) before after m.order.own (low_called shard) (files (GivesTurn shard now turn) before after is) upcoming job some m
 
-  -- readings are returned for the job, and nothing is filed.
-  pub still_read : (job : Job) (readings : List ℕ) (before after : TrackedLog) → w.logged (GivesReadings readings) before after → HasProduced first_job upcoming job before → HasProduced first_job upcoming job after
-  still_read job readings before after is h = still_produced first_job upcoming job before after (files (GivesReadings readings) before after is) h
+  -- readings are returned for the job, or aren't. Nothing is filed.
+  still_read : (job : Job) (before after : TrackedLog) → MayHaveReadings w job before after → HasProduced first_job upcoming job before → HasProduced first_job upcoming job after × (first_own after.tracks ≡ first_own before.tracks)
+  still_read job before after (inl is) h = (subst (λ (l : TrackedLog). HasProduced first_job upcoming job l) (sym is) h, ap (λ (l : TrackedLog). first_own l.tracks) is)
+  still_read job before after (inr (plain, (readings, given))) h =
+      let same = files (GivesReadings readings) before after given in
+      (still_produced first_job upcoming job before after same h, ap first_own same.tracks)
+
+  -- the cost in the job's slot is read. The job's track is unchanged.
+  pub still_priced : (job : Job) (cost : Option ℕ) (before after : TrackedLog) → HasReadCost w job cost before after → HasProduced first_job upcoming job before → HasProduced first_job upcoming job after × (first_own after.tracks ≡ first_own before.tracks)
+  still_priced job cost before after is h =
+      let read = still_read job before is.log is.readings h in
+      let call = ReadsCost job.origin.slot cost in
+      let filed = files call is.log after is.read in (
+        still_produced_by first_job (Logged call) is.log after tt filed refl upcoming job read.0,
+        track_same first_job (Logged call) is.log after tt filed refl upcoming job read.0 ∙ read.1,
+      )
+
+  pub still_going : (offload : Offload) (job : Job) (before after : TrackedLog) → MayGo w offload job before after → HasProduced first_job upcoming job before → HasProduced first_job upcoming job after × (first_own after.tracks ≡ first_own before.tracks)
+  still_going Every job before after is h = (subst (λ (l : TrackedLog). HasProduced first_job upcoming job l) (sym is) h, ap (λ (l : TrackedLog). first_own l.tracks) is)
+  still_going (Expensive least) job before after is h = still_priced job (Some is.0) before after is.2 h
+  still_going Never job before after is h = absurd is
+
+  pub still_staying : (offload : Offload) (job : Job) (before after : TrackedLog) → MayHaveReadCost w offload job before after → HasProduced first_job upcoming job before → HasProduced first_job upcoming job after × (first_own after.tracks ≡ first_own before.tracks)
+  still_staying Every job before after is h = (subst (λ (l : TrackedLog). HasProduced first_job upcoming job l) (sym is) h, ap (λ (l : TrackedLog). first_own l.tracks) is)
+  still_staying (Expensive least) job before after (inl is) h = (subst (λ (l : TrackedLog). HasProduced first_job upcoming job l) (sym is) h, ap (λ (l : TrackedLog). first_own l.tracks) is)
+  still_staying (Expensive least) job before after (inr is) h = still_priced job is.0 before after is.1 h
+  still_staying Never job before after is h = (subst (λ (l : TrackedLog). HasProduced first_job upcoming job l) (sym is) h, ap (λ (l : TrackedLog). first_own l.tracks) is)
+
+  -- the job may go to the workers, or stays here.
+  pub still_produced_if : (goes : Bool) (offload : Offload) (job : Job) (before after : TrackedLog) → MatchBool goes (MayGo w offload job before after) (MayHaveReadCost w offload job before after) → HasProduced first_job upcoming job before
+      → HasProduced first_job upcoming job after × (first_own after.tracks ≡ first_own before.tracks)
+  still_produced_if true offload job before after is h = still_going offload job before after is h
+  still_produced_if false offload job before after is h = still_staying offload job before after is h
 
 -- ---- whether a job was sent
 
 module _ {T : Type 0} (w : WorkerView T) (offload : Offload) (job : Job) (before after : Dispatched T) (is : IsDispatched w offload job before after) where
   sent_is : after.sent ≡ is.0.sent
-  sent_is = ap (λ (d : Dispatched T). d.sent) is.2.1
+  sent_is = ap (λ (d : Dispatched T). d.sent) is.2.2
 
   -- if more jobs were sent after it was dispatched, the job was sent.
   pub handed_over : length before.sent.sent < length after.sent.sent → WithNext (IsHandedOver w offload job) before after

@@ -7,8 +7,8 @@ use Rattle.fc_book.specs.Tracks.{HasKey}
 use Rattle.fc_filed.specs.declared.entry.FiledEntry.{FiledEntry}
 use Rattle.fc_filed.specs.Threads.{did_by, entry_by, known_word, word_in}
 use Rattle.fc_filed.proofs.Known.{known_filed, known_more}
-use Rattle.fc_calls.specs.Logged.{LoggedCall, HandlesDatagram, AdvancesFront, FiresTimer, DrawsId, AnswersRequest, TellsReceipt, GivesReadings, LooksAt, RaisesWord}
-use Rattle.fc_calls.specs.Logged.{TakesForJob, CommitsRun, InstallsProgram, RemovesProgram, HandsSignal, AdvancesIdle, AdvancesShard, GivesTurn, NotesTurn, GivesUpTurn}
+use Rattle.fc_calls.specs.Logged.{LoggedCall, HandlesDatagram, AdvancesFront, FiresTimer, DrawsId, AnswersRequest, TellsReceipt, GivesReadings, ReadsCost, LooksAt, RaisesWord}
+use Rattle.fc_calls.specs.Logged.{TakesForJob, CommitsRun, InstallsProgram, RemovesProgram, HandsSignal, AdvancesIdle, SkipsIdle, AdvancesShard, GivesTurn, NotesTurn, GivesUpTurn}
 use Rattle.fc_linear.specs.Operations.{Logged, Operation}
 use Rattle.fc_workers.specs.Asked.{shard_called}
 use Rattle.fc_workers.specs.Filed.{HasFiled, HasSameTracks, IsFiledCall}
@@ -50,6 +50,7 @@ module _ (slot : ℕ) where
   knows_still (AnswersRequest now job content sent) before after d = filed (Logged (AnswersRequest now job content sent)) before after d
   knows_still (TellsReceipt job receipt) before after d = filed (Logged (TellsReceipt job receipt)) before after d
   knows_still (GivesReadings readings) before after d = unfiled before after d
+  knows_still (ReadsCost n cost) before after d = filed (Logged (ReadsCost n cost)) before after d
   knows_still (LooksAt n word) before after d = filed (Logged (LooksAt n word)) before after d
   knows_still (TakesForJob job readings taken) before after d = filed (Logged (TakesForJob job readings taken)) before after d
   knows_still (CommitsRun now ran ticket committed) before after d = filed (Logged (CommitsRun now ran ticket committed)) before after d
@@ -57,6 +58,7 @@ module _ (slot : ℕ) where
   knows_still (RemovesProgram job removal) before after d = filed (Logged (RemovesProgram job removal)) before after d
   knows_still (HandsSignal shard from id reset) before after d = filed (Logged (HandsSignal (shard_called shard) from id reset)) before after d
   knows_still (AdvancesIdle shard now) before after d = filed (Logged (AdvancesIdle (shard_called shard) now)) before after d
+  knows_still (SkipsIdle shard now) before after d = filed (Logged (SkipsIdle (shard_called shard) now)) before after d
   knows_still (AdvancesShard shard now ticked) before after d = filed (Logged (AdvancesShard (shard_called shard) now ticked)) before after d
   knows_still (GivesTurn shard now turn) before after d = filed (Logged (GivesTurn (shard_called shard) now turn)) before after d
   knows_still (NotesTurn turn id now random told noted) before after d = filed (Logged (NotesTurn turn id now random told noted)) before after d

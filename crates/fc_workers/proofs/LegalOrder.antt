@@ -8,18 +8,19 @@ use Rattle.fc_book.specs.declared.view.Track.{Track}
 use Rattle.fc_book.specs.Tracks.{AreOn, HasKey, entries_at, on}
 use Rattle.fc_book.proofs.Owners.{entries_at_key}
 use Rattle.fc_core.specs.declared.stage.Task.{Task}
+use Rattle.fc_core.specs.History.{History}
 use Rattle.fc_core.specs.Stages.{new_task}
 use Rattle.fc_registry.specs.Shards.{shard_at}
-use Rattle.fc_server.specs.declared.server.Begin.{Begin}
-use Rattle.fc_server.specs.States.{begin_of}
+use Rattle.fc_server.specs.States.{ServerState}
+use Rattle.fc_server.specs.Serving.{Serves}
 use Rattle.fc_linear.specs.Operations.{FrontDoes, LogEntry, ShardDoes, job_brought}
-use Rattle.fc_linear.specs.Parts.{FollowsStages, HaveNextNumbers, IsHistoryOf, bringing, first_server, history_on}
+use Rattle.fc_linear.specs.Parts.{FollowsStages, HaveNextNumbers, IsHistoryOf, RightByParts, bringing, history_on}
 use Rattle.fc_filed.specs.declared.entry.FiledEntry.{FiledEntry}
 use Rattle.fc_filed.specs.Books.{IsRightForJob}
 use Rattle.fc_filed.specs.Entries.{AreKeyed, OperationsLead, entries_by, entry_keys, log_entry, log_of}
 use Rattle.fc_filed.specs.Tracked.{AreTracksRight}
 use Rattle.fc_filed.proofs.ByThread.{front_track, shard_track}
-use Rattle.fc_filed.proofs.Closing.{tracks_make_history}
+use Rattle.fc_filed.proofs.Closing.{tracks_are_right, tracks_make_history}
 use Rattle.fc_filed.proofs.Sent.{same_or_not}
 use Rattle.fc_workers.specs.declared.closed.ClosedServer.{ClosedServer}
 use Rattle.fc_workers.specs.Filed.{HasRightJobs}
@@ -56,7 +57,7 @@ any_or_none k (l ∷ ls) = ⊎_elim
     (has_or_not k l.tracks.own)
 
 -- what holds of each log holds of one that was found.
-found : (P Q : TrackedLog → Type 0) (logs : List TrackedLog) → All Q logs → (a : Any P logs) → Q a.1
+pub found : (P Q : TrackedLog → Type 0) (logs : List TrackedLog) → All Q logs → (a : Any P logs) → Q a.1
 found P Q logs all a = subst Q a.3 (all a.0 a.1 a.2)
 
 -- ---- a track that is right for its job is so whatever the first key is
@@ -102,7 +103,7 @@ module _ (first : ℕ) where
       who = (keyed.0.who.0, (let lt = keyed.0.who.1 in omega (arith, lt, above)));
       job = from.0;
       none = keyed.0.none;
-      event = keyed.0.event;
+      of_server = keyed.0.of_server;
     },
     keyed_from n above es from.1 keyed.1,
   )
@@ -149,7 +150,7 @@ module _ (first d : ℕ) where
 
 -- ---- the order
 
-module _ (begin : Begin) (logs : List TrackedLog) (closed : ClosedServer) (first : ℕ) (o : HaveOneOrder begin logs closed) (r : HaveRightTracks first logs) where
+module _ (begin : ServerState) (logs : List TrackedLog) (closed : ClosedServer) (first : ℕ) (o : HaveOneOrder begin logs closed) (r : HaveRightTracks first logs) where
   abbrev base : ℕ
   base = 9 + length logs
 
@@ -187,15 +188,18 @@ module _ (begin : Begin) (logs : List TrackedLog) (closed : ClosedServer) (first
       subst (λ (xs : List LogEntry). HaveNextNumbers 0 xs) (same_bringing first r.dispatcher o.calls (all_by first r.dispatcher logs o.calls o.callers by_thread))
       (subst (λ (es : List FiledEntry). HaveNextNumbers 0 (bringing (log_of first es))) filed own)
 
-  tracks_right : AreTracksRight first o.calls (first_server begin) (server_with closed o.words)
+  tracks_right : AreTracksRight first o.calls begin (server_with closed o.words)
   tracks_right = record {
-    front = subst (λ (es : List FiledEntry). OperationsLead FrontDoes es (first_server begin).front closed.front) (sym (front_track base o.calls o.keyed)) o.front_led;
-    shards = λ i lt. subst (λ (es : List FiledEntry). OperationsLead ShardDoes es (shard_at (first_server begin).shards i) (shard_at closed.shards i)) (sym (shard_track base i lt o.calls o.keyed)) (o.shards_led i lt);
+    front = subst (λ (es : List FiledEntry). OperationsLead FrontDoes es begin.front closed.front) (sym (front_track base o.calls o.keyed)) o.front_led;
+    shards = λ i lt. subst (λ (es : List FiledEntry). OperationsLead ShardDoes es (shard_at begin.shards i) (shard_at closed.shards i)) (sym (shard_track base i lt o.calls o.keyed)) (o.shards_led i lt);
     heads = o.heads_led;
     jobs = λ k. let above = r.above in right_any base first (on entry_keys (first + k) o.calls) (job_right (first + k) (omega (arith, above)));
     numbered = numbered;
     keyed = keyed_from first base r.above o.calls (all_from first logs o.calls o.callers from_thread) o.keyed;
   }
 
-  pub order_is_legal : IsHistoryOf (history_on (begin_of begin) (log_of first o.calls)) (server_with closed o.words)
-  order_is_legal = tracks_make_history first o.calls begin (server_with closed o.words) tracks_right
+  pub order_is_right : RightByParts (server_with closed o.words) begin [] (log_of first o.calls)
+  order_is_right = tracks_are_right first o.calls begin (server_with closed o.words) tracks_right
+
+  pub order_is_legal : (before : History) → Serves before begin [] → IsHistoryOf (history_on before (log_of first o.calls)) (server_with closed o.words)
+  order_is_legal before serves = tracks_make_history first o.calls before begin (server_with closed o.words) serves tracks_right

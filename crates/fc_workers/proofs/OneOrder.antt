@@ -13,9 +13,8 @@ use Rattle.fc_book.proofs.Owners.{entries_at_key, has_left, has_right, on_both, 
 use Rattle.fc_core.specs.Exchanges.{FrontState}
 use Rattle.fc_registry.specs.Shards.{shard_at}
 use Rattle.fc_registry.specs.Slots.{Shard}
-use Rattle.fc_server.specs.declared.server.Begin.{Begin}
+use Rattle.fc_server.specs.States.{ServerState}
 use Rattle.fc_linear.specs.Operations.{FrontDoes, Operation, ShardDoes}
-use Rattle.fc_linear.specs.Parts.{first_server}
 use Rattle.fc_filed.specs.declared.entry.FiledEntry.{FiledEntry}
 use Rattle.fc_filed.specs.Books.{HasServerHistory, IsRightForJob}
 use Rattle.fc_filed.specs.Entries.{AreKeyed, IsKeyed, OperationsLead, entries_by, entry_keys}
@@ -157,10 +156,10 @@ module _ (first_job : ℕ) where
       (λ (x : HasKey k (tracks_in ls)). none_in k ls (All-tail (λ (log : TrackedLog). HasKey k log.tracks.own → ⊥) l ls none) x)
       (has-append k l.tracks.own (tracks_in ls) h)
 
-  lost_right : (logs : List TrackedLog) (v m w : BookView FiledEntry) (closed : ClosedServer) (x y : FrontState) (firsts : List Shard) → HasTracksOf first_job logs v → AreApart (threads_of logs) → 9 + length logs ≡ first_job
-      → IsPartClosed FrontDoes 0 x y v m → AreShardsClosed firsts 0 closed.shards m w → length closed.shards ≡ 8 → (h : HasServerHistory first_job w)
+  lost_right : (logs : List TrackedLog) (v m w : BookView FiledEntry) (closed : ClosedServer) (begin : ServerState) (x y : FrontState) (firsts : List Shard) → HasTracksOf first_job logs v → AreApart (threads_of logs) → 9 + length logs ≡ first_job
+      → IsPartClosed FrontDoes 0 x y v m → AreShardsClosed firsts 0 closed.shards m w → length closed.shards ≡ 8 → (h : HasServerHistory first_job begin w)
       → (k : ℕ) → first_job ≤ k → All (λ (log : TrackedLog). HasKey k log.tracks.own → ⊥) logs → IsRightForJob first_job (on entry_keys k h.log)
-  lost_right logs v m w closed x y firsts has single count front shards eight h k le none = h.sent threads k le lacks
+  lost_right logs v m w closed begin x y firsts has single count front shards eight h k le none = h.sent threads k le lacks
     where
       threads : (t : ℕ) → 9 ≤ t → t < first_job → HasKey t w.own
       threads t low high = keys_stay firsts t 0 closed.shards m w shards (key_stays FrontDoes 0 t x y v m front
@@ -170,15 +169,15 @@ module _ (first_job : ℕ) where
       lacks has_it = none_in k logs none (subst (λ (ts : List (Track FiledEntry)). HasKey k ts) has.tracks
           (key_back FrontDoes 0 k x y v m front (λ e. absurd (omega (arith, e, le, count))) (keys_back firsts k 0 closed.shards m w shards (omega (arith, le, count, eight)) has_it)))
 
-  pub one_order : (begin : Begin) (logs : List TrackedLog) (v m w : BookView FiledEntry) (closed : ClosedServer) → HasTracksOf first_job logs v → 9 + length logs ≡ first_job
-      → IsPartClosed FrontDoes 0 (first_server begin).front closed.front v m → AreShardsClosed (first_server begin).shards 0 closed.shards m w → length closed.shards ≡ 8
-      → HasServerHistory first_job w → HaveOneOrder begin logs closed
+  pub one_order : (begin : ServerState) (logs : List TrackedLog) (v m w : BookView FiledEntry) (closed : ClosedServer) → HasTracksOf first_job logs v → 9 + length logs ≡ first_job
+      → IsPartClosed FrontDoes 0 begin.front closed.front v m → AreShardsClosed begin.shards 0 closed.shards m w → length closed.shards ≡ 8
+      → HasServerHistory first_job begin w → HaveOneOrder begin logs closed
   one_order begin logs v m w closed has count front shards eight h =
-      let firsts = (first_server begin).shards in
+      let firsts = begin.shards in
       let each = shards_led firsts h.log 0 closed.shards m w shards h.is.own in
-      let first = part_led h.log FrontDoes 0 (first_server begin).front closed.front v m front each.0 in
+      let first = part_led h.log FrontDoes 0 begin.front closed.front v m front each.0 in
       let on_logs : AreOn entry_keys h.log (tracks_in logs) = subst (λ ts. AreOn entry_keys h.log ts) has.tracks first.1 in
-      let alone = part_apart FrontDoes 0 (first_server begin).front closed.front v m front (shards_apart firsts 0 closed.shards m w shards h.is.single) in
+      let alone = part_apart FrontDoes 0 begin.front closed.front v m front (shards_apart firsts 0 closed.shards m w shards h.is.single) in
       let single : AreSingle (tracks_in logs) = subst (λ (ts : List (Track FiledEntry)). AreSingle ts) has.tracks alone in
       let threads : AreApart (threads_of logs) = apart logs has.threads single in
       record {
@@ -190,10 +189,11 @@ module _ (first_job : ℕ) where
         keyed = subst (λ (n : ℕ). AreKeyed n h.log) (sym count) h.keyed;
         tracks_on = on_each h.log logs on_logs;
         lost = λ k le none. subst (λ (n : ℕ). IsRightForJob n (on entry_keys k h.log)) (sym count)
-            (lost_right logs v m w closed (first_server begin).front closed.front firsts has threads count front shards eight h k (omega (arith, le, count)) none);
-        front_led = subst (λ (es : List FiledEntry). OperationsLead FrontDoes es (first_server begin).front closed.front) (front_track first_job h.log h.keyed) first.0;
+            (lost_right logs v m w closed begin begin.front closed.front firsts has threads count front shards eight h k (omega (arith, le, count)) none);
+        front_led = subst (λ (es : List FiledEntry). OperationsLead FrontDoes es begin.front closed.front) (front_track first_job h.log h.keyed) first.0;
         words = h.words;
         heads_led = h.heads;
+        skips = h.skips;
         shards_led = λ i lt. subst (λ (es : List FiledEntry). OperationsLead ShardDoes es (shard_at firsts i) (shard_at closed.shards i)) (shard_track first_job i lt h.log h.keyed)
             (subst (λ (k : ℕ). IsLed firsts h.log k (shard_at closed.shards i)) (zero-add i) (each.1 i (omega (arith, lt, eight))));
       }

@@ -4,7 +4,7 @@ use Rattle.std.proofs.Common.{◌≡◌, ◌∙◌, ℕ, ◌+◌, ◌<◌, List,
 use Rattle.std.specs.Prelude.{slice_index_or}
 use Rattle.std.specs.List.{All}
 use Rattle.std.proofs.lemmas.List.Elements.{All-map, All-push, All-weaker}
-use Rattle.fc_server.specs.declared.server.Begin.{Begin}
+use Rattle.fc_server.specs.States.{ServerState}
 use Rattle.fc_linear.specs.Operations.{LogEntry}
 use Rattle.fc_linear.specs.Parts.{HaveNextNumbers}
 use Rattle.fc_workers.specs.declared.closed.ClosedServer.{ClosedServer}
@@ -17,7 +17,7 @@ use Rattle.fc_workers.specs.OneOrder.{HaveOneOrder, IsNewLog, logs_of}
 use Rattle.fc_workers.specs.Producing.{HasRightOrder, IsRightWorker}
 use Rattle.fc_workers.specs.Shares.{AreSharesOf, IsShareOf, new_share}
 use Rattle.fc_workers.specs.Workers.{Share, WorkerSeed}
-use Rattle.fc_workers.proofs.LegalOrder.{order_is_legal}
+use Rattle.fc_workers.proofs.LegalOrder.{order_is_legal, order_is_right}
 use Rattle.fc_workers.proofs.Producing.{new_from, new_none, new_right}
 use Rattle.fc_workers.proofs.Received.{received_kept}
 
@@ -42,12 +42,17 @@ module _ {T : Type 0} (first_job : ℕ) (w : WorkerView T) (files : FilesCalls w
   some_of [] some = absurd (omega (arith, some))
   some_of (s ∷ ss) some = s
 
-  pub shares_right : (seats : List (WorkerSeed T)) (shares : List (Share T)) → All (λ (seat : WorkerSeed T). IsNewLog seat.log) seats → AreSharesOf first_job w seats shares → All (λ (share : Share T). IsRightWorker first_job share.log) shares
-  shares_right seats shares new are k d lt =
+  -- what holds of the statistics of each worker with a new log holds of all.
+  pub each_share : (P : Share T → Type 0) → ((seat : WorkerSeed T) (share : Share T) → IsNewLog seat.log → IsShareOf first_job w seat share → P share)
+      → (seats : List (WorkerSeed T)) (shares : List (Share T)) → All (λ (seat : WorkerSeed T). IsNewLog seat.log) seats → AreSharesOf first_job w seats shares → All P shares
+  each_share P of seats shares new are k d lt =
       let count = are.count in
       let within : k < length seats = omega (arith, lt, count) in
       let seat = some_of seats (omega (arith, within)) in
-      share_right (slice_index_or seats k seat) (slice_index_or shares k d) (new k seat within) (are.each k seat d within)
+      of (slice_index_or seats k seat) (slice_index_or shares k d) (new k seat within) (are.each k seat d within)
+
+  pub shares_right : (seats : List (WorkerSeed T)) (shares : List (Share T)) → All (λ (seat : WorkerSeed T). IsNewLog seat.log) seats → AreSharesOf first_job w seats shares → All (λ (share : Share T). IsRightWorker first_job share.log) shares
+  shares_right seats shares new are = each_share (λ (share : Share T). IsRightWorker first_job share.log) share_right seats shares new are
 
 -- ---- all threads
 
@@ -63,7 +68,7 @@ module _ {T : Type 0} (shares : List (Share T)) (own : Share T) where
   first_job = 9 + length logs
 
   -- what holds of the workers' logs and of the dispatcher's holds of all.
-  of_all : (P : TrackedLog → Type 0) → All (λ (s : Share T). P s.log) shares → P own.log → All P logs
+  pub of_all : (P : TrackedLog → Type 0) → All (λ (s : Share T). P s.log) shares → P own.log → All P logs
   of_all P workers mine = All-push P (map (λ (s : Share T). s.log) shares) own.log (All-map P (λ (s : Share T). s.log) shares workers) mine
 
   module _ (right : All (λ (s : Share T). IsRightWorker first_job s.log) shares) (order : HasRightOrder first_job own.log) where
@@ -89,11 +94,13 @@ module _ {T : Type 0} (shares : List (Share T)) (own : Share T) where
     }
 
 -- the one order of a pool's calls is a legal history.
-pub pool_is_legal : {T : Type 0} (begin : Begin) (closed : ClosedServer) (shares : List (Share T)) (own : Share T) (first_job : ℕ) → 9 + length (logs_of shares own) ≡ first_job
-    → All (λ (s : Share T). IsRightWorker first_job s.log) shares → HasRightOrder first_job own.log → HaveOneOrder begin (logs_of shares own) closed → HaveLegalOrder begin (logs_of shares own) closed
+pub pool_is_legal : {T : Type 0} (begin : ServerState) (closed : ClosedServer) (shares : List (Share T)) (own : Share T) (first_job : ℕ) → 9 + length (logs_of shares own) ≡ first_job
+    → All (λ (s : Share T). IsRightWorker first_job s.log) shares → HasRightOrder first_job own.log → HaveOneOrder begin (logs_of shares own) closed
+    → HaveLegalOrder begin (logs_of shares own) closed
 pool_is_legal {T} begin closed shares own first_job count right order one =
     let tracks = have_right shares own (subst (λ (n : ℕ). All (λ (s : Share T). IsRightWorker n s.log) shares) (sym count) right) (subst (λ (n : ℕ). HasRightOrder n own.log) (sym count) order) in
     record {
       order = one;
+      right = order_is_right begin (logs_of shares own) closed (first_brought (9 + length (logs_of shares own))) one tracks;
       history = order_is_legal begin (logs_of shares own) closed (first_brought (9 + length (logs_of shares own))) one tracks;
     }

@@ -11,7 +11,7 @@ use Rattle.fc_book.proofs.Keys.{has-with, is_off, keeps-key}
 use Rattle.fc_book.proofs.Owners.{has_right}
 use Rattle.fc_registry.specs.declared.job.Job.{Job}
 use Rattle.fc_core.specs.Stages.{first_stage}
-use Rattle.fc_linear.specs.Operations.{IsEvent, LogEntry, Operation, is_for_job, job_brought, part_of}
+use Rattle.fc_linear.specs.Operations.{IsOfServer, LogEntry, Operation, is_for_job, job_brought, part_of}
 use Rattle.fc_linear.specs.Parts.{HaveNextNumbers, bringing}
 use Rattle.fc_filed.specs.declared.entry.FiledEntry.{FiledEntry}
 use Rattle.fc_filed.specs.Books.{IsFirstSent, IsRightForJob}
@@ -72,7 +72,7 @@ only_track (t ∷ ts) e is some = ap (λ (es : List FiledEntry). track t.key es 
 
 -- ---- a thread files an operation
 
-module _ (first_job : ℕ) (operation : Operation) (before after : TrackedLog) (own : HasOwnTrack first_job before.who before.tracks) (event : IsEvent operation) (filed : HasFiled operation before after) where
+module _ (first_job : ℕ) (operation : Operation) (before after : TrackedLog) (own : HasOwnTrack first_job before.who before.tracks) (of_server : IsOfServer operation) (filed : HasFiled operation before after) where
   abbrev entry : FiledEntry
   entry = entry_by before.who before.tracks operation
 
@@ -80,7 +80,7 @@ module _ (first_job : ℕ) (operation : Operation) (before after : TrackedLog) (
   tracks_are = ap (λ (v : BookView FiledEntry). v.own) filed.tracks
 
   part_low : part_key before.who (part_of operation) < first_job
-  part_low = part_below (part_of operation) before.who first_job (low_of operation event) own.key.0 own.key.1
+  part_low = part_below (part_of operation) before.who first_job (low_of operation of_server) own.key.0 own.key.1
 
   on_own : is_on entry_keys before.who entry ≡ true
   on_own = on_second (part_key before.who (part_of operation)) before.who entry.job before.who refl
@@ -229,11 +229,11 @@ at_other true k t ts is other = absurd (other (grind (is, arith, nat_tests)))
 at_other false k t ts is other = refl
 
 -- the tracks after the first one, which has another key.
-at_rest : (k : ℕ) (ts : List (Track FiledEntry)) → (key_of_first ts ≡ k → ⊥) → entries_at k (other_tracks ts) ≡ entries_at k ts
+pub at_rest : (k : ℕ) (ts : List (Track FiledEntry)) → (key_of_first ts ≡ k → ⊥) → entries_at k (other_tracks ts) ≡ entries_at k ts
 at_rest k [] other = refl
 at_rest k (t ∷ ts) other = sym (at_other (t.key == k) k t ts refl other)
 
-has_rest : (k : ℕ) (ts : List (Track FiledEntry)) → (key_of_first ts ≡ k → ⊥) → HasKey k ts → HasKey k (other_tracks ts)
+pub has_rest : (k : ℕ) (ts : List (Track FiledEntry)) → (key_of_first ts ≡ k → ⊥) → HasKey k ts → HasKey k (other_tracks ts)
 has_rest k [] other h = absurd h
 has_rest k (t ∷ ts) other (inl e) = absurd (other e)
 has_rest k (t ∷ ts) other (inr h) = h
@@ -280,6 +280,33 @@ module _ (first_job : ℕ) (job : Job) where
   -- a log that gets back the track of its job is as before.
   pub taken_back : (log : TrackedLog) → with_tracks (first_own log.tracks) (without_job log) ≡ log
   taken_back log = ap (λ (ts : List (Track FiledEntry)). record log { tracks = record log.tracks { own = ts } }) (both log.tracks.own)
+
+-- ---- an operation of no job, after the thread has produced one
+
+first_unchanged : (e : FiledEntry) (ts : List (Track FiledEntry)) → is_on entry_keys (key_of_first ts) e ≡ false → first_track (with_entry entry_keys e ts) ≡ first_track ts
+first_unchanged e [] off = refl
+first_unchanged e (t ∷ ts) off = ap (λ (b : Bool). track t.key (entries_with b t.entries e) ∷ []) off
+
+module _ (first_job : ℕ) (operation : Operation) (before after : TrackedLog) (of_server : IsOfServer operation) (filed : HasFiled operation before after) (none : is_of_job operation ≡ false) (next : ℕ) (job : Job)
+    (h : HasProduced first_job next job before) where
+  above : first_job ≤ key_of_first before.tracks.own
+  above = let key = (first_at first_job job before h.new).key in omega (arith, key)
+
+  -- the job's track is unchanged.
+  pub track_same : first_own after.tracks ≡ first_own before.tracks
+  track_same = ap (λ (ts : List (Track FiledEntry)). record { locked = []; own = ts; may_begin = false; next = 0 })
+      (ap first_track (tracks_are first_job operation before after h.order.own of_server filed)
+      ∙ first_unchanged (entry_by before.who before.tracks operation) before.tracks.own
+      (off first_job operation before after h.order.own of_server filed (key_of_first before.tracks.own) above
+      (not_at first_job operation before after h.order.own of_server filed none (key_of_first before.tracks.own) above)))
+
+  pub still_produced_by : HasProduced first_job next job after
+  still_produced_by = record {
+    order = order_after first_job operation before after h.order.own of_server filed none h.order;
+    new = subst (λ (v : BookView FiledEntry). IsNewJob first_job (record { job = job; tracks = v })) (sym track_same) h.new;
+    rest = rest_after first_job operation before after h.order.own of_server filed h.rest;
+    next = h.next ∙ sym (next_same first_job operation before after h.order.own of_server filed none);
+  }
 
 -- the thread may still file each call.
 pub sent_keeps : (first_job : ℕ) (job : Job) (log : TrackedLog) → IsNewJob first_job (first_tracked job log) → HasJobFirst first_job (without_first log.tracks) → MayFileAll first_job log.who log.tracks → MayFileAll first_job log.who (without_first log.tracks)

@@ -30,7 +30,7 @@ all_reversed P xs all k d lt =
     let n = length-reverse xs in
     subst P (sym (get_or-reverse xs k d (omega (arith, lt, n)))) (all (length xs - 1 - k) d (omega (arith, lt, n)))
 
-all_of_map : {X Y : Type 0} (P : X → Type 0) (f : Y → X) (ys : List Y) → All P (map f ys) → All (λ (y : Y). P (f y)) ys
+pub all_of_map : {X Y : Type 0} (P : X → Type 0) (f : Y → X) (ys : List Y) → All P (map f ys) → All (λ (y : Y). P (f y)) ys
 all_of_map P f [] all = All-nil (λ y. P (f y))
 all_of_map P f (y ∷ ys) all = All-cons (λ z. P (f z)) y ys (all 0 (f y) (omega arith)) (all_of_map P f ys (All-tail P (f y) (map f ys) all))
 

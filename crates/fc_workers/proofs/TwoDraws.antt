@@ -10,7 +10,7 @@ use Rattle.fc_core.specs.Ids.{no_draws}
 use Rattle.fc_core.specs.declared.policy.Policy.{Policy}
 use Rattle.fc_calls.specs.Doings.{DrawsAt}
 use Rattle.fc_calls.specs.Logged.{DrawsId}
-use Rattle.fc_server.specs.declared.server.Begin.{Begin}
+use Rattle.fc_server.specs.States.{ServerState, first_server}
 use Rattle.fc_linear.specs.Operations.{FrontDoes, Logged, is_front, part_of}
 use Rattle.fc_filed.specs.declared.entry.FiledEntry.{FiledEntry}
 use Rattle.fc_filed.specs.Entries.{OperationsLead, entries_by, front_entries}
@@ -114,7 +114,7 @@ module _ (p : FiledEntry → Bool) where
   all_kept P (e ∷ es) h = also_kept P e (filter p es) (p e) h.0 (all_kept P es h.1)
 
   -- each thread has filed one call that passes the test: these are in one of two orders.
-  pub two_orders : (begin : Begin) (one other : TrackedLog) (closed : ClosedServer) (x y : FiledEntry) (h : HaveOneOrder begin (one ∷ other ∷ []) closed) → filter p (filed_in one) ≡ x ∷ [] → filter p (filed_in other) ≡ y ∷ []
+  pub two_orders : (begin : ServerState) (one other : TrackedLog) (closed : ClosedServer) (x y : FiledEntry) (h : HaveOneOrder begin (one ∷ other ∷ []) closed) → filter p (filed_in one) ≡ x ∷ [] → filter p (filed_in other) ≡ y ∷ []
       → (filter p h.calls ≡ x ∷ y ∷ []) ⊎ (filter p h.calls ≡ y ∷ x ∷ [])
   two_orders begin one other closed x y h is also =
       let not : one.who ≢ other.who = h.apart 0 1 one (omega arith) (omega arith) in
@@ -155,7 +155,7 @@ seven_and_eight policy a b front x y is also leads =
     (first.0, second.0)
 
 pub two_ids : (policy : Policy) (serial : ℕ) (one other : TrackedLog) (j k a b : ℕ) (closed : ClosedServer)
-    → HaveOneOrder (record { serial = serial; id = 7; policy = policy }) (one ∷ other ∷ []) closed
+    → HaveOneOrder (first_server (record { serial = serial; id = 7; policy = policy })) (one ∷ other ∷ []) closed
     → front_entries (filed_in one) ≡ record { who = one.who; job = j; operation = Logged (DrawsId 0 (Some a)) } ∷ []
     → front_entries (filed_in other) ≡ record { who = other.who; job = k; operation = Logged (DrawsId 0 (Some b)) } ∷ []
     → ((a ≡ 7) × (b ≡ 8)) ⊎ ((a ≡ 8) × (b ≡ 7))
@@ -167,4 +167,4 @@ two_ids policy serial one other j k a b closed h is also =
     (λ (e : front_entries h.calls ≡ y ∷ x ∷ []).
     let r = seven_and_eight policy b a closed.front y x refl refl (subst (λ (es : List FiledEntry). OperationsLead FrontDoes es (first_front policy 7) closed.front) e h.front_led) in
     inr (r.1, r.0))
-    (two_orders (λ (e : FiledEntry). is_front (part_of e.operation)) (record { serial = serial; id = 7; policy = policy }) one other closed x y h is also)
+    (two_orders (λ (e : FiledEntry). is_front (part_of e.operation)) (first_server (record { serial = serial; id = 7; policy = policy })) one other closed x y h is also)

@@ -2,10 +2,9 @@
 use Rattle.std.specs.Prelude.{ℕ, ◌+◌, List, [], ◌∷◌, replicate}
 use Rattle.fc_registry.specs.Slots.{Shard}
 
--- a shard whose book is open, and the sum of the shard's serials when the book was opened.
+-- a shard whose book is open.
 pub record Counted : Type 0 where
   pub shard : Shard
-  pub opened : ℕ
 
 -- a number of parts of a shard's book, and the number of changes that were counted on these parts.
 -- The tallies of a shard together have all parts of its book.

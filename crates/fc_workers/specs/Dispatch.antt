@@ -1,7 +1,8 @@
 -- The effect of a dispatcher on its jobs: each goes to a worker, or the dispatcher runs it.
-use Rattle.std.specs.Prelude.{◌≡◌, ◌⊎◌, ◌+◌, ◌≤◌, ℕ, zero, suc, Bool, true, false, List, Option, Some, None, length}
+use Rattle.std.specs.Prelude.{◌≡◌, ◌≢◌, ◌⊎◌, ◌+◌, ◌<◌, ◌≤◌, ℕ, zero, suc, Bool, true, false, List, [], Option, Some, None, length}
 use Rattle.coap_msg.specs.declared.types.Emission.{Emission}
 use Rattle.coap_msg.specs.declared.types.Endpoint.{Endpoint}
+use Rattle.fc_book.specs.Tracks.{first_own}
 use Rattle.fc_core.specs.declared.front.Delivered.{Delivered}
 use Rattle.fc_core.specs.declared.front.Delivered.TheVariants.{Job as Brings, Signal}
 use Rattle.fc_core.specs.declared.front.Handled.{Handled}
@@ -9,14 +10,12 @@ use Rattle.fc_core.specs.Receiving.{handled}
 use Rattle.fc_core.specs.Timers.{timer_job}
 use Rattle.fc_jobs.specs.Ends.{with_sent}
 use Rattle.fc_registry.specs.declared.job.Job.{Job}
-use Rattle.fc_registry.specs.declared.receipt.Receipt.{Receipt}
 use Rattle.fc_workers.specs.declared.dispatcher.Offload.{Offload}
 use Rattle.fc_workers.specs.declared.dispatcher.Offload.TheVariants.{Every, Expensive, Never}
 use Rattle.fc_workers.specs.Logs.{TrackedLog}
-use Rattle.fc_workers.specs.Answers.{IsSomeDelivery, IsSomeTurn, saturated}
-use Rattle.fc_calls.specs.Logged.{AdvancesIdle, FiresTimer, GivesReadings, GivesTurn, HandsSignal, HandlesDatagram}
-use Rattle.fc_workers.specs.Called.{FindsExpensive, KnowsIdle, ReadsReceipt, WorkerView}
-use Rattle.fc_workers.specs.Filed.{HasSameTracks}
+use Rattle.fc_workers.specs.Answers.{IsSomeDelivery, IsSomeIdle, IsSomeTurn, saturated}
+use Rattle.fc_calls.specs.Logged.{AdvancesIdle, FiresTimer, GivesReadings, GivesTurn, HandsSignal, HandlesDatagram, ReadsCost, SkipsIdle}
+use Rattle.fc_workers.specs.Called.{WorkerView}
 use Rattle.fc_workers.specs.Producing.{first_tracked, with_new_track, without_job}
 use Rattle.fc_workers.specs.Steps.{AsksRun, IsPlainRun}
 use Rattle.fc_workers.specs.Work.{IsReplied}
@@ -42,9 +41,10 @@ job_sent job done = record done {
   share = record done.share { log = without_job done.share.log };
 }
 
--- the track of the dispatcher's next job has begun, and is first.
+-- the track of the dispatcher's next job has begun, and is first. Its key is above that of the
+-- dispatcher's own track.
 abbrev pub HasBegunNext : {T : Type 0} → Dispatched T → Dispatched T → Type 0
-HasBegunNext before after = (key : ℕ) × (after ≡ logged_at (with_new_track key before.share.log) before)
+HasBegunNext before after = (key : ℕ) × (before.share.log.who < key) × (after ≡ logged_at (with_new_track key before.share.log) before)
 
 -- this was done, and then the track of the dispatcher's next job has begun.
 abbrev pub WithNext : {T : Type 0} → (Dispatched T → Dispatched T → Type 0) → Dispatched T → Dispatched T → Type 0
@@ -54,46 +54,61 @@ WithNext {T} Does before after = (done : Dispatched T) × Does before done × Ha
 abbrev pub HasCalled : {T : Type 0} → Dispatched T → Dispatched T → Type 0
 HasCalled before after = after ≡ logged_at after.share.log before
 
+-- the job is no run, or it has ETags, so that it may need none.
+abbrev pub MayNeedNoRun : Job → Type 0
+MayNeedNoRun job = (AsksRun job.ask → ⊥) ⊎ (job.etags.items ≢ [])
+
+-- the cost is below this number of steps, or the slot is empty.
+abbrev pub IsBelow : ℕ → Option ℕ → Type 0
+IsBelow least None = Unit {0}
+IsBelow least (Some cost) = cost < least
+
 module _ {T : Type 0} (s : WorkerView T) where
-  -- the job of a run, and a receipt of its slot that was read for it. The receipt's cost is this
-  -- number of instructions or more.
-  pub record IsExpensive (least : ℕ) (job : Job) : Type 0 where
+  -- readings were requested for a snapshot, or weren't.
+  abbrev pub MayHaveReadings : Job → TrackedLog → TrackedLog → Type 0
+  MayHaveReadings job before after = (after ≡ before) ⊎ (IsPlainRun job × ((readings : List ℕ) × s.logged (GivesReadings readings) before after))
+
+  -- the cost of a run was read in the job's slot. For a request without ETags, readings may have
+  -- been requested before, for a snapshot that wasn't taken. The log has no other call.
+  pub record HasReadCost (job : Job) (cost : Option ℕ) (before after : TrackedLog) : Type 0 where
     pub asks : AsksRun job.ask
-    pub receipt : Receipt
-    pub told : s.bench (ReadsReceipt job (Some receipt))
-    pub cost : least ≤ receipt.cost
+    pub log : TrackedLog
+    pub readings : MayHaveReadings job before log
+    pub read : s.logged (ReadsCost job.origin.slot cost) log after
 
-  -- a request for a run, without ETags. Readings were returned, and a snapshot with them wasn't
-  -- taken, since its program may take this number of instructions or more. The log has only the
-  -- call for the readings.
-  pub record IsFoundExpensive (least : ℕ) (job : Job) (before after : TrackedLog) : Type 0 where
-    pub plain : IsPlainRun job
-    pub readings : List ℕ
-    pub given : s.logged (GivesReadings readings) before after
-    pub found : s.bench (FindsExpensive least job readings)
-
-  -- the job may go to workers: always, by a receipt of its slot, or by a snapshot that wasn't
-  -- taken.
+  -- the job may go to workers: always, or by the cost that was read in its slot.
   abbrev pub MayGo : Offload → Job → TrackedLog → TrackedLog → Type 0
   MayGo Every job before after = after ≡ before
-  MayGo (Expensive least) job before after = (IsExpensive least job × (after ≡ before)) ⊎ IsFoundExpensive least job before after
+  MayGo (Expensive least) job before after = (cost : ℕ) × (least ≤ cost) × HasReadCost job (Some cost) before after
   MayGo Never job before after = ⊥
 
+  -- the job is no run, or its ETags may match; or the cost in its slot was read, and is below this
+  -- number of steps. An empty slot has no cost.
+  abbrev pub IsFoundCheap : ℕ → Job → TrackedLog → TrackedLog → Type 0
+  IsFoundCheap least job before after =
+      (MayNeedNoRun job × (after ≡ before)) ⊎ ((cost : Option ℕ) × IsBelow least cost × HasReadCost job cost before after)
+
+  -- the cost in the job's slot may have been read, if the policy depends on it.
+  abbrev pub MayHaveReadCost : Offload → Job → TrackedLog → TrackedLog → Type 0
+  MayHaveReadCost (Expensive least) job before after = (after ≡ before) ⊎ ((cost : Option ℕ) × HasReadCost job cost before after)
+  MayHaveReadCost other job before after = after ≡ before
+
   -- a job that may go was sent to the workers with its track, under the next number. The dispatcher
-  -- has filed nothing since the job arrived, and nothing but its log and the sent job differs.
+  -- has filed nothing for the job since the job arrived: the first track is unchanged. Nothing but
+  -- its log and the sent job differs.
   pub record IsHandedOver (offload : Offload) (job : Job) (before after : Dispatched T) : Type 0 where
     pub log : TrackedLog
     pub may_go : MayGo offload job before.share.log log
-    pub unfiled : HasSameTracks before.share.log log
+    pub track : first_own log.tracks ≡ first_own before.share.log.tracks
     pub sent : after ≡ job_sent job (logged_at log before)
 
-  -- a job was run here and ended. Its reply is sent and counted. If the job might have gone to the
-  -- workers, the calls that show so may come first. They file nothing.
+  -- a job was run here and ended. Its reply is sent and counted. The cost in the job's slot may
+  -- have been read first, which files nothing for the job.
   pub record IsWorkedHere (offload : Offload) (job : Job) (before after : Dispatched T) : Type 0 where
     pub sent : after.sent ≡ before.sent
     pub log : TrackedLog
-    pub stays : (log ≡ before.share.log) ⊎ MayGo offload job before.share.log log
-    pub unfiled : HasSameTracks before.share.log log
+    pub stays : MayHaveReadCost offload job before.share.log log
+    pub track : first_own log.tracks ≡ first_own before.share.log.tracks
     pub worked : IsReplied s unsent job (record before.share { log = log }) after.share
     pub ends : s.ended after.share.tallies ≡ saturated (s.ended before.share.tallies + 1)
 
@@ -153,9 +168,8 @@ module _ {T : Type 0} (s : WorkerView T) where
     pub turn_is : IsSomeTurn now turn
     pub done : IsTurnDone offload turn given (logged_at log before) after
 
-  -- an idle shard was advanced to this time, or it is known to be idle at this time and isn't
-  -- called.
+  -- an idle shard was advanced to this time, with some shard's result, or the shard was skipped.
   abbrev pub IsAdvancedOrSkipped : ℕ → ℕ → Dispatched T → Dispatched T → Type 0
   IsAdvancedOrSkipped shard now before after =
-      (s.logged (AdvancesIdle shard now) before.share.log after.share.log × HasCalled before after)
-      ⊎ (s.bench (KnowsIdle shard now before.share.log) × (after ≡ before))
+      ((IsSomeIdle now true × s.logged (AdvancesIdle shard now) before.share.log after.share.log) ⊎ s.logged (SkipsIdle shard now) before.share.log after.share.log)
+      × HasCalled before after

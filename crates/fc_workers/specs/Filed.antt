@@ -6,7 +6,7 @@ use Rattle.fc_registry.specs.declared.job.Job.{Job}
 use Rattle.fc_core.specs.Stage.{Stage}
 use Rattle.fc_calls.specs.Logged.{LoggedCall}
 use Rattle.fc_calls.specs.Logged.{AdvancesFront, AdvancesIdle, AdvancesShard, AnswersRequest, CommitsRun, DrawsId, FiresTimer, GivesReadings, GivesTurn, GivesUpTurn}
-use Rattle.fc_calls.specs.Logged.{HandlesDatagram, HandsSignal, InstallsProgram, LooksAt, NotesTurn, RaisesWord, RemovesProgram, TakesForJob, TellsReceipt}
+use Rattle.fc_calls.specs.Logged.{HandlesDatagram, HandsSignal, InstallsProgram, LooksAt, NotesTurn, RaisesWord, ReadsCost, RemovesProgram, SkipsIdle, TakesForJob, TellsReceipt}
 use Rattle.fc_linear.specs.Operations.{Logged, Operation}
 use Rattle.fc_filed.specs.declared.entry.FiledEntry.{FiledEntry}
 use Rattle.fc_filed.specs.Books.{IsRightForJob}
@@ -15,7 +15,7 @@ use Rattle.fc_filed.specs.Threads.{did_by}
 use Rattle.fc_workers.specs.declared.call_log.CallLog.{CallLog}
 use Rattle.fc_workers.specs.Asked.{IsLoggedCall, shard_called}
 use Rattle.fc_workers.specs.Called.{WireCall, WorkerView}
-use Rattle.fc_workers.specs.Fronts.{Beginning}
+use Rattle.fc_server.specs.States.{ServerState}
 use Rattle.fc_workers.specs.Logs.{TrackedLog, with_filed_call}
 
 -- ---- one call
@@ -34,6 +34,7 @@ pub record HasFiled (operation : Operation) (before after : TrackedLog) : Type 0
 abbrev pub filed_call : LoggedCall → LoggedCall
 filed_call (HandsSignal shard from id reset) = HandsSignal (shard_called shard) from id reset
 filed_call (AdvancesIdle shard now) = AdvancesIdle (shard_called shard) now
+filed_call (SkipsIdle shard now) = SkipsIdle (shard_called shard) now
 filed_call (AdvancesShard shard now ticked) = AdvancesShard (shard_called shard) now ticked
 filed_call (GivesTurn shard now turn) = GivesTurn (shard_called shard) now turn
 filed_call other = other
@@ -75,9 +76,10 @@ pub filed_alone : (call : LoggedCall) (before after : TrackedLog) → after ≡ 
 filed_alone call before after is = record { who = λ i. (is i).who; tracks = λ i. (is i).tracks }
 
 -- a server with locks files each of its logged calls.
-pub locked_files : (first : Beginning) (AreReadings : List ℕ → CallLog → CallLog → Type 0) → FilesEach (IsLoggedCall first AreReadings)
+pub locked_files : (first : ServerState) (AreReadings : List ℕ → CallLog → CallLog → Type 0) → FilesEach (IsLoggedCall first AreReadings)
 locked_files first AreReadings (GivesReadings readings) before after is = record { who = λ i. (is.1 i).who; tracks = λ i. (is.1 i).tracks }
 locked_files first AreReadings (TellsReceipt job receipt) before after is = filed_alone (TellsReceipt job receipt) before after is.1
+locked_files first AreReadings (ReadsCost slot cost) before after is = filed_alone (ReadsCost slot cost) before after is.1
 locked_files first AreReadings (LooksAt slot word) before after is = filed_alone (LooksAt slot word) before after is
 locked_files first AreReadings (HandlesDatagram now from bytes brings) before after is = filed_alone (HandlesDatagram now from bytes brings) before after is.1
 locked_files first AreReadings (AdvancesFront now) before after is = filed_alone (AdvancesFront now) before after is.1
@@ -90,6 +92,7 @@ locked_files first AreReadings (InstallsProgram job program made) before after i
 locked_files first AreReadings (RemovesProgram job removal) before after is = filed_alone (RemovesProgram job removal) before after is.1
 locked_files first AreReadings (HandsSignal shard from id reset) before after is = filed_alone (HandsSignal (shard_called shard) from id reset) before after is.1
 locked_files first AreReadings (AdvancesIdle shard now) before after is = filed_alone (AdvancesIdle (shard_called shard) now) before after is.1
+locked_files first AreReadings (SkipsIdle shard now) before after is = filed_alone (SkipsIdle (shard_called shard) now) before after is
 locked_files first AreReadings (AdvancesShard shard now ticked) before after is = filed_alone (AdvancesShard (shard_called shard) now ticked) before after is.1
 locked_files first AreReadings (GivesTurn shard now turn) before after is = filed_alone (GivesTurn (shard_called shard) now turn) before after is.1
 locked_files first AreReadings (NotesTurn turn id now random told noted) before after is = filed_alone (NotesTurn turn id now random told noted) before after is.1

@@ -1,23 +1,12 @@
--- The initial state of a server with locks, and a front that only calls have changed since.
+-- A front that only calls have changed since the server began.
 use Rattle.std.specs.Prelude.{◌≡◌, ℕ, List, [], ◌∷◌, Option}
 use Rattle.coap_msg.specs.declared.types.Emission.{Emission}
 use Rattle.coap_msg.specs.declared.types.Endpoint.{Endpoint}
 use Rattle.fc_core.specs.declared.front.Delivered.{Delivered}
 use Rattle.fc_core.specs.Contents.{Content}
-use Rattle.fc_core.specs.Exchanges.{FrontState, first_front}
-use Rattle.fc_core.specs.declared.policy.Policy.{Policy}
+use Rattle.fc_core.specs.Exchanges.{FrontState}
 use Rattle.fc_registry.specs.declared.job.Job.{Job}
 use Rattle.fc_calls.specs.Doings.{AdvancesTo, AnswersAt, DrawsAt, FiresAt, HandlesAt}
-
--- the initial state of a server: its front, and the time in ms after which a notification of its
--- shards is confirmable again (RFC 7641, section 4.5).
-pub record Beginning : Type 0 where
-  pub front : FrontState
-  pub confirm_after : ℕ
-
--- the initial state for a policy and the first message ID.
-abbrev pub beginning : Policy → ℕ → Beginning
-beginning policy id = record { front = first_front policy id; confirm_after = policy.confirm_after }
 
 -- a call of a front. A datagram is handled, the clock advances, the timer of a slot fires, a
 -- message ID is drawn, or a job is answered.

@@ -1,11 +1,13 @@
--- When the one order of a server's calls is a legal history: the tracks of its jobs are right.
+-- When the one order of a server's calls is a legal history: the tracks of its jobs are right, and
+-- the number of a job is its key minus that of the first job.
 use Rattle.std.specs.Prelude.{◌≡◌, ◌≢◌, ℕ, ◌+◌, ◌≤◌, true, List, [], length}
 use Rattle.std.specs.List.{All, Any}
-use Rattle.fc_server.specs.declared.server.Begin.{Begin}
-use Rattle.fc_server.specs.States.{ServerState, begin_of}
+use Rattle.fc_core.specs.History.{History}
+use Rattle.fc_server.specs.Serving.{Serves}
+use Rattle.fc_server.specs.States.{ServerState}
 use Rattle.fc_calls.specs.Logged.{FiresTimer}
 use Rattle.fc_linear.specs.Operations.{LogEntry, Logged}
-use Rattle.fc_linear.specs.Parts.{HaveNextNumbers, IsHistoryOf, bringing, history_on}
+use Rattle.fc_linear.specs.Parts.{HaveNextNumbers, IsHistoryOf, RightByParts, bringing, history_on}
 use Rattle.fc_filed.specs.declared.entry.FiledEntry.{FiledEntry}
 use Rattle.fc_filed.specs.Entries.{is_of_job, log_of}
 use Rattle.fc_workers.specs.declared.closed.ClosedServer.{ClosedServer}
@@ -46,12 +48,18 @@ pub record HaveRightTracks (first : ℕ) (logs : List TrackedLog) : Type 0 where
   pub has_log : Any (λ (log : TrackedLog). log.who ≡ dispatcher) logs
   pub brought : All (BringsInOrder first dispatcher) logs
 
--- the calls of these threads have one order, which is a legal history. The number of a job in it is
--- the job's key minus the first job's. The history's server is the closed one, with the head words
--- at the end of the order.
-pub record HaveLegalOrder (begin : Begin) (logs : List TrackedLog) (closed : ClosedServer) : Type 0 where
-  pub order : HaveOneOrder begin logs closed
-  pub history : IsHistoryOf (history_on (begin_of begin) (log_of (first_brought (9 + length logs)) order.calls)) (server_with closed order.words)
+-- the calls of these threads have one order. The number of a job in it is the job's key minus that
+-- of the first job that was brought. The calls of each part lead it from the first server to the
+-- closed one. Those of each job follow its stages. The first of them produces the job. Jobs are
+-- numbered from 0 in the order in which they are produced. If a history leaves the first server
+-- without jobs, the order continues it legally. The longer history's server is the closed one, with
+-- the head words at the end of the order. Reads of costs and skips are in the order, but are no
+-- events of the history. A cost that was read is the one that the slot had at that place of the
+-- order, and a shard that was skipped was idle at that place.
+pub record HaveLegalOrder (first : ServerState) (logs : List TrackedLog) (closed : ClosedServer) : Type 0 where
+  pub order : HaveOneOrder first logs closed
+  pub right : RightByParts (server_with closed order.words) first [] (log_of (first_brought (9 + length logs)) order.calls)
+  pub history : (before : History) → Serves before first [] → IsHistoryOf (history_on before (log_of (first_brought (9 + length logs)) order.calls)) (server_with closed order.words)
 
 -- the entry of a timer that fired at time 0: the call is by thread 9, and the job has this key.
 abbrev pub timer_entry : ℕ → ℕ → FiledEntry

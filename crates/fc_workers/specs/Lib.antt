@@ -16,5 +16,6 @@ pub mod Naming
 pub mod OneOrder
 pub mod Filed
 pub mod LegalOrder
+pub mod Deliveries
 pub mod Producing
 pub mod Received

@@ -3,14 +3,13 @@ use Rattle.std.specs.Prelude.{◌≡◌, ◌≢◌, ℕ, ◌+◌, ◌<◌, ◌�
 use Rattle.std.specs.List.{All, AllPairs, Any, flat_map}
 use Rattle.fc_book.specs.declared.view.BookView.{BookView}
 use Rattle.fc_book.specs.Tracks.{AreOn, HasKey, entries_at, on}
-use Rattle.fc_core.specs.Heads.{no_words}
 use Rattle.fc_registry.specs.Shards.{shard_at}
-use Rattle.fc_server.specs.declared.server.Begin.{Begin}
+use Rattle.fc_server.specs.States.{ServerState}
 use Rattle.fc_linear.specs.Operations.{FrontDoes, ShardDoes}
-use Rattle.fc_linear.specs.Parts.{first_server}
 use Rattle.fc_filed.specs.declared.entry.FiledEntry.{FiledEntry}
 use Rattle.fc_filed.specs.Books.{IsRightForJob}
 use Rattle.fc_filed.specs.Entries.{AreKeyed, ChangesWords, OperationsLead, entries_by, entry_keys, front_entries, shard_entries}
+use Rattle.fc_filed.specs.Idle.{AreSkipsIdle}
 use Rattle.fc_filed.specs.Threads.{HasOwnTrack}
 use Rattle.fc_workers.specs.declared.closed.ClosedServer.{ClosedServer}
 use Rattle.fc_workers.specs.Logs.{TrackedLog}
@@ -38,18 +37,20 @@ pub record HasTracksOf (first_job : ℕ) (logs : List TrackedLog) (v : BookView 
 -- thread, and each call is by a thread with one of the logs. The calls of the front lead from the
 -- server's first front to the closed one, and those of each of the eight shards from the server's
 -- first shard of its index to the closed one. The looks at head words and the raises lead the words
--- from 64 zeros to their last values. Each track of a log has exactly the calls with its key. A
--- job's track that no log has is right; the track of a lost message is an example.
-pub record HaveOneOrder (begin : Begin) (logs : List TrackedLog) (closed : ClosedServer) : Type 0 where
+-- from the server's first ones to their last values. Each shard that was skipped was idle at that
+-- place of the list, after its earlier calls. Each track of a log has exactly the calls with its
+-- key. A job's track that no log has is right; the track of a lost message is an example.
+pub record HaveOneOrder (first : ServerState) (logs : List TrackedLog) (closed : ClosedServer) : Type 0 where
   pub calls : List FiledEntry
   pub tracks : All (λ (log : TrackedLog). HasKey log.who log.tracks.own) logs
   pub own : All (λ (log : TrackedLog). filed_in log ≡ entries_by log.who calls) logs
   pub apart : AllPairs (λ (one other : TrackedLog). one.who ≢ other.who) logs
   pub callers : All (λ (e : FiledEntry). Any (λ (log : TrackedLog). log.who ≡ e.who) logs) calls
-  pub front_led : OperationsLead FrontDoes (front_entries calls) (first_server begin).front closed.front
-  pub shards_led : (i : ℕ) → i < 8 → OperationsLead ShardDoes (shard_entries i calls) (shard_at (first_server begin).shards i) (shard_at closed.shards i)
+  pub front_led : OperationsLead FrontDoes (front_entries calls) first.front closed.front
+  pub shards_led : (i : ℕ) → i < 8 → OperationsLead ShardDoes (shard_entries i calls) (shard_at first.shards i) (shard_at closed.shards i)
   pub words : List ℕ
-  pub heads_led : OperationsLead ChangesWords calls no_words words
+  pub heads_led : OperationsLead ChangesWords calls first.words words
+  pub skips : AreSkipsIdle first calls
   pub keyed : AreKeyed (9 + length logs) calls
   pub tracks_on : All (λ (log : TrackedLog). AreOn entry_keys calls log.tracks.own) logs
   pub lost : (k : ℕ) → 9 + length logs ≤ k → All (λ (log : TrackedLog). HasKey k log.tracks.own → ⊥) logs → IsRightForJob (9 + length logs) (on entry_keys k calls)

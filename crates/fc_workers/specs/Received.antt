@@ -7,9 +7,9 @@ use Rattle.fc_workers.specs.LegalOrder.{FilesFrom, brought_in}
 use Rattle.fc_workers.specs.Logs.{TrackedLog}
 use Rattle.fc_workers.specs.Messages.{first_brought}
 
--- the worker still has its own track and each track that it had, and may begin tracks as before. Each
--- job's track that it has is right for its job. It has produced no further job. If its entries for
--- jobs had keys from that of the first job on, they still do.
+-- the worker still has its own track and each track that it had, and may begin tracks as before.
+-- Each job's track that it has is right for its job. It has produced no further job. If its entries
+-- for jobs had keys from that of the first job on, they still do.
 pub record KeepsRightJobs (first_job : ℕ) (before after : TrackedLog) : Type 0 where
   pub who : after.who ≡ before.who
   pub own : HasOwnTrack first_job after.who after.tracks

@@ -95,8 +95,8 @@ abbrev pub IsToCommit : Stage → Type 0
 IsToCommit (ToCommit n t) = Unit {0}
 IsToCommit other = ⊥
 
--- a snapshot led to this stage: the job's next step is the commit of a ticket whose program takes
--- less than this number of instructions, or an answer.
+-- a snapshot led to this stage: the job's next step is the commit of a ticket whose program's cost
+-- is below this number of steps, or an answer.
 abbrev pub IsCheapAt : ℕ → Stage → Type 0
 IsCheapAt least (ToCommit n t) = t.found.program.cost < least
 IsCheapAt least (ToAnswer content) = Unit {0}

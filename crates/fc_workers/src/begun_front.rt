@@ -1,4 +1,4 @@
-//! A server's front, which began in the initial state that the server's books name.
+//! A server's front, which began as that of the server's first state.
 //!
 //! [`Locked`](crate::server::Locked) calls it for the workers, under the front's lock. Times are in
 //! milliseconds.
@@ -10,7 +10,6 @@ ghost use Rattle.fc_core.specs.Timers.{timer_job};
 ghost use Rattle.fc_calls.specs.Doings.{AdvancesTo, AnswersAt, DrawsAt, FiresAt, HandlesAt, TellsGauges};
 ghost use Rattle.fc_calls.specs.Logged.{AdvancesFront, AnswersRequest, DrawsId, FiresTimer, HandlesDatagram};
 ghost use Rattle.fc_linear.specs.Operations.{FrontDoes};
-ghost use Rattle.fc_linear.specs.Parts.{first_server};
 ghost use Rattle.fc_filed.specs.Tracked.{IsPartClosed};
 ghost use Rattle.fc_workers.specs.Asked.{IsFrontAsked, IsFrontCall};
 ghost use Rattle.fc_workers.specs.Fronts.{BeganAt};
@@ -39,7 +38,6 @@ impl<B: Books> BegunFront<B> {
     /// Wraps the server's first front, with its track, which has no entry.
     pub(crate) fn new(front: Front, track: FiledTrack<FrontOf<ServerOf<B>>>) -> BegunFront<B>
         requires front { front ≡ B.first.front }
-        requires begin { (first_server B.begin).front ≡ B.first.front }
         requires track { track ≡ [] }
     {
         BegunFront {
@@ -149,7 +147,7 @@ impl<B: Books> BegunFront<B> {
         book: &ServerBook<ServerOf<B>>,
         tracks: &mut ServerTracks<ServerOf<B>>,
     ) -> Front
-        ensures { IsPartClosed FrontDoes 0 (first_server B.begin).front result tracks.old tracks.new }
+        ensures { IsPartClosed FrontDoes 0 B.first.front result tracks.old tracks.new }
     {
         self.filed.close(book, tracks)
     }

@@ -1,5 +1,5 @@
 //! The backend: a server's shared parts, as workers call them.
-ghost use Rattle.std.specs.Prelude.{◌≡◌, ℕ, ◌+◌, ◌<◌, ◌≤◌, max, true, ⊤, None, IfNone, IfSome, MatchBool};
+ghost use Rattle.std.specs.Prelude.{◌≡◌, ℕ, ◌+◌, ◌<◌, ◌≤◌, max, true, ⊤, None, Some, IfErr, IfOk, MatchBool};
 ghost use Rattle.fc_core.specs.Timers.{timer_job};
 ghost use Rattle.fc_core.specs.Contents.{IsOf};
 ghost use Rattle.fc_core.specs.Receiving.{emission_if, handled};
@@ -9,11 +9,11 @@ ghost use Rattle.fc_registry.specs.Turns.{written_if};
 ghost use Rattle.fc_registry.specs.Views.{HasSize, taken_with};
 ghost use Rattle.fc_filed.specs.Parts.{IsCheap};
 ghost use Rattle.fc_filed.specs.Threads.{known_word};
-ghost use Rattle.fc_workers.specs.Called.{BenchCall, CountsObservers, FindsExpensive, KnowsIdle, LeavesUnquiet, LooksAhead, ReadsGauges, ReadsReceipt};
+ghost use Rattle.fc_workers.specs.Called.{BenchCall, CountsObservers, LeavesUnquiet, LooksAhead, ReadsGauges};
 ghost use Rattle.fc_calls.specs.Logged.{AdvancesFront, AdvancesIdle, FiresTimer, GivesReadings, HandsSignal, LooksAt};
 ghost use Rattle.fc_calls.specs.Logged.{AdvancesShard, AnswersRequest, CommitsRun, DrawsId, GivesTurn, GivesUpTurn, HandlesDatagram};
 ghost use Rattle.fc_calls.specs.Logged.{InstallsProgram};
-ghost use Rattle.fc_calls.specs.Logged.{LoggedCall, NotesTurn, RaisesWord, RemovesProgram, TakesForJob, TellsReceipt};
+ghost use Rattle.fc_calls.specs.Logged.{LoggedCall, NotesTurn, RaisesWord, ReadsCost, RemovesProgram, SkipsIdle, TakesForJob, TellsReceipt};
 ghost use Rattle.fc_linear.specs.Operations.{LacksMemory, RejectsImage};
 ghost use Rattle.fc_workers.specs.Filed.{FilesEach, HasFiled};
 ghost use Rattle.fc_workers.specs.Logs.{TrackedLog as Log};
@@ -150,9 +150,12 @@ pub trait Bench {
 
     /// Takes a snapshot of a request's slot unless the slot's program is expensive.
     ///
-    /// The slot is that of `job`. Its program is expensive if it may take `least` instructions or
-    /// more. Then the result is `None`, no slot changes, the log doesn't have the call, and `found`
-    /// has any contents. Otherwise see [`Bench::take`]. A request's snapshot ends no job.
+    /// The slot is that of `job`. Its program is expensive if its cost is `least` steps or more. If
+    /// it isn't expensive, see [`Bench::take`]. A request's snapshot ends no job.
+    ///
+    /// # Errors
+    /// Returns the program's cost, in steps, if the program is expensive. Then the log has the read
+    /// of the cost, no slot changes, and `found` has any contents.
     fn take_if_cheap<R: Wait>(
         &self,
         rt: &R,
@@ -161,13 +164,13 @@ pub trait Bench {
         readings: &Readings,
         found: &mut SlotSnapshot,
         log: &mut TrackLog<Self::Book>,
-    ) -> Option<Taken>
+    ) -> Result<Taken, u32>
         requires request { job.now.turn ≡ None }
-        ensures none { IfNone result (called (FindsExpensive least job.now readings.now) × (log.new ≡ log.old)) }
-        ensures taken { IfSome result (λ taken. IsSomeSnapshot job.now readings.now (taken_with taken found.new)) }
-        ensures size { IfSome result (λ taken. HasSize taken found.new) }
-        ensures cheap { IfSome result (IsCheap least) }
-        ensures logged { IfSome result (λ taken. logged (TakesForJob job.now readings.now (taken_with taken found.new)) log.old log.new) };
+        ensures expensive { IfErr result (λ cost. (least ≤ cost) × logged (ReadsCost job.now.origin.slot (Some cost)) log.old log.new) }
+        ensures taken { IfOk result (λ taken. IsSomeSnapshot job.now readings.now (taken_with taken found.new)) }
+        ensures size { IfOk result (λ taken. HasSize taken found.new) }
+        ensures cheap { IfOk result (IsCheap least) }
+        ensures logged { IfOk result (λ taken. logged (TakesForJob job.now readings.now (taken_with taken found.new)) log.old log.new) };
 
     /// Commits the run of `ticket` with this outcome, at a time in milliseconds.
     ///
@@ -264,14 +267,13 @@ pub trait Bench {
         ensures logged { MatchBool result (logged (AdvancesIdle shard now) log.old log.new)
             (called (LeavesUnquiet shard now) × (log.new ≡ log.old)) };
 
-    /// Returns whether a shard, 0 to 7, is known to be idle at a time in milliseconds.
+    /// Skips a shard, 0 to 7, if it is known to be idle at a time in milliseconds.
     ///
     /// It is idle if no notification has timed out and no observer has a pending one. The shard
-    /// isn't called. If the result is `true`, the shard needn't be advanced (`KnowsIdle`). If it is
-    /// `false`, nothing is known.
-    fn is_known_idle(&self, shard: u8, now: u64, log: &mut TrackLog<Self::Book>) -> bool
-        ensures known { MatchBool result (called (KnowsIdle shard now log.old) × IsSomeIdle now true) ⊤ }
-        ensures kept { log.new ≡ log.old };
+    /// isn't called. Returns whether the shard was skipped. A skipped shard needn't be advanced. If
+    /// the shard wasn't skipped, nothing is known, and the log doesn't have the call.
+    fn skip_if_idle(&self, shard: u8, now: u64, log: &mut TrackLog<Self::Book>) -> bool
+        ensures { MatchBool result (logged (SkipsIdle shard now) log.old log.new) (log.new ≡ log.old) };
 
     /// Returns a time before which a shard, 0 to 7, is idle unless the shard is called.
     ///
@@ -359,13 +361,16 @@ pub trait Bench {
         ensures receipt { IsSomeReceipt result }
         ensures logged { logged (TellsReceipt job.now result) log.old log.new };
 
-    /// Returns the receipt of the program in `job`'s slot, for the job's dispatcher.
+    /// Returns the cost of the program in a slot, in steps, for a job's dispatcher.
     ///
-    /// Nothing changes, and the log doesn't have the call. Another thread may change the slot at
-    /// any time. Returns `None` if the slot is empty. See
-    /// [`Shard::receipt`](fc_registry::Shard::receipt).
-    fn read_receipt<R: Wait>(&self, rt: &R, job: &Job) -> Option<Receipt>
-        ensures { called (ReadsReceipt job.now result) };
+    /// No slot changes. Returns `None` if the slot is empty. The call is for no job.
+    fn read_cost<R: Wait>(
+        &self,
+        rt: &R,
+        slot: SlotNumber,
+        log: &mut TrackLog<Self::Book>,
+    ) -> Option<u32>
+        ensures { logged (ReadsCost slot result) log.old log.new };
 
     /// Returns the head word of a slot, without a lock.
     ///

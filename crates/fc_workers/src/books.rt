@@ -2,16 +2,14 @@
 ghost use Rattle.std.specs.Prelude.{ℕ};
 ghost use Rattle.atomic_table.specs.Seated.{TableId};
 ghost use Rattle.fc_book.specs.Tracks.{no_table};
-ghost use Rattle.fc_core.specs.Policies.{default_policy};
-ghost use Rattle.fc_filed.specs.Blank.{some_begin};
-ghost use Rattle.fc_server.specs.declared.server.Begin.{Begin};
-ghost use Rattle.fc_workers.specs.Fronts.{Beginning, beginning};
+ghost use Rattle.fc_filed.specs.Blank.{some_server};
+ghost use Rattle.fc_server.specs.States.{ServerState};
 
 use fc_filed::ServerName;
 use std::marker::{Brand, PhantomData};
 use std::sync::ledger::Ledger;
 
-/// The names of a server's ledgers, their parts, and the server's initial state.
+/// The names of a server's ledgers, their parts, and the server's first state.
 ///
 /// A name is given by the index of the ledger's shard. Each ledger is divided into the same number
 /// of parts. The table is that of the book in which the calls of the front, shards and head
@@ -21,13 +19,11 @@ pub trait Books {
 
     ghost parts: { ℕ };
 
-    ghost first: { Beginning };
-
     ghost table: { TableId };
 
     ghost first_job: { ℕ };
 
-    ghost begin: { Begin };
+    ghost first: { ServerState };
 }
 
 impl Books for Brand {
@@ -35,13 +31,11 @@ impl Books for Brand {
 
     ghost parts = { 0 };
 
-    ghost first = { beginning default_policy 0 };
-
     ghost table = { no_table };
 
     ghost first_job = { 0 };
 
-    ghost begin = { some_begin };
+    ghost first = { some_server };
 }
 
 /// The ledger of the shard with this index.
@@ -65,5 +59,5 @@ impl<B: Books> ServerName for ServerOf<B> {
 
     ghost first_job = { B.first_job };
 
-    ghost begin = { B.begin };
+    ghost first = { B.first };
 }

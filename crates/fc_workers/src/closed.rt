@@ -4,12 +4,10 @@ use fc_registry::Shard;
 
 /// The front and the shards of a closed server.
 ///
-/// `first_serials` has, for each shard, the serial that the shard's slots began with. `changes` has
-/// the number of counted changes of each shard's slots, up to 2^64 - 1.
+/// `changes` has the number of counted changes of each shard's slots, up to 2^64 - 1.
 #[derive(Drop)]
 pub struct ClosedServer {
     pub front: Front,
     pub shards: [Shard; 8],
-    pub first_serials: [u64; 8],
     pub changes: [u64; 8],
 }

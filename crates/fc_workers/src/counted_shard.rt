@@ -4,11 +4,11 @@
 ghost use Rattle.std.specs.Prelude.{◌≡◌, ℕ, ◌+◌, ◌<◌, [], replicate};
 ghost use Rattle.fc_registry.specs.Shards.{shard_at};
 ghost use Rattle.fc_registry.specs.Slots.{Shard as Called};
+ghost use Rattle.fc_server.specs.States.{confirm_after_of};
 ghost use Rattle.fc_calls.specs.Kept.{HasEightSlots, confirm_times, serials};
 ghost use Rattle.fc_calls.specs.Doings.{PassesIfIdle};
 ghost use Rattle.fc_calls.specs.Logged.{AdvancesIdle};
 ghost use Rattle.fc_linear.specs.Operations.{Logged, ShardDoes};
-ghost use Rattle.fc_linear.specs.Parts.{first_server};
 ghost use Rattle.fc_filed.specs.Tracked.{IsPartClosed};
 ghost use Rattle.fc_workers.specs.Counts.{counts};
 ghost use Rattle.fc_workers.specs.Logs.{with_filed_if};
@@ -19,20 +19,18 @@ use crate::track_log::TrackLog;
 use fc_book::Part;
 use fc_calls::{Change, ShardCall};
 use fc_filed::{FiledCall, FiledShard, FiledTrack, ServerBook, ServerTracks};
-use fc_registry::{SHARDS, Shard, SlotNumber};
+use fc_registry::Shard;
 use std::marker::Model;
 use std::sync::ledger::{Blank, Book, Ledger};
 
 /// A filed shard, and the ledger of its changes.
 ///
-/// The sum of its serials has risen by the ledger's total since the ledger was opened. The server's
-/// initial state determines when its notifications are confirmable. A clause sees the shard, and
-/// the sum of its serials when the ledger was opened.
+/// The sum of its serials has risen by the ledger's total since the server began. The server's
+/// first state determines when its notifications are confirmable. A clause sees the shard.
 #[derive(Drop)]
 pub(crate) struct Counted<B: Books, P: Part, L: Ledger> {
     filed: FiledShard<ServerOf<B>, P>,
     ledger: Book<L>,
-    opened: u128,
 }
 
 impl<B: Books, P: Part, L: Ledger> Model for Counted<B, P, L> {
@@ -41,11 +39,13 @@ impl<B: Books, P: Part, L: Ledger> Model for Counted<B, P, L> {
     ghost Value = { Seen };
 
     ghost use Rattle.std.specs.Prelude.{◌≡◌, ◌+◌, replicate};
+    ghost use Rattle.fc_registry.specs.Shards.{shard_at};
     ghost use Rattle.fc_calls.specs.Kept.{confirm_times, serials};
+    ghost use Rattle.fc_server.specs.States.{confirm_after_of};
 
-    ghost view = { λ c. record { shard = c.filed.shard; opened = c.opened } };
+    ghost view = { λ c. record { shard = c.filed.shard } };
 
-    ghost invariant = { λ c. (serials c.filed.shard ≡ c.opened + c.ledger.total) × (confirm_times c.filed.shard ≡ replicate 8 B.first.confirm_after) };
+    ghost invariant = { λ c. (serials c.filed.shard ≡ serials (shard_at B.first.shards c.filed.shard.index) + c.ledger.total) × (confirm_times c.filed.shard ≡ replicate 8 (confirm_after_of B.first)) };
 }
 
 impl<B: Books, P: Part, L: Ledger> Counted<B, P, L> {
@@ -61,20 +61,18 @@ impl<B: Books, P: Part, L: Ledger> Counted<B, P, L> {
         requires index { shard.index < 8 }
         requires key { P.key ≡ shard.index + 1 }
         requires slots { HasEightSlots shard }
-        requires confirms { confirm_times shard ≡ replicate 8 B.first.confirm_after }
-        requires first { shard ≡ shard_at (first_server B.begin).shards shard.index }
+        requires confirms { confirm_times shard ≡ replicate 8 (confirm_after_of B.first) }
+        requires first { shard ≡ shard_at B.first.shards shard.index }
         requires track { track ≡ [] }
         requires name { blank.name ≡ L.name }
         requires parts { (blank.parts ≡ L.parts) × (0 < L.parts) }
-        ensures shard { result.0 ≡ record { shard = shard; opened = serials shard } }
+        ensures shard { result.0 ≡ record { shard = shard } }
         ensures tally { result.1 ≡ record { parts = L.parts; changes = 0 } }
     {
         let (ledger, share) = blank.open::<L>();
-        let opened = serials_of(&shard);
         let counted = Counted {
             filed: FiledShard::new(shard, track),
             ledger,
-            opened,
         };
         (counted, Tally::of(share))
     }
@@ -84,7 +82,7 @@ impl<B: Books, P: Part, L: Ledger> Counted<B, P, L> {
         requires may { C.may_ask call self.old.shard }
         requires unchanged { (before after : Called) (answer : C.Answer) (room : C.Room) → C.does call before answer room after → after ≡ before }
         ensures does { C.does call self.old.shard result room.new self.old.shard }
-        ensures confirms { confirm_times self.old.shard ≡ replicate 8 B.first.confirm_after }
+        ensures confirms { confirm_times self.old.shard ≡ replicate 8 (confirm_after_of B.first) }
         ensures unchanged { self.new ≡ self.old }
     {
         self.filed.inspect(call, room)
@@ -107,8 +105,7 @@ impl<B: Books, P: Part, L: Ledger> Counted<B, P, L> {
         ensures does { C.does call self.old.shard result room.new self.new.shard }
         ensures slots { self.new.shard.slots ≡ self.old.shard.slots }
         ensures index { self.new.shard.index ≡ self.old.shard.index }
-        ensures confirms { confirm_times self.old.shard ≡ replicate 8 B.first.confirm_after }
-        ensures opened { self.new.opened ≡ self.old.opened }
+        ensures confirms { confirm_times self.old.shard ≡ replicate 8 (confirm_after_of B.first) }
         ensures filed { log.new ≡ with_filed_if (C.files result) (C.operation self.old.shard.index call result room.new) log.old }
     {
         let tracks = &mut log.tracks;
@@ -128,8 +125,7 @@ impl<B: Books, P: Part, L: Ledger> Counted<B, P, L> {
         ensures does { PassesIfIdle now self.old.shard result self.new.shard }
         ensures slots { self.new.shard.slots ≡ self.old.shard.slots }
         ensures index { self.new.shard.index ≡ self.old.shard.index }
-        ensures confirms { confirm_times self.old.shard ≡ replicate 8 B.first.confirm_after }
-        ensures opened { self.new.opened ≡ self.old.opened }
+        ensures confirms { confirm_times self.old.shard ≡ replicate 8 (confirm_after_of B.first) }
         ensures filed { log.new ≡ with_filed_if result (Logged (AdvancesIdle self.old.shard.index now)) log.old }
     {
         let tracks = &mut log.tracks;
@@ -152,8 +148,7 @@ impl<B: Books, P: Part, L: Ledger> Counted<B, P, L> {
         requires may { C.may_ask call self.old.shard }
         ensures does { C.does call self.old.shard result room.new self.new.shard }
         ensures index { self.new.shard.index ≡ self.old.shard.index }
-        ensures confirms { confirm_times self.old.shard ≡ replicate 8 B.first.confirm_after }
-        ensures opened { self.new.opened ≡ self.old.opened }
+        ensures confirms { confirm_times self.old.shard ≡ replicate 8 (confirm_after_of B.first) }
         ensures filed { log.new ≡ with_filed_if (C.files result) (C.operation self.old.shard.index call result room.new) log.old }
         ensures tally { tally.new ≡ counts tally.old (C.changes result) }
     {
@@ -168,7 +163,7 @@ impl<B: Books, P: Part, L: Ledger> Counted<B, P, L> {
     /// Closes the shard and its ledger, with the tally `all` of all the ledger's parts.
     ///
     /// Moves the shard's track to `tracks`, and returns the shard. The sum of the shard's serials
-    /// has risen by the tally's changes since the ledger was opened.
+    /// has risen by the tally's changes since the server began.
     pub(crate) fn close(
         self,
         book: &ServerBook<ServerOf<B>>,
@@ -178,9 +173,9 @@ impl<B: Books, P: Part, L: Ledger> Counted<B, P, L> {
         requires same { P.table ≡ B.table }
         requires parts { all.old.parts ≡ L.parts }
         ensures shard { result ≡ self.shard }
-        ensures risen { serials result ≡ self.opened + all.old.changes }
+        ensures risen { serials result ≡ serials (shard_at B.first.shards result.index) + all.old.changes }
         ensures tally { all.new ≡ all.old }
-        ensures closed { IsPartClosed ShardDoes P.key (shard_at (first_server B.begin).shards result.index) result tracks.old tracks.new }
+        ensures closed { IsPartClosed ShardDoes P.key (shard_at B.first.shards result.index) result tracks.old tracks.new }
     {
         let Counted {
             filed,
@@ -190,16 +185,4 @@ impl<B: Books, P: Part, L: Ledger> Counted<B, P, L> {
         all.audit(&mut ledger);
         filed.close(book, tracks)
     }
-}
-
-// Returns the sum of the serials of a shard's slots.
-fn serials_of(shard: &Shard) -> u128
-    requires { HasEightSlots shard.now }
-    ensures { result ≡ serials shard.entry.now }
-{
-    let mut total = 0u128;
-    for place in 0..SHARDS {
-        total += u128::from(shard.serial(SlotNumber::new(place * SHARDS)));
-    }
-    total
 }

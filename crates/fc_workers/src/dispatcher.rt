@@ -1,12 +1,13 @@
 //! The dispatcher, which sends jobs to workers or runs them itself.
 //!
 //! A pool's driver calls it for each datagram (`fc_service`).
-ghost use Rattle.std.specs.Prelude.{◌≡◌, length, MatchBool};
+ghost use Rattle.std.specs.Prelude.{◌≡◌, false, length, MatchBool};
 ghost use Rattle.fc_workers.specs.Answers.{IsSomeIdle, IsSomeTick};
 ghost use Rattle.fc_calls.specs.Logged.{AdvancesFront, AdvancesShard};
 ghost use Rattle.fc_workers.specs.Called.{CountsObservers, LeavesUnquiet, LooksAhead, ReadsGauges, worker_view};
 ghost use Rattle.fc_workers.specs.Dispatch.{HasCalled, IsAdvancedOrSkipped, IsTakenIn, IsTimerFired, IsTurnAsked};
 ghost use Rattle.fc_workers.specs.Messages.{first_brought};
+ghost use Rattle.fc_filed.specs.Threads.{HasOwnTrack};
 ghost use Rattle.fc_workers.specs.OneOrder.{IsNewLog};
 ghost use Rattle.fc_workers.specs.Producing.{HasRightOrder, with_new_track};
 ghost use Rattle.fc_workers.specs.Shares.{new_share};
@@ -41,8 +42,8 @@ pub enum Offload {
     Every,
     /// Jobs of expensive programs, once a worker has asked for a job.
     ///
-    /// A program is expensive if it may run for this many instructions or more. It is the program
-    /// that the job's slot has when the job arrives.
+    /// A program is expensive if its cost is this number of steps or more. It is the program that
+    /// the job's slot has when the job arrives.
     Expensive(u32),
     /// No jobs.
     Never,
@@ -104,6 +105,7 @@ impl<'a, B: Bench, G: Gate, W: Wire, M: TimeSource> Dispatcher<'a, B, G, W, M> {
         requires new_log { IsNewLog seat.log }
         requires keys { keys ≡ first_brought B.Book.first_job }
         ensures done { result.done ≡ record { sent = sent; share = new_share seat.got seat.tallies (with_new_track keys seat.log) } }
+        ensures own { HasOwnTrack B.Book.first_job seat.log.who (with_new_track keys seat.log).tracks }
         ensures offload { result.offload ≡ offload }
     {
         Dispatcher {
@@ -174,19 +176,18 @@ impl<'a, B: Bench, G: Gate, W: Wire, M: TimeSource> Dispatcher<'a, B, G, W, M> {
         self.state.resend(rt, shard, now)
     }
 
-    /// Advances a shard, 0 to 7, to a time in milliseconds if it is idle then.
+    /// Advances a shard, 0 to 7, to a time in ms if it is idle then, or skips it.
     ///
     /// It is idle if no notification has timed out and no observer has a pending one. A shard that
-    /// is known to be idle isn't called ([`Bench::is_known_idle`]). Returns whether the shard is
-    /// idle. If it isn't, nothing changes.
-    pub fn advance_if_idle<R: Wait>(&mut self, rt: &R, shard: u8, now: u64) -> bool
-        ensures idle { IsSomeIdle now result }
+    /// is known to be idle is skipped ([`Bench::skip_if_idle`]). Returns whether the shard is idle.
+    /// If it isn't, nothing changes.
+    pub fn advance_or_skip<R: Wait>(&mut self, rt: &R, shard: u8, now: u64) -> bool
         ensures passed { MatchBool result
             (IsAdvancedOrSkipped (worker_view B.changes B.ended B.called B.logged M.is_time M.is_random G.passed W.called) shard now self.old.done self.new.done)
-            (B.called (LeavesUnquiet shard now) × (self.new.done ≡ self.old.done)) }
+            (IsSomeIdle now false × B.called (LeavesUnquiet shard now) × (self.new.done ≡ self.old.done)) }
         ensures offload { self.new.offload ≡ self.old.offload }
     {
-        self.state.advance_if_idle(rt, shard, now)
+        self.state.advance_or_skip(rt, shard, now)
     }
 
     /// Returns a time before which a shard, 0 to 7, is idle unless the shard is called.

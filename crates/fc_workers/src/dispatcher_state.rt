@@ -1,11 +1,13 @@
 //! The state of a dispatcher, and how it dispatches a job.
-ghost use Rattle.std.specs.Prelude.{◌≡◌, ◌+◌, ◌<◌, true, length, MatchBool};
+ghost use Rattle.std.specs.Prelude.{◌≡◌, ◌≢◌, ◌+◌, ◌<◌, [], true, false, length, MatchBool};
+ghost use Rattle.fc_book.specs.Tracks.{first_own};
 ghost use Rattle.fc_workers.specs.Answers.{IsSomeIdle, IsSomeTick, saturated};
 ghost use Rattle.fc_calls.specs.Logged.{AdvancesFront, AdvancesShard};
 ghost use Rattle.fc_workers.specs.Called.{CountsObservers, LeavesUnquiet, LooksAhead, ReadsGauges, worker_view};
-ghost use Rattle.fc_workers.specs.Dispatch.{AreSignalled, HasBegunNext, HasCalled, IsAdvancedOrSkipped, IsDispatched, IsExpensive, IsSentOrWorked, IsTakenIn, IsTimerFired, IsTurnAsked, MayGo, job_sent, logged_at, unsent};
+ghost use Rattle.fc_workers.specs.Dispatch.{AreSignalled, HasBegunNext, HasCalled, IsAdvancedOrSkipped, IsDispatched, IsFoundCheap, IsSentOrWorked, IsTakenIn, IsTimerFired, IsTurnAsked, MayGo, MayHaveReadCost, job_sent, logged_at, unsent};
 ghost use Rattle.fc_workers.specs.Logs.{TrackedLog as Log};
 ghost use Rattle.fc_workers.specs.Messages.{first_brought};
+ghost use Rattle.fc_filed.specs.Threads.{HasOwnTrack};
 ghost use Rattle.fc_workers.specs.OneOrder.{IsNewLog};
 ghost use Rattle.fc_workers.specs.Producing.{HasDispatched, HasProduced, MayProduce, with_new_track};
 ghost use Rattle.fc_workers.specs.declared.dispatcher.Offload.TheVariants.{Expensive};
@@ -62,6 +64,7 @@ impl<'a, B: Bench, G: Gate, W: Wire, M: TimeSource> DispatcherState<'a, B, G, W,
         requires new_log { IsNewLog seat.log }
         requires keys { keys ≡ first_brought B.Book.first_job }
         ensures done { result.done ≡ record { sent = sent; share = new_share seat.got seat.tallies (with_new_track keys seat.log) } }
+        ensures own { HasOwnTrack B.Book.first_job seat.log.who (with_new_track keys seat.log).tracks }
         ensures offload { result.offload ≡ offload }
         ensures ready { MayProduce B.Book.first_job result.keys result.done.share.log }
     {
@@ -177,23 +180,22 @@ impl<'a, B: Bench, G: Gate, W: Wire, M: TimeSource> DispatcherState<'a, B, G, W,
         self.context.bench.tick_shard(rt, shard, now, log)
     }
 
-    // Advances a shard, 0 to 7, to a time in milliseconds if it is idle then.
+    // Advances a shard, 0 to 7, to a time in ms if it is idle then, or skips it.
     //
     // It is idle if no notification has timed out and no observer has a pending one. A shard that
-    // is known to be idle isn't called. Returns whether the shard is idle. If it isn't, nothing
+    // is known to be idle is skipped. Returns whether the shard is idle. If it isn't, nothing
     // changes.
-    pub(crate) fn advance_if_idle<R: Wait>(&mut self, rt: &R, shard: u8, now: u64) -> bool
+    pub(crate) fn advance_or_skip<R: Wait>(&mut self, rt: &R, shard: u8, now: u64) -> bool
         requires ready { MayProduce B.Book.first_job self.old.keys self.old.done.share.log }
-        ensures idle { IsSomeIdle now result }
         ensures passed { MatchBool result
             (IsAdvancedOrSkipped (worker_view B.changes B.ended B.called B.logged M.is_time M.is_random G.passed W.called) shard now self.old.done self.new.done)
-            (B.called (LeavesUnquiet shard now) × (self.new.done ≡ self.old.done)) }
+            (IsSomeIdle now false × B.called (LeavesUnquiet shard now) × (self.new.done ≡ self.old.done)) }
         ensures offload { self.new.offload ≡ self.old.offload }
         ensures ready { MayProduce B.Book.first_job self.new.keys self.new.done.share.log }
     {
         let bench = self.context.bench;
         let log = &mut self.done.share.log;
-        bench.is_known_idle(shard, now, log) || bench.advance_if_idle(rt, shard, now, log)
+        bench.skip_if_idle(shard, now, log) || bench.advance_if_idle(rt, shard, now, log)
     }
 
     // Returns a time before which a shard, 0 to 7, is idle unless the shard is called.
@@ -255,8 +257,8 @@ impl<'a, B: Bench, G: Gate, W: Wire, M: TimeSource> DispatcherState<'a, B, G, W,
 
     // Sends the dispatcher's job to the workers, if the policy allows that, or runs the job here.
     // The policy may depend on the cost of a run. Then a request for a run without ETags is priced
-    // by its first snapshot, and any other run by the receipt of its slot. The track of the next
-    // job begins last.
+    // by its first snapshot, and any other run by the cost that is read in its slot. The track of
+    // the next job begins last.
     fn dispatch<R: Wait>(&mut self, rt: &R)
         requires produced { HasProduced B.Book.first_job self.old.keys self.old.job self.old.done.share.log }
         ensures dispatched { IsDispatched (worker_view B.changes B.ended B.called B.logged M.is_time M.is_random G.passed W.called)
@@ -313,8 +315,8 @@ impl<'a, B: Bench, G: Gate, W: Wire, M: TimeSource> DispatcherState<'a, B, G, W,
     }
 
     // Takes the first snapshot of a request for a run without ETags, and runs the job from there.
-    // If the slot's program may take `least` instructions or more, no snapshot is taken, and the
-    // job is sent to the workers. If it can't be sent, it is run here from its beginning.
+    // If the cost of the slot's program is `least` steps or more, no snapshot is taken, and the job
+    // is sent to the workers. If it can't be sent, it is run here from its beginning.
     fn dispatch_run<R: Wait>(&mut self, rt: &R, least: u32)
         requires plain { IsPlainRun self.old.job }
         requires least { self.old.offload ≡ Expensive least }
@@ -335,11 +337,12 @@ impl<'a, B: Bench, G: Gate, W: Wire, M: TimeSource> DispatcherState<'a, B, G, W,
     }
 
     // Sends a job that may go to the workers. If the channel returns it, runs it here. `log` is the
-    // dispatcher's log when the job arrived.
+    // dispatcher's log before the calls by which the job may go.
     fn send_or_work<R: Wait>(&mut self, rt: &R)
         requires produced { HasProduced B.Book.first_job self.old.keys self.old.job self.old.done.share.log }
         ensures dispatched { (log : Log)
             → MayGo (worker_view B.changes B.ended B.called B.logged M.is_time M.is_random G.passed W.called) self.old.offload self.old.job log self.old.done.share.log
+            → first_own self.old.done.share.log.tracks ≡ first_own log.tracks
             → IsSentOrWorked (worker_view B.changes B.ended B.called B.logged M.is_time M.is_random G.passed W.called)
             self.old.offload self.old.job (logged_at log self.old.done) self.new.done }
         ensures offload { self.new.offload ≡ self.old.offload }
@@ -390,13 +393,14 @@ impl<'a, B: Bench, G: Gate, W: Wire, M: TimeSource> DispatcherState<'a, B, G, W,
             .work(rt, &mut self.scratch, UNSENT, &self.job, &mut done.share);
     }
 
-    // Returns whether the policy lets the job go to the workers as it arrived. `Expensive` reads
-    // the receipt of a run's slot for that. Returns `false` if no worker has asked for a job yet;
-    // with `Every` it first waits until one has, or none ever will.
+    // Returns whether the policy lets the job go to the workers. `Expensive` reads the cost in a
+    // run's slot for that. Returns `false` if no worker has asked for a job yet; with `Every` it
+    // first waits until one has, or none ever will.
     fn may_go<R: Wait>(&mut self, rt: &R) -> bool
-        ensures may { result ≡ true → MayGo (worker_view B.changes B.ended B.called B.logged M.is_time M.is_random G.passed W.called)
-            self.old.offload self.old.job self.old.done.share.log self.old.done.share.log }
-        ensures done { self.new.done ≡ self.old.done }
+        ensures may { MatchBool result
+            (MayGo (worker_view B.changes B.ended B.called B.logged M.is_time M.is_random G.passed W.called) self.old.offload self.old.job self.old.done.share.log self.new.done.share.log)
+            (MayHaveReadCost (worker_view B.changes B.ended B.called B.logged M.is_time M.is_random G.passed W.called) self.old.offload self.old.job self.old.done.share.log self.new.done.share.log) }
+        ensures called { HasCalled self.old.done self.new.done }
         ensures job { self.new.job ≡ self.old.job }
         ensures keys { self.new.keys ≡ self.old.keys }
         ensures offload { self.new.offload ≡ self.old.offload }
@@ -426,9 +430,8 @@ impl<'a, B: Bench, G: Gate, W: Wire, M: TimeSource> DispatcherState<'a, B, G, W,
 }
 
 impl<'a, B: Bench, G: Gate, W: Wire, M: TimeSource> Context<'a, B, G, W, M> {
-    // Returns whether a job is a run without a valid ETag, and its slot's program may take `least`
-    // instructions or more. Reads the slot's receipt if the job is such a run; an empty slot has
-    // none. Nothing is filed.
+    // Returns whether a job is a run without a valid ETag, and its slot's program has a cost of
+    // `least` steps or more. Reads the cost in the slot if the job is such a run.
     fn is_expensive<R: Wait>(
         &self,
         rt: &R,
@@ -436,15 +439,17 @@ impl<'a, B: Bench, G: Gate, W: Wire, M: TimeSource> Context<'a, B, G, W, M> {
         job: &Job,
         log: &mut TrackLog<B::Book>,
     ) -> bool
-        ensures expensive { result ≡ true → IsExpensive (worker_view B.changes B.ended B.called B.logged M.is_time M.is_random G.passed W.called)
-            least job.now }
-        ensures kept { log.new ≡ log.old }
+        ensures { MatchBool result
+            (MayGo (worker_view B.changes B.ended B.called B.logged M.is_time M.is_random G.passed W.called) (Expensive least) job.now log.old log.new)
+            (IsFoundCheap (worker_view B.changes B.ended B.called B.logged M.is_time M.is_random G.passed W.called) least job.now log.old log.new) }
     {
         match &job.ask {
-            Ask::Run(_) if !self.is_valid(job, log) => match self.bench.read_receipt(rt, job) {
-                Some(receipt) => receipt.cost >= least,
-                None => false,
-            },
+            Ask::Run(_) if !self.is_valid(job, log) => {
+                match self.bench.read_cost(rt, job.origin.slot, log) {
+                    Some(cost) => cost >= least,
+                    None => false,
+                }
+            }
             _ => false,
         }
     }
@@ -453,7 +458,8 @@ impl<'a, B: Bench, G: Gate, W: Wire, M: TimeSource> Context<'a, B, G, W, M> {
     // a job needs no lock and no run unless the slot changes. Nothing is filed: when the job is
     // run, it looks at the word again.
     fn is_valid(&self, job: &Job, log: &mut TrackLog<B::Book>) -> bool
-        ensures { log.new ≡ log.old }
+        ensures etags { result ≡ true → job.now.etags.items ≢ [] }
+        ensures kept { log.new ≡ log.old }
     {
         if job.etags.is_empty() {
             return false;

@@ -1,10 +1,12 @@
 //! Laws about workers and their server.
 //!
 //! Each law is the contract of an empty function.
-ghost use Rattle.std.specs.Prelude.{◌≡◌, ◌<◌, ◌≤◌, ◌⊎◌, ℕ, Bool, false, None, Some, List, [], ◌∷◌, ◌++◌};
+ghost use Rattle.std.specs.Prelude.{◌≡◌, ◌<◌, ◌≤◌, ◌⊎◌, ℕ, Bool, false, None, Option, Some, List, [], ◌∷◌, ◌++◌, slice_index};
 ghost use Rattle.coap_msg.specs.declared.types.Endpoint.{Endpoint};
 ghost use Rattle.fc_core.specs.declared.front.Delivered.TheVariants.{Signal};
-ghost use Rattle.fc_calls.specs.Logged.{DrawsId, HandsSignal, InstallsProgram, LoggedCall, LooksAt, NotesTurn, RaisesWord};
+ghost use Rattle.fc_core.specs.Heads.{word_at};
+ghost use Rattle.fc_core.specs.History.{History};
+ghost use Rattle.fc_calls.specs.Logged.{DrawsId, HandsSignal, InstallsProgram, LoggedCall, LooksAt, NotesTurn, RaisesWord, ReadsCost, SkipsIdle};
 ghost use Rattle.fc_core.specs.declared.policy.Policy.{Policy};
 ghost use Rattle.fc_filed.specs.Entries.{front_entries, shard_entries, word_entries};
 ghost use Rattle.fc_filed.specs.Threads.{known_word};
@@ -23,18 +25,19 @@ ghost use Rattle.fc_registry.specs.declared.shard.Made.TheVariants.{Raised};
 ghost use Rattle.fc_registry.specs.declared.note.Noted.{Noted};
 ghost use Rattle.fc_registry.specs.declared.note.Notification.{Notification};
 ghost use Rattle.fc_server.specs.declared.server.Begin.{Begin};
-ghost use Rattle.fc_workers.specs.Asked.{IsLoggedCall, IsServerCall};
-ghost use Rattle.fc_workers.specs.Fronts.{beginning};
+ghost use Rattle.fc_workers.specs.Asked.{IsLoggedCall};
 ghost use Rattle.fc_core.specs.Stage.{Gone};
 ghost use Rattle.fc_core.specs.Stages.{first_stage};
 ghost use Rattle.fc_core.specs.Timers.{timer_job};
 ghost use Rattle.std.specs.List.{All};
 ghost use Rattle.fc_book.specs.Tracks.{HasKey, own_view, track};
-ghost use Rattle.fc_filed.specs.Books.{IsRightForJob};
+ghost use Rattle.fc_book.specs.declared.view.BookView.{BookView};
+ghost use Rattle.fc_filed.specs.Books.{HaveServerHistory, IsRightForJob};
+ghost use Rattle.fc_filed.specs.declared.book_begin.BookBegin.{BookBegin};
 ghost use Rattle.fc_workers.specs.declared.call_log.CallLog.{CallLog};
 ghost use Rattle.fc_filed.specs.JobTracks.{HasJobAt};
 ghost use Rattle.fc_filed.specs.Threads.{HasOwnTrack, key_of_first};
-ghost use Rattle.fc_workers.specs.Called.{KnowsIdle, worker_view};
+ghost use Rattle.fc_workers.specs.Called.{worker_view};
 ghost use Rattle.fc_workers.specs.Filed.{HasFiledFor, HasRightJobs};
 ghost use Rattle.fc_jobs.specs.declared.protocol.Numbered.{Numbered};
 ghost use Rattle.fc_workers.specs.Messages.{IsNewJob, TrackedJob, first_brought};
@@ -43,8 +46,12 @@ ghost use Rattle.fc_workers.specs.Shares.{AreTurns};
 ghost use Rattle.fc_workers.specs.Work.{IsReplied};
 ghost use Rattle.fc_workers.specs.Dispatch.{IsDone};
 ghost use Rattle.fc_filed.specs.Entries.{log_of};
-ghost use Rattle.fc_linear.specs.Parts.{HaveNextNumbers, IsHistoryOf, bringing, history_on};
-ghost use Rattle.fc_server.specs.States.{begin_of};
+ghost use Rattle.fc_linear.specs.Parts.{HaveNextNumbers, IsHistoryOf, RightByParts, bringing, history_on};
+ghost use Rattle.fc_server.specs.Serving.{Serves};
+ghost use Rattle.fc_server.specs.States.{ServerState, confirm_after_of, first_server, server_over};
+ghost use Rattle.fc_store.specs.Stored.{StoredProgram, StoredSlots};
+ghost use Rattle.fc_verify.specs.Accepted.{Accepts};
+ghost use Rattle.fc_verify.specs.Judged.{judged};
 ghost use Rattle.fc_workers.specs.LegalOrder.{HaveRightTracks, server_with, timer_entry};
 ghost use Rattle.fc_workers.specs.Logs.{TrackedLog as Log};
 ghost use Rattle.fc_workers.specs.OneOrder.{HaveOneOrder, filed_in};
@@ -70,25 +77,27 @@ pub fn signals_reach_eight_shards<B: Bench, G: Gate, W: Wire, M: TimeSource>()
         × B.logged (HandsSignal 5 from id reset) e f × B.logged (HandsSignal 6 from id reset) f g × B.logged (HandsSignal 7 from id reset) g new.share.log }
 {}
 
-/// A server with locks uses the confirmation time of its initial policy.
+/// A server with locks uses the confirmation time of its first state.
 ///
 /// A logged notification is that of some observers whose notifications are confirmable after this
 /// time in milliseconds. The notification is at the time of the call or a later one. By default the
 /// confirmation time is 86,400,000 ms, 24 hours (RFC 7641, section 4.5).
 pub fn locked_shards_confirm_in_time<B: Books, D: Device>()
-    ensures default { (id : ℕ) → (beginning default_policy id).confirm_after ≡ 86400000 }
+    ensures default { (stored : StoredSlots) (id : ℕ) → confirm_after_of (server_over stored id default_policy) ≡ 86400000 }
     ensures noted { (turn : Turn) (id now random : ℕ) (told : Notification) (noted : Noted) (before after : Log)
         → turn.slot < 64 → IsLoggedCall B.first D.are_readings (NotesTurn turn id now random told noted) before after
-        → (watch : ObserverList) × (serial : ℕ) × (at : ℕ) × (watch.confirm_after ≡ B.first.confirm_after) × (now ≤ at) × IsNoted told turn id at serial watch noted }
+        → (watch : ObserverList) × (serial : ℕ) × (at : ℕ) × (watch.confirm_after ≡ confirm_after_of B.first) × (now ≤ at) × IsNoted told turn id at serial watch noted }
 {}
 
-/// A shard that is known to be idle has nothing to retransmit, and no observer to notify.
+/// A skipped shard has nothing to retransmit, and no observer to notify.
 ///
-/// This holds of the shard that its operations lead to in some history that fits the log's tracks.
-/// At the time of the call, a tick of it does nothing, and no observer has a pending notification.
-pub fn known_idle_shards_do_nothing<B: Books>()
-    ensures { (index now : ℕ) (log : Log) (known : IsServerCall B.first (KnowsIdle index now log))
-        → let shard = at_time known.idle.leads.shard now in
+/// This holds of the shard to which its calls before the skip lead, in the one order of the
+/// server's calls. At the time of the skip, a tick of it does nothing, and no observer has a
+/// pending notification.
+pub fn skipped_shards_do_nothing()
+    ensures { (begin : ServerState) (logs : List Log) (closed : ClosedServer) (order : HaveOneOrder begin logs closed) (who job index now : ℕ) (earlier later : List FiledEntry)
+        (is : order.calls ≡ earlier ++ record { who = who; job = job; operation = Logged (SkipsIdle index now) } ∷ later)
+        → let shard = at_time (order.skips earlier later (record { who = who; job = job; operation = Logged (SkipsIdle index now) }) is).shard now in
         (ticked_in (overdue_place shard) shard ≡ Quiet) × (due_job (due_place shard) shard ≡ None) }
 {
     idle_shards_do_nothing();
@@ -100,7 +109,7 @@ pub fn known_idle_shards_do_nothing<B: Books>()
 /// other gets 8.
 pub fn two_threads_draw_two_ids()
     ensures { (policy : Policy) (serial : ℕ) (one other : Log) (j k a b : ℕ) (closed : ClosedServer)
-        → HaveOneOrder (record { serial = serial; id = 7; policy = policy }) (one ∷ other ∷ []) closed
+        → HaveOneOrder (first_server (record { serial = serial; id = 7; policy = policy })) (one ∷ other ∷ []) closed
         → front_entries (filed_in one) ≡ record { who = one.who; job = j; operation = Logged (DrawsId 0 (Some a)) } ∷ []
         → front_entries (filed_in other) ≡ record { who = other.who; job = k; operation = Logged (DrawsId 0 (Some b)) } ∷ []
         → ((a ≡ 7) × (b ≡ 8)) ⊎ ((a ≡ 8) × (b ≡ 7)) }
@@ -109,14 +118,22 @@ pub fn two_threads_draw_two_ids()
 /// Two threads of a server that install a program each in slot 13 get two serials.
 ///
 /// They call its shard, shard 5, for nothing else. If the slots begin at serial 7, one of the
-/// installs gets serial 8, and the other gets 9.
+/// installs gets serial 8, and the other gets 9. If slot 13 is stored at serial 5, with a program
+/// or without one, they get 6 and 7.
 pub fn two_threads_install_at_two_serials()
-    ensures { (policy : Policy) (id : ℕ) (one other : Log) (job also : Job) (p q : Program) (j k a b : ℕ) (c d : Bool) (closed : ClosedServer)
+    ensures new { (policy : Policy) (id : ℕ) (one other : Log) (job also : Job) (p q : Program) (j k a b : ℕ) (c d : Bool) (closed : ClosedServer)
         → job.origin.slot ≡ 13 → also.origin.slot ≡ 13
-        → HaveOneOrder (record { serial = 7; id = id; policy = policy }) (one ∷ other ∷ []) closed
+        → HaveOneOrder (first_server (record { serial = 7; id = id; policy = policy })) (one ∷ other ∷ []) closed
         → shard_entries 5 (filed_in one) ≡ record { who = one.who; job = j; operation = Logged (InstallsProgram job p (Raised a c)) } ∷ []
         → shard_entries 5 (filed_in other) ≡ record { who = other.who; job = k; operation = Logged (InstallsProgram also q (Raised b d)) } ∷ []
         → ((a ≡ 8) × (b ≡ 9)) ⊎ ((a ≡ 9) × (b ≡ 8)) }
+    ensures stored { (stored : StoredSlots) (o : Option StoredProgram) (policy : Policy) (id : ℕ) → stored 13 ≡ record { serial = 5; program = o }
+        → (one other : Log) (job also : Job) (p q : Program) (j k a b : ℕ) (c d : Bool) (closed : ClosedServer)
+        → job.origin.slot ≡ 13 → also.origin.slot ≡ 13
+        → HaveOneOrder (server_over stored id policy) (one ∷ other ∷ []) closed
+        → shard_entries 5 (filed_in one) ≡ record { who = one.who; job = j; operation = Logged (InstallsProgram job p (Raised a c)) } ∷ []
+        → shard_entries 5 (filed_in other) ≡ record { who = other.who; job = k; operation = Logged (InstallsProgram also q (Raised b d)) } ∷ []
+        → ((a ≡ 6) × (b ≡ 7)) ⊎ ((a ≡ 7) × (b ≡ 6)) }
 {}
 
 /// A worker that runs a job to its end leaves the tracks of its jobs right.
@@ -154,12 +171,15 @@ pub fn received_jobs_have_right_tracks<B: Bench, G: Gate, W: Wire, M: TimeSource
 /// They are right if each is right for its job, and one thread produced all jobs in the order of
 /// their keys. Each call for a job is on a track with a key from `first` on.
 ///
-/// The history is that of the calls as events. Each snapshot in it that found a program has a
-/// meaning. The history's server is the closed one: its front, the slots, times and observers of
-/// its shards, and the head words at the end of the order.
+/// If a history leaves the first server without jobs, the calls as events continue it. Each
+/// snapshot that found a program has a meaning. The longer history's server is the closed one: its
+/// front, the slots, times and observers of its shards, and the head words at the end of the order.
+/// The calls of each part lead it to the closed server, and those of each job follow its stages.
 pub fn right_tracks_make_a_legal_order()
-    ensures { (begin : Begin) (logs : List Log) (closed : ClosedServer) (first : ℕ) (order : HaveOneOrder begin logs closed) → HaveRightTracks first logs
-        → IsHistoryOf (history_on (begin_of begin) (log_of first order.calls)) (server_with closed order.words) }
+    ensures history { (begin : ServerState) (logs : List Log) (closed : ClosedServer) (first : ℕ) (order : HaveOneOrder begin logs closed) → HaveRightTracks first logs
+        → (before : History) → Serves before begin [] → IsHistoryOf (history_on before (log_of first order.calls)) (server_with closed order.words) }
+    ensures right { (begin : ServerState) (logs : List Log) (closed : ClosedServer) (first : ℕ) (order : HaveOneOrder begin logs closed) → HaveRightTracks first logs
+        → RightByParts (server_with closed order.words) begin [] (log_of first order.calls) }
 {}
 
 /// The timers of slots 5 and 6 fired in the one thread of a server, and each job has a right track.
@@ -203,7 +223,7 @@ pub fn workers_forget_no_head_word<B: Bench>()
 /// Each does so once, and neither calls another head word. The look finds 0 or 3.
 pub fn two_threads_raise_and_look()
     ensures { (begin : Begin) (one other : Log) (j k a : ℕ) (closed : ClosedServer)
-        → HaveOneOrder begin (one ∷ other ∷ []) closed
+        → HaveOneOrder (first_server begin) (one ∷ other ∷ []) closed
         → word_entries (filed_in one) ≡ record { who = one.who; job = j; operation = Logged (RaisesWord 5 3) } ∷ []
         → word_entries (filed_in other) ≡ record { who = other.who; job = k; operation = Logged (LooksAt 5 a) } ∷ []
         → (a ≡ 0) ⊎ (a ≡ 3) }
@@ -211,19 +231,51 @@ pub fn two_threads_raise_and_look()
 
 /// A look at the head word of slot 5 that follows a raise to 7 finds 7 or more.
 ///
-/// It follows the raise in the order of a server's filed calls. The two may be by any threads, and
-/// other calls may be between them. A look before all raises finds 0, and so does one that follows
-/// only a raise of slot 6. A look that follows raises to 7 and then to 4, and no other, finds 7.
+/// It follows the raise in the order of the filed calls of a server with empty slots. The two may
+/// be by any threads, and other calls may be between them. A look before all raises finds 0, and so
+/// does one that follows only a raise of slot 6. A look that follows raises to 7 and then to 4, and
+/// no other, finds 7. If the server begins with other head words, a look before all raises finds
+/// slot 5's first word. It is 11 if the slot is stored at serial 5 with a program that is accepted.
 pub fn a_look_finds_the_raises_before_it()
-    ensures least { (begin : Begin) (logs : List Log) (closed : ClosedServer) (order : HaveOneOrder begin logs closed) (j k who by a : ℕ) (earlier between later : List FiledEntry)
+    ensures least { (begin : Begin) (logs : List Log) (closed : ClosedServer) (order : HaveOneOrder (first_server begin) logs closed) (j k who by a : ℕ) (earlier between later : List FiledEntry)
         → order.calls ≡ earlier ++ record { who = who; job = j; operation = Logged (RaisesWord 5 7) } ∷ between ++ record { who = by; job = k; operation = Logged (LooksAt 5 a) } ∷ later
         → 7 ≤ a }
-    ensures before { (begin : Begin) (logs : List Log) (closed : ClosedServer) (order : HaveOneOrder begin logs closed) (k by a : ℕ) (earlier later : List FiledEntry)
+    ensures before { (begin : Begin) (logs : List Log) (closed : ClosedServer) (order : HaveOneOrder (first_server begin) logs closed) (k by a : ℕ) (earlier later : List FiledEntry)
         → order.calls ≡ earlier ++ record { who = by; job = k; operation = Logged (LooksAt 5 a) } ∷ later → word_entries earlier ≡ [] → a ≡ 0 }
-    ensures other { (begin : Begin) (logs : List Log) (closed : ClosedServer) (order : HaveOneOrder begin logs closed) (j k who by a : ℕ) (earlier later : List FiledEntry)
+    ensures first { (begin : ServerState) (logs : List Log) (closed : ClosedServer) (order : HaveOneOrder begin logs closed) (k by a : ℕ) (earlier later : List FiledEntry)
+        → order.calls ≡ earlier ++ record { who = by; job = k; operation = Logged (LooksAt 5 a) } ∷ later → word_entries earlier ≡ [] → a ≡ word_at begin.words 5 }
+    ensures stored { (stored : StoredSlots) (id : ℕ) (policy : Policy) (program : StoredProgram) (accepted : Program) → judged program.image ≡ Accepts accepted
+        → stored 5 ≡ record { serial = 5; program = Some program }
+        → (logs : List Log) (closed : ClosedServer) (order : HaveOneOrder (server_over stored id policy) logs closed) (k by a : ℕ) (earlier later : List FiledEntry)
+        → order.calls ≡ earlier ++ record { who = by; job = k; operation = Logged (LooksAt 5 a) } ∷ later → word_entries earlier ≡ [] → a ≡ 11 }
+    ensures other { (begin : Begin) (logs : List Log) (closed : ClosedServer) (order : HaveOneOrder (first_server begin) logs closed) (j k who by a : ℕ) (earlier later : List FiledEntry)
         → order.calls ≡ earlier ++ record { who = by; job = k; operation = Logged (LooksAt 5 a) } ∷ later
         → word_entries earlier ≡ record { who = who; job = j; operation = Logged (RaisesWord 6 7) } ∷ [] → a ≡ 0 }
-    ensures greatest { (begin : Begin) (logs : List Log) (closed : ClosedServer) (order : HaveOneOrder begin logs closed) (i j k one other by a : ℕ) (earlier later : List FiledEntry)
+    ensures greatest { (begin : Begin) (logs : List Log) (closed : ClosedServer) (order : HaveOneOrder (first_server begin) logs closed) (i j k one other by a : ℕ) (earlier later : List FiledEntry)
         → order.calls ≡ earlier ++ record { who = by; job = k; operation = Logged (LooksAt 5 a) } ∷ later
         → word_entries earlier ≡ record { who = one; job = i; operation = Logged (RaisesWord 5 7) } ∷ record { who = other; job = j; operation = Logged (RaisesWord 5 4) } ∷ [] → a ≡ 7 }
+{}
+
+/// A read of a cost finds the cost of the program that was installed before it.
+///
+/// Slot 13 is one of shard 5. In the order of a server's filed calls, shard 5 has an install in
+/// slot 13 and a read of the cost there, and no other call. The two may be by any threads. If the
+/// slots begin empty, a read before all other calls of shard 5 finds slot 13 empty.
+pub fn costs_are_of_earlier_installs()
+    ensures after { (stored : StoredSlots) (id : ℕ) (policy : Policy) (logs : List Log) (closed : ClosedServer) (order : HaveOneOrder (server_over stored id policy) logs closed) (who by j k serial : ℕ) (job : Job) (p : Program) (created : Bool) (cost : Option ℕ)
+        → job.origin.slot ≡ 13
+        → shard_entries 5 order.calls ≡ record { who = who; job = j; operation = Logged (InstallsProgram job p (Raised serial created)) } ∷ record { who = by; job = k; operation = Logged (ReadsCost 13 cost) } ∷ []
+        → cost ≡ Some p.cost }
+    ensures before { (begin : Begin) (logs : List Log) (closed : ClosedServer) (order : HaveOneOrder (first_server begin) logs closed) (by k : ℕ) (cost : Option ℕ) (later : List FiledEntry)
+        → shard_entries 5 order.calls ≡ record { who = by; job = k; operation = Logged (ReadsCost 13 cost) } ∷ later → cost ≡ None }
+{}
+
+/// The table of a new server's book has the head words of the server's programs.
+///
+/// If slot 13 is stored at serial 5 with a program that is accepted, word 29 of the table is 11:
+/// sixteen words come before the head words.
+pub fn new_tables_have_the_head_words_of_programs()
+    ensures { (start : BookBegin) (words : List ℕ) (views : List (BookView FiledEntry)) (history : HaveServerHistory start words views) (stored : StoredSlots) (id : ℕ) (policy : Policy) (k : StoredProgram) (p : Program)
+        → history.log ≡ [] → start.first ≡ server_over stored id policy → judged k.image ≡ Accepts p
+        → stored 13 ≡ record { serial = 5; program = Some k } → slice_index words 29 ≡ 11 }
 {}

@@ -65,8 +65,7 @@
 //!   server's book. The code shows that gates, transmitters and clocks get no other `CallLog`.
 //!   Calls without a log change nothing. One such call can stand for a later one with the same
 //!   result. They are the random words and the calls of `BenchCall`: the times until which shards
-//!   stay idle, the gauges, and the prices of jobs. The call that skips an idle shard also names
-//!   the state of the log.
+//!   stay idle, the shards that aren't idle now, the gauges, and the numbers of observers.
 //! - **A request's job** reaches its answer by a list of calls from its first stage. Each is the
 //!   call that its stage needs, with the result of its shard at some slot. At most eight take a
 //!   snapshot. A look reads the head word of the job's slot, or, for a list, of each slot in order.
@@ -97,15 +96,14 @@
 //! - A dispatcher passes a signal to each of eight shards, once, as it was received. It asks the
 //!   given shard once, and advances the front to the given time once. Its calls are in the log of
 //!   its statistics, as a worker's are.
-//! - An expensive job is a run of at least a given cost, found in one of two ways. Either it is a
-//!   request without ETags, and a snapshot for it would have had a program of such a cost. Or a
-//!   receipt of its slot has such a cost. A server with nine locks finds the cost in *some* shard
-//!   with the index of the slot. Before a dispatcher sends a job, it files nothing for it but the
-//!   call that produced it. Its log has at most one call since then: for the readings of a
-//!   snapshot that wasn't taken. A job that isn't sent is run here, with at most eight snapshots.
-//! - **A server with nine locks** calls a front that began with the server's policy and first
-//!   message ID, and has been changed only by calls since. Each shard that a call meets has the
-//!   policy's time for confirmable notifications.
+//! - An expensive job is a run of at least a given cost. The cost is read in the job's slot, and
+//!   the read is a logged call. Before a dispatcher sends a job, it files nothing for it but the
+//!   call that produced it. Its log has at most two calls since then: for the readings of a
+//!   snapshot that wasn't taken, and for the cost. A job that isn't sent is run here, with at most
+//!   eight snapshots.
+//! - **A server with nine locks** calls a front that began as that of the server's first state, and
+//!   only calls have changed it since. Each shard that a call meets has the first state's time for
+//!   confirmable notifications.
 //! - A snapshot, an install, a removal and a receipt have the results of a shard with the index of
 //!   the job's slot, in some state. A notification has the result of a shard with the index of the
 //!   lease's slot, for the given lease, message ID, time and content.
@@ -113,11 +111,12 @@
 //!   result of some front or shard. The time of the result is the given one or a later one. Each
 //!   change of a slot is counted on the worker's tally. Once the server is closed, the serials of
 //!   each shard have risen by exactly what was counted.
-//! - Each call of the front, each call that may change a shard, and each receipt is filed in the
-//!   server's book, once, by its caller. The entry has the call's arguments and its result. It is
-//!   then the last one on the tracks of its part and of the caller. The part's entries lead from
-//!   the server's first front, or first shard of the index, to the one under the lock. So two calls
-//!   of a part are of one part, the server's own, in one order.
+//! - Each call of the front, each call that may change a shard, each receipt and each read of a
+//!   cost is filed in the server's book, once, by its caller. The entry has the call's arguments
+//!   and its result. It is then the last one on the tracks of its part and of the caller. The
+//!   part's entries lead from the server's first front, or first shard of the index, to the one
+//!   under the lock. So two calls of a part are of one part, the server's own, in one order. A skip
+//!   is filed on the caller's track.
 //! - Each look at a head word and each raise is filed too, by the step that reads or raises the
 //!   word. A worker also files that an image breaks a rule, or that memory for its program can't be
 //!   allocated. No other call is filed.
@@ -125,21 +124,24 @@
 //!   filed exactly the calls in the list with its key, in that order, and no call is of another
 //!   thread. The calls of the front lead from the server's first front to its last, and those of
 //!   each of the eight shards from the server's first shard to its last. The looks at head words
-//!   and the raises lead the words from 64 zeros (`HaveOneOrder`). So two threads that draw a
-//!   message ID each draw two, and two that install a program each in one slot get two serials
-//!   (`laws`). A look finds exactly the word that the raises before it left, by `HaveOneOrder`.
+//!   and the raises lead the words from the first ones (`HaveOneOrder`). So two threads that draw
+//!   one message ID each get different ones, and two that install a program each in one slot get
+//!   two serials (`laws`). A look finds exactly the word that the raises before it left, by
+//!   `HaveOneOrder`.
 //! - **Tracks of jobs**: a job's track is right if its first entry produces the job, and the others
 //!   are the operations that its stages need. Each job's track in a dispatcher's log is right. The
 //!   jobs that the dispatcher produced have the next keys, in order (`Dispatcher::close`). A job
 //!   that is sent takes its track along, with one entry: the call that produced it (`JobMessage`).
 //!   The entries that a worker files for a job lead the job from its first stage to its end. So a
 //!   worker keeps its tracks right (`laws`).
-//! - **A legal history**: the one order is a legal history, and its server is the closed one, under
-//!   two conditions. The tracks of all jobs are right, and one thread produced the jobs in the
-//!   order of their keys (`laws`). The pools of `fc_service` meet both (`HaveLegalOrder`).
-//! - If a dispatcher skips a shard, the shard is idle at that time, by its calls in *some* history
-//!   that fits the dispatcher's tracks (`KnowsIdle`). Such a shard has nothing to retransmit, and
-//!   no observer to notify (`laws`). Any other shard is advanced under its lock if it is idle.
+//! - **A legal history**: the one order legally continues each history that leaves the first state
+//!   without jobs, under two conditions. The tracks of all jobs are right, and one thread produced
+//!   the jobs in the order of their keys (`laws`). The pools of `fc_service` meet both
+//!   (`HaveLegalOrder`). The longer history's server is the closed one. Reads of costs and skips
+//!   are no events of it.
+//! - If a dispatcher skips a shard, the skip is in the one order, and the shard is idle at that
+//!   place of the order. Such a shard has nothing to retransmit, and no observer to notify
+//!   (`laws`). Any other shard is advanced under its lock if it is idle.
 //! - The gauges that a server returns are those of a front that began so, at the given time, and
 //!   the numbers of observers are those of a shard with the given index. Neither read changes
 //!   anything or is filed. A dispatcher returns how many jobs it sent.

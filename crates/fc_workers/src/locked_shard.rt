@@ -1,13 +1,13 @@
 //! A shard guarded by a lock, as [`Locked`](crate::server::Locked) has eight.
-ghost use Rattle.std.specs.Prelude.{◌≡◌, ℕ, ◌+◌, ◌*◌, ◌<◌, [], true, replicate};
+ghost use Rattle.std.specs.Prelude.{◌≡◌, ℕ, ◌+◌, ◌<◌, [], true};
 ghost use Rattle.fc_book.specs.Tracks.{with_next};
 ghost use Rattle.fc_registry.specs.Shards.{shard_at};
 ghost use Rattle.fc_registry.specs.Slots.{Shard as Seen};
-ghost use Rattle.fc_calls.specs.Kept.{HasEightSlots, confirm_times, serials};
+ghost use Rattle.fc_server.specs.States.{CanBeginWith};
+ghost use Rattle.fc_calls.specs.Kept.{serials};
 ghost use Rattle.fc_calls.specs.Doings.{PassesIfIdle};
 ghost use Rattle.fc_calls.specs.Logged.{AdvancesIdle};
 ghost use Rattle.fc_linear.specs.Operations.{Logged, ShardDoes};
-ghost use Rattle.fc_linear.specs.Parts.{first_server};
 ghost use Rattle.fc_filed.specs.Tracked.{IsPartClosed};
 ghost use Rattle.fc_workers.specs.Asked.{IsAsked};
 ghost use Rattle.fc_workers.specs.Counts.{counts};
@@ -24,13 +24,11 @@ use fc_registry::Shard;
 use std::sync::ledger::Blank;
 use std::sync::{Mutex, Wait};
 
-// The shard of an index, and the serial that each of its slots began with.
+// The shard of an index.
 #[derive(Drop)]
 struct ShardState<const INDEX: u8, B: Books> {
     counted: Counted<B, ShardOf<ServerOf<B>, INDEX>, BookOf<B, INDEX>>,
-    first_serial: u64,
     ghost index: { counted.shard.index ≡ INDEX },
-    ghost opened: { counted.opened ≡ 8 * first_serial },
 }
 
 /// The shard with this index, 0 to 7, its track and its ledger, guarded by a lock.
@@ -49,11 +47,9 @@ impl<const INDEX: u8, B: Books> LockedShard<INDEX, B> {
         blank: Blank,
         new_server: &mut NewServer<B>,
     ) -> (LockedShard<INDEX, B>, Tally<BookOf<B, INDEX>>)
-        requires index { (shard.index ≡ INDEX) × (INDEX < 8) }
-        requires slots { HasEightSlots shard }
-        requires serials { serials shard ≡ 8 * new_server.old.first_serial }
-        requires confirms { confirm_times shard ≡ replicate 8 B.first.confirm_after }
-        requires first { shard ≡ shard_at (first_server B.begin).shards INDEX }
+        requires index { INDEX < 8 }
+        requires can { CanBeginWith B.first }
+        requires first { shard ≡ shard_at B.first.shards INDEX }
         requires ledger { (blank.name ≡ B.names INDEX) × (blank.parts ≡ B.parts) × (0 < blank.parts) }
         requires may_begin { new_server.old.first.may_begin ≡ true }
         requires next { new_server.old.first.next ≡ INDEX + 1 }
@@ -62,12 +58,8 @@ impl<const INDEX: u8, B: Books> LockedShard<INDEX, B> {
     {
         let track = new_server.first.begin_part(&new_server.book);
         let (counted, tally) = Counted::open(shard, track, blank);
-        let state = ShardState {
-            counted,
-            first_serial: new_server.first_serial,
-        };
         let locked = LockedShard {
-            state: Mutex::new(state),
+            state: Mutex::new(ShardState { counted }),
         };
         (locked, tally)
     }
@@ -147,23 +139,20 @@ impl<const INDEX: u8, B: Books> LockedShard<INDEX, B> {
 
     /// Closes the shard and its ledger, with the tally `all` of all the ledger's parts.
     ///
-    /// Moves the shard's track to `tracks`. Returns the shard and the serial that its slots began
-    /// with. The sum of the shard's serials has risen by the changes that were counted.
+    /// Moves the shard's track to `tracks`, and returns the shard. The sum of the shard's serials
+    /// has risen by the changes that were counted, since the server began.
     pub(crate) fn close(
         self,
         book: &ServerBook<ServerOf<B>>,
         tracks: &mut ServerTracks<ServerOf<B>>,
         all: &mut Tally<BookOf<B, INDEX>>,
-    ) -> (Shard, u64)
+    ) -> Shard
         requires { all.old.parts ≡ B.parts }
-        ensures risen { serials result.0 ≡ 8 * result.1 + all.old.changes }
+        ensures risen { serials result ≡ serials (shard_at B.first.shards INDEX) + all.old.changes }
         ensures tally { all.new ≡ all.old }
-        ensures closed { IsPartClosed ShardDoes (INDEX + 1) (shard_at (first_server B.begin).shards INDEX) result.0 tracks.old tracks.new }
+        ensures closed { IsPartClosed ShardDoes (INDEX + 1) (shard_at B.first.shards INDEX) result tracks.old tracks.new }
     {
-        let ShardState {
-            counted,
-            first_serial,
-        } = self.state.into_inner();
-        (counted.close(book, tracks, all), first_serial)
+        let ShardState { counted } = self.state.into_inner();
+        counted.close(book, tracks, all)
     }
 }

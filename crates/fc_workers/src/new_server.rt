@@ -2,10 +2,9 @@
 use crate::books::{Books, ServerOf};
 use fc_filed::{ServerBook, ServerTracks};
 
-/// The book of a new server, the owner of its further tracks, and the first serial of its slots.
+/// The book of a new server, and the owner of its further tracks.
 #[derive(Drop)]
 pub(crate) struct NewServer<B: Books> {
     pub(crate) book: ServerBook<ServerOf<B>>,
     pub(crate) first: ServerTracks<ServerOf<B>>,
-    pub(crate) first_serial: u64,
 }

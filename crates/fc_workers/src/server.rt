@@ -5,13 +5,14 @@
 //! Each shard's changes are counted in a ledger of its own, which a type represents. One type
 //! parameter names all eight ([`Books`](crate::books::Books)): a function that opens a server is
 //! generic in it. Its caller passes `Brand`. In its `Invariants.antt` the caller chooses the names
-//! and parts of the ledgers, from the function's argument `blanks`, and the server's initial state:
+//! and parts of the ledgers from its argument `blanks`, and the server's table, first key and first
+//! state from `book`:
 //!
 //! ```text
 //! abbrev pub ghosts-run : goal.ghosts-run
 //! ghosts-run a = record
 //!     { names = names_of a.blanks; parts = a.blanks.parts;
-//!       first = beginning a.policy.now a.first_id }
+//!       table = a.book.table; first_job = a.book.first_job; first = a.book.first }
 //! ```
 //!
 //! No type in that function's signature may name a ledger. The function opens the server, splits
@@ -26,15 +27,15 @@ ghost use Rattle.fc_core.specs.Receiving.{emission_if};
 ghost use Rattle.fc_calls.specs.Doings.{PassesIfIdle};
 ghost use Rattle.fc_calls.specs.Logged.{AdvancesIdle};
 ghost use Rattle.fc_linear.specs.Operations.{Logged};
-ghost use Rattle.fc_linear.specs.Parts.{first_server};
 ghost use Rattle.fc_registry.specs.Notes.{noted_as};
 ghost use Rattle.fc_registry.specs.Shards.{shard_at};
-ghost use Rattle.fc_registry.specs.Slots.{IsOwned, Shard as Seen, last_serial};
+ghost use Rattle.fc_registry.specs.Slots.{IsOwned, Shard as Seen};
 ghost use Rattle.fc_registry.specs.Turns.{written_if};
 ghost use Rattle.fc_registry.specs.Views.{HasSize, taken_with};
 ghost use Rattle.fc_workers.specs.Asked.{IsAsked, IsLoggedCall, IsServerCall, shard_called};
 ghost use Rattle.fc_workers.specs.Filed.{locked_files};
-ghost use Rattle.fc_workers.specs.Fronts.{beginning};
+ghost use Rattle.fc_server.specs.States.{CanBeginWith};
+ghost use Rattle.fc_workers.specs.Closing.{each_shard};
 ghost use Rattle.fc_workers.specs.Logs.{TrackedLog, with_filed_if};
 ghost use Rattle.fc_workers.specs.Messages.{first_brought};
 ghost use Rattle.fc_workers.specs.Naming.{AreNamed};
@@ -60,11 +61,11 @@ use crate::track_log::{TrackLog, begin_logs};
 use crate::unassigned::Unassigned;
 use coap_msg::{Emission, Endpoint};
 use fc_calls::calls::{
-    Commit, CountObservers, Describe, GiveUp, IdleUntil, Install, NextDue, Note, Remove, Signal,
-    Take, Tick,
+    Commit, CountObservers, Describe, GiveUp, IdleUntil, Install, NextDue, Note, ReadCost, Remove,
+    Signal, Take, Tick,
 };
 use fc_calls::{Change, ShardCall};
-use fc_core::{Answer, Front, FrontGauges, Handled, Policy, Responded};
+use fc_core::{Answer, FrontGauges, Handled, Responded};
 use fc_filed::calls::TakeIfCheap;
 use fc_filed::{FiledCall, NewServerBook, ServerBook, ServerTracks};
 use fc_help::Readings;
@@ -72,7 +73,7 @@ use fc_machine::Outcome;
 use fc_observe::{Ticked, Turn};
 use fc_registry::{
     Committed, Job, Made, NoteOutcome, Notification, PLACES, Receipt, Removal, SHARDS, Shard,
-    SlotNumber, SlotSnapshot, Taken, Ticket, make_shards,
+    SlotNumber, SlotSnapshot, Taken, Ticket,
 };
 use fc_verify::Verified;
 use std::alloc::{AllocError, Global};
@@ -125,32 +126,20 @@ fn unassigned_of<B: Books>(
     }
 }
 
-// Makes a front with this policy, and begins its track in the book. Returns the front, and what the
-// server's shards begin with.
-fn begin_front<B: Books>(
-    alloc: Global,
-    first_serial: u64,
-    first_id: u16,
-    policy: &Policy,
-    book: NewServerBook,
-) -> Result<(BegunFront<B>, NewServer<B>), AllocError>
+// Begins the track of the server's first front in the book. Returns the front, the book with its
+// owner, and the server's first shards.
+fn begin_front<B: Books>(book: NewServerBook) -> (BegunFront<B>, NewServer<B>, Vec<Shard>)
     requires table { book.table ≡ B.table }
     requires threads { book.first_job ≡ B.first_job }
-    requires book_begins { book.begin ≡ B.begin }
-    requires first { B.first ≡ beginning policy.now first_id }
-    requires begin { (first_server B.begin).front ≡ B.first.front }
-    ensures serial { IfOk result (λ r. r.1.first_serial ≡ first_serial) }
-    ensures first { IfOk result (λ r. (r.1.first.may_begin ≡ true) × (r.1.first.next ≡ 1)) }
+    requires server { book.first ≡ B.first }
+    ensures first { (result.1.first.may_begin ≡ true) × (result.1.first.next ≡ 1) }
+    ensures shards { result.2.items ≡ each_shard B.first.shards }
+    ensures can { CanBeginWith B.first }
 {
-    let (book, mut first) = book.with_name::<ServerOf<B>>();
-    let front = Front::new(alloc, policy, first_id)?;
+    let (book, mut first, server) = book.with_name::<ServerOf<B>>();
+    let (front, shards) = server.into_parts();
     let front = BegunFront::new(front, first.begin_part(&book));
-    let new_server = NewServer {
-        book,
-        first,
-        first_serial,
-    };
-    Ok((front, new_server))
+    (front, NewServer { book, first }, shards)
 }
 
 // Returns the index of the shard that owns a slot.
@@ -177,25 +166,21 @@ pub struct Locked<'a, B: Books, D: Device> {
     shard5: LockedShard<5, B>,
     shard6: LockedShard<6, B>,
     shard7: LockedShard<7, B>,
-    ghost begun: { beginning B.begin.policy B.begin.id ≡ B.first },
+    ghost eight: { length B.first.shards ≡ 8 },
 }
 
 impl<'a, B: Books, D: Device> Locked<'a, B, D> {
-    /// Makes a server with slots 0 to 63 empty, each at `first_serial`.
+    /// Makes a server that begins as the first server of `book`.
     ///
-    /// It has this policy, and draws `first_id` first. Its programs get the readings of `device`.
-    /// It opens the ledgers, and the unassigned shares are all their parts. The calls of its front,
-    /// shards and head words are filed in `book`. Returns the server, the unassigned shares, a log
-    /// for each thread of the book, and the right to begin the tracks of jobs. Nothing is filed in
-    /// the logs yet.
+    /// Its programs get the readings of `device`. It opens the ledgers, and the unassigned shares
+    /// are all their parts. The calls of its front, shards and head words are filed in `book`.
+    /// Returns the server, the unassigned shares, a log for each thread of the book, and the right
+    /// to begin the tracks of jobs. Nothing is filed in the logs yet.
     ///
     /// # Errors
     /// Returns `AllocError` if memory for the server can't be allocated.
     pub fn new(
         alloc: Global,
-        first_serial: u64,
-        first_id: u16,
-        policy: &Policy,
         device: &'a D,
         blanks: Blanks,
         book: NewServerBook,
@@ -208,28 +193,18 @@ impl<'a, B: Books, D: Device> Locked<'a, B, D> {
         ),
         AllocError,
     >
-        requires serial { first_serial ≤ last_serial }
         requires names { AreNamed blanks B.names }
         requires books { blanks.parts ≡ B.parts }
-        requires first { B.first ≡ beginning policy.now first_id }
         requires table { book.table ≡ B.table }
         requires threads { book.first_job ≡ B.first_job }
-        requires book_begins { book.begin ≡ B.begin }
-        requires begin { B.begin ≡ record { serial = first_serial; id = first_id; policy = policy.now } }
+        requires server { book.first ≡ B.first }
         ensures unassigned { IfOk result (λ r. r.1 ≡ record { parts = blanks.parts; changes = no_changes; ended = 0 }) }
         ensures logs { IfOk result (λ r. 9 + vec_len r.2 ≡ B.first_job) }
         ensures new_logs { IfOk result (λ r. All IsNewLog r.2.items) }
         ensures keys { IfOk result (λ r. r.3 ≡ first_brought B.first_job) }
     {
         let threads = book.threads();
-        let (front, mut new_server) = begin_front::<B>(
-            alloc,
-            first_serial,
-            first_id,
-            policy,
-            book,
-        )?;
-        let mut shards = make_shards(alloc, first_serial, policy.confirm_after)?;
+        let (front, mut new_server, mut shards) = begin_front::<B>(book);
         let shard7 = last_of(&mut shards);
         let shard6 = last_of(&mut shards);
         let shard5 = last_of(&mut shards);
@@ -246,11 +221,7 @@ impl<'a, B: Books, D: Device> Locked<'a, B, D> {
         let (shard5, tally5) = LockedShard::new(shard5, blanks.blank5, &mut new_server);
         let (shard6, tally6) = LockedShard::new(shard6, blanks.blank6, &mut new_server);
         let (shard7, tally7) = LockedShard::new(shard7, blanks.blank7, &mut new_server);
-        let NewServer {
-            book,
-            mut first,
-            ..
-        } = new_server;
+        let NewServer { book, mut first } = new_server;
         let logs = begin_logs(alloc, &book, &mut first, threads)?;
         let server = Locked {
             device,
@@ -428,40 +399,40 @@ impl<'a, B: Books, D: Device> Locked<'a, B, D> {
     /// The serials of each shard have risen by the changes that were counted. The result has these
     /// counts. If `tracks` has the tracks of all threads' logs, the filed calls have one order.
     /// Each thread's calls are in its order. Those of the front, and those of each shard, lead from
-    /// the first one to the result's. Those of the head words lead from 64 zeros.
+    /// the first one to the result's. Those of the head words lead from the first words.
     pub fn close(
         self,
         unassigned: &mut Unassigned<B>,
         mut tracks: ServerTracks<ServerOf<B>>,
     ) -> ClosedServer
         requires { unassigned.old.parts ≡ B.parts }
-        ensures risen { map serials result.shards ≡ sums (map (λ n. 8 * n) result.first_serials) unassigned.old.changes }
+        ensures risen { map serials result.shards ≡ sums (map serials B.first.shards) unassigned.old.changes }
         ensures shown { result.changes ≡ map saturated unassigned.old.changes }
-        ensures order { (logs : List TrackedLog) → HasTracksOf B.first_job logs tracks → 9 + length logs ≡ B.first_job → HaveOneOrder B.begin logs result }
+        ensures order { (logs : List TrackedLog) → HasTracksOf B.first_job logs tracks → 9 + length logs ≡ B.first_job → HaveOneOrder B.first logs result }
     {
         let front = self.front.into_inner().close(&self.book, &mut tracks);
-        let (shard0, first0) = self
+        let shard0 = self
             .shard0
             .close(&self.book, &mut tracks, &mut unassigned.tally0);
-        let (shard1, first1) = self
+        let shard1 = self
             .shard1
             .close(&self.book, &mut tracks, &mut unassigned.tally1);
-        let (shard2, first2) = self
+        let shard2 = self
             .shard2
             .close(&self.book, &mut tracks, &mut unassigned.tally2);
-        let (shard3, first3) = self
+        let shard3 = self
             .shard3
             .close(&self.book, &mut tracks, &mut unassigned.tally3);
-        let (shard4, first4) = self
+        let shard4 = self
             .shard4
             .close(&self.book, &mut tracks, &mut unassigned.tally4);
-        let (shard5, first5) = self
+        let shard5 = self
             .shard5
             .close(&self.book, &mut tracks, &mut unassigned.tally5);
-        let (shard6, first6) = self
+        let shard6 = self
             .shard6
             .close(&self.book, &mut tracks, &mut unassigned.tally6);
-        let (shard7, first7) = self
+        let shard7 = self
             .shard7
             .close(&self.book, &mut tracks, &mut unassigned.tally7);
         tracks.attest(&self.book);
@@ -470,9 +441,6 @@ impl<'a, B: Books, D: Device> Locked<'a, B, D> {
             shards: [
                 shard0, shard1, shard2, shard3, shard4, shard5, shard6, shard7,
             ],
-            first_serials: [
-                first0, first1, first2, first3, first4, first5, first6, first7,
-            ],
             changes: unassigned.shown_each(),
         }
     }
@@ -480,8 +448,8 @@ impl<'a, B: Books, D: Device> Locked<'a, B, D> {
 
 /// A call of the front or of a shard locks that part, and no other, and calls it.
 ///
-/// Reads and raises of head words and reads of idle words take no lock. Neither do the filing of an
-/// image that isn't installed and a call of the device.
+/// Reads and raises of head words and skips of idle shards take no lock. Neither do the filing of
+/// an image that isn't installed and a call of the device.
 impl<'a, B: Books, D: Device> Bench for Locked<'a, B, D> {
     ghost called = { IsServerCall B.first };
 
@@ -564,7 +532,7 @@ impl<'a, B: Books, D: Device> Bench for Locked<'a, B, D> {
         readings: &Readings,
         found: &mut SlotSnapshot,
         log: &mut TrackLog<ServerOf<B>>,
-    ) -> Option<Taken> {
+    ) -> Result<Taken, u32> {
         let shard = shard_of(job.origin.slot);
         let take = TakeIfCheap {
             job,
@@ -611,8 +579,8 @@ impl<'a, B: Books, D: Device> Bench for Locked<'a, B, D> {
         self.advance_shard(rt, shard, now, log)
     }
 
-    fn is_known_idle(&self, shard: u8, now: u64, log: &mut TrackLog<ServerOf<B>>) -> bool {
-        shard < SHARDS && log.idle_until(&self.book, shard) > now
+    fn skip_if_idle(&self, shard: u8, now: u64, log: &mut TrackLog<ServerOf<B>>) -> bool {
+        log.skip_if_idle(&self.book, shard.min(SHARDS - 1), now)
     }
 
     fn idle_until<R: Wait>(&self, rt: &R, shard: u8) -> u64 {
@@ -723,9 +691,13 @@ impl<'a, B: Books, D: Device> Bench for Locked<'a, B, D> {
         self.ask(rt, shard, Describe { job }, &mut (), log)
     }
 
-    fn read_receipt<R: Wait>(&self, rt: &R, job: &Job) -> Option<Receipt> {
-        let shard = shard_of(job.origin.slot);
-        self.inspect(rt, shard, Describe { job }, &mut ())
+    fn read_cost<R: Wait>(
+        &self,
+        rt: &R,
+        slot: SlotNumber,
+        log: &mut TrackLog<ServerOf<B>>,
+    ) -> Option<u32> {
+        self.ask(rt, shard_of(slot), ReadCost { slot }, &mut (), log)
     }
 
     fn peek(&self, slot: SlotNumber, log: &mut TrackLog<ServerOf<B>>) -> u64 {

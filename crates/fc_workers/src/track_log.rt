@@ -2,10 +2,10 @@
 ghost use Rattle.std.specs.Prelude.{◌≡◌, ◌+◌, ◌<◌, ◌≤◌, ℕ, [], true, max, vec_len, IfOk};
 ghost use Rattle.std.specs.List.{All};
 ghost use Rattle.fc_book.specs.Tracks.{AreSingle, own_view, with_next};
-ghost use Rattle.fc_calls.specs.Logged.{LooksAt, RaisesWord};
-ghost use Rattle.fc_filed.specs.Books.{HasIdleShard};
+ghost use Rattle.fc_calls.specs.Logged.{LooksAt, RaisesWord, SkipsIdle};
+ghost use Rattle.fc_linear.specs.Operations.{Logged};
 ghost use Rattle.fc_filed.specs.Threads.{HasJobFirst, known_word};
-ghost use Rattle.fc_workers.specs.Logs.{MayFileAll, with_filed_call};
+ghost use Rattle.fc_workers.specs.Logs.{MayFileAll, with_filed_call, with_filed_if};
 ghost use Rattle.fc_workers.specs.Messages.{IsNewJob, first_brought, with_tracks};
 ghost use Rattle.fc_workers.specs.Producing.{first_tracked, with_new_track, without_job};
 ghost use Rattle.fc_workers.specs.OneOrder.{IsNewLog};
@@ -100,16 +100,15 @@ impl<J: ServerName> TrackLog<J> {
         self.tracks.raise(book, self.who, slot, word);
     }
 
-    /// Returns a time before which a shard, 0 to 7, is idle, or 0. See
-    /// [`ServerTracks::idle_until`].
+    /// Skips a shard, 0 to 7, if it is known to be idle at `now`, in milliseconds, and files that.
     ///
-    /// The time is in milliseconds. No lock is taken, and nothing is filed.
-    pub(crate) fn idle_until(&mut self, book: &ServerBook<J>, shard: u8) -> u64
+    /// Returns whether the shard was skipped. No lock is taken. See [`ServerTracks::skip_if_idle`].
+    pub(crate) fn skip_if_idle(&mut self, book: &ServerBook<J>, shard: u8, now: u64) -> bool
         requires { shard < 8 }
-        ensures idle { (now : ℕ) → now < result → HasIdleShard J.first_job J.begin shard now self.old.tracks }
-        ensures kept { self.new ≡ self.old }
+        ensures { self.new ≡ with_filed_if result (Logged (SkipsIdle shard now)) self.old }
     {
-        self.tracks.idle_until(book, usize::from(shard))
+        self.tracks
+            .skip_if_idle(book, self.who, usize::from(shard), now)
     }
 
     /// States an invariant of the log's type: the thread may file each call.

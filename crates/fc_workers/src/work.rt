@@ -10,7 +10,8 @@ ghost use Rattle.fc_core.specs.Stages.{image_of};
 ghost use Rattle.fc_core.specs.Stage.{ToAnswer, ToInstall, ToRemove};
 ghost use Rattle.fc_linear.specs.Operations.{LacksMemory, RejectsImage};
 ghost use Rattle.fc_workers.specs.Answers.{saturated};
-ghost use Rattle.fc_workers.specs.Dispatch.{IsFoundExpensive};
+ghost use Rattle.fc_workers.specs.Dispatch.{MayGo};
+ghost use Rattle.fc_workers.specs.declared.dispatcher.Offload.TheVariants.{Expensive};
 ghost use Rattle.fc_workers.specs.Filed.{HasFiled};
 ghost use Rattle.fc_workers.specs.Called.{worker_view};
 ghost use Rattle.fc_workers.specs.Work.{IsWorkedTo};
@@ -127,7 +128,7 @@ impl<'a, B: Bench, G: Gate, W: Wire, M: TimeSource> Context<'a, B, G, W, M> {
     ///
     /// The job is a request's. The program is expensive if it may take `least` instructions or
     /// more. Returns whether the job was begun. If it wasn't, the log has only the call for
-    /// readings, and nothing is filed.
+    /// readings and the read of the program's cost.
     pub(crate) fn begin_if_cheap<R: Wait>(
         &self,
         rt: &R,
@@ -142,15 +143,15 @@ impl<'a, B: Bench, G: Gate, W: Wire, M: TimeSource> Context<'a, B, G, W, M> {
             number job.now scratch.new.stage share.old share.new }
         ensures cheap { result ≡ true → IsCheapAt least scratch.new.stage }
         ensures expensive { result ≡ false
-            → IsFoundExpensive (worker_view B.changes B.ended B.called B.logged M.is_time M.is_random G.passed W.called)
-            least job.now share.old.log share.new.log × (share.new ≡ record share.old { log = share.new.log }) }
+            → MayGo (worker_view B.changes B.ended B.called B.logged M.is_time M.is_random G.passed W.called)
+            (Expensive least) job.now share.old.log share.new.log × (share.new ≡ record share.old { log = share.new.log }) }
         ensures tallies { share.new.tallies ≡ share.old.tallies }
     {
         let stage = &mut scratch.stage;
         stage.ask(job);
         let log = &mut share.log;
         let given = self.bench.readings(rt, log);
-        let Some(taken) = self
+        let Ok(taken) = self
             .bench
             .take_if_cheap(rt, least, job, &given, &mut stage.found, log)
         else {

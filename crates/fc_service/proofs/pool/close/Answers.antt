@@ -11,5 +11,5 @@ returns-clause-order g c = λ count right order.
     let own = c.args.ended.own in
     let logs : 9 + length (logs_of shares own) ≡ g.B.Books.first_job =
     omega (arith, count, length-append (map (λ (s : Share _). s.log) shares) (own.log ∷ []), length-map shares (λ (s : Share _). s.log)) in
-    pool_is_legal g.B.Books.begin c.close-closed.result shares own g.B.Books.first_job logs right order
+    pool_is_legal g.B.Books.first c.close-closed.result shares own g.B.Books.first_job logs right order
     (c.close-closed.ensures.order (logs_of shares own) c.merge_each-tracks.ensures.tracks logs)

@@ -1,8 +1,5 @@
 use Rattle.std.proofs.Common.{◌≡◌, ◌+◌, arith, subst, sym}
 use Rattle.std.specs.Prelude.{vec_len}
-use Rattle.fc_server.specs.declared.server.Begin.{Begin}
-use Rattle.fc_workers.specs.LegalOrder.{HaveLegalOrder}
-use Rattle.fc_workers.specs.OneOrder.{logs_of}
 use Rattle.fc_service.specs.Pooled.{IsFed, offload_where, locked_view}
 use Rattle.fc_service.proofs.pool.run_named.Goals as goal
 
@@ -22,5 +19,5 @@ returns-clause-fed g c =
           (subst (λ x. IsFed worker_view g.B.Books.first_job Drives offload c.args.driver x ended.own ended.shares.items) (sym c.close.ensures.given) has);
       count = omega (arith, c.in_ok-ended.ensures.shares, c.in_ok-server.ensures.count);
       counted = c.close.ensures.replies;
-      order = subst (λ (b : Begin). HaveLegalOrder b (logs_of ended.shares.items ended.own) c.close.result.closed) c.requires.book_begin (c.close.ensures.order threads c.in_ok-ended.ensures.right c.in_ok-ended.ensures.order);
+      order = c.close.ensures.order threads c.in_ok-ended.ensures.right c.in_ok-ended.ensures.order;
     }

@@ -1,6 +1,5 @@
-use Rattle.fc_workers.specs.Fronts.{beginning}
 use Rattle.fc_workers.specs.Naming.{names_of}
 use Rattle.fc_service.proofs.pool.run_pool.Given as goal
 
 abbrev pub ghosts-run_named : goal.ghosts-run_named
-ghosts-run_named g a = record { names = names_of a.blanks; parts = a.blanks.parts; first = beginning a.pool.now.begin.policy a.pool.now.begin.id; table = a.book.table; first_job = a.book.first_job; begin = a.pool.now.begin }
+ghosts-run_named g a = record { names = names_of a.blanks; parts = a.blanks.parts; table = a.book.table; first_job = a.book.first_job; first = a.book.first }

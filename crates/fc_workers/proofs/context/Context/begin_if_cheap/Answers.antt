@@ -6,7 +6,7 @@ use Rattle.fc_workers.proofs.Steps.{plain_takes, sets_out, took_step, walks_on}
 use Rattle.fc_workers.proofs.context.Context.begin_if_cheap.Goals as goal
 
 pub invariant_of-stage-2 : goal.invariant_of-stage-2
-invariant_of-stage-2 g c = (c.took.ensures c.take_if_cheap.new.found c.stage.inside.seen c.in-Some.ensures.size).1
+invariant_of-stage-2 g c = (c.took.ensures c.take_if_cheap.new.found c.stage.inside.seen c.in-Ok.ensures.size).1
 
 pub returns-clause-begun : goal.returns-clause-begun
 returns-clause-begun g c is number =
@@ -15,14 +15,14 @@ returns-clause-begun g c is number =
     let job = c.args.job.now in
     let share = c.args.share.now in
     let found = c.take_if_cheap.new.found in
-    let taken = taken_with c.in-Some.taken found in
+    let taken = taken_with c.in-Ok.taken found in
     let log = c.take_if_cheap.new.log in
     let snapshot : IsSnapshotWith g.B.Bench.logged job taken share.log log = record {
       readings = c.readings-given.result;
       log = c.readings-given.new.log;
       given = c.readings-given.ensures;
-      takes = c.in-Some.ensures.logged;
-      is = c.in-Some.ensures.taken;
+      takes = c.in-Ok.ensures.logged;
+      is = c.in-Ok.ensures.taken;
     } in
     walks_on s number job (plain_takes job c.requires.plain) (sets_out s number job share) (took_step s number job 0 taken share share.tallies log (omega arith) snapshot
-    (λ shard less. refl) (c.took.ensures found c.stage.inside.seen c.in-Some.ensures.size).0 (c.count_snapshot.ensures found))
+    (λ shard less. refl) (c.took.ensures found c.stage.inside.seen c.in-Ok.ensures.size).0 (c.count_snapshot.ensures found))

@@ -5,7 +5,7 @@ use Rattle.fc_workers.specs.Dispatch.{IsSentOrWorked, MayGo, logged_at, unsent}
 use Rattle.fc_workers.specs.Workers.{Share}
 use Rattle.fc_workers.specs.declared.dispatcher.Offload.{Offload}
 use Rattle.fc_workers.specs.declared.dispatcher.Offload.TheVariants.{Expensive}
-use Rattle.fc_workers.proofs.Handled.{still_read}
+use Rattle.fc_workers.proofs.Handled.{still_going}
 use Rattle.fc_workers.proofs.Filed.{bench_files}
 use Rattle.fc_workers.proofs.Producing.{worked_here}
 use Rattle.fc_workers.proofs.dispatcher_state.DispatcherState.dispatch_run.Goals as goal
@@ -21,12 +21,12 @@ returns-then-begun-clause-dispatched g c =
       sent = refl;
       log = share.log;
       stays = inl refl;
-      unfiled = record { who = refl; tracks = refl };
+      track = refl;
       worked = c.work_begun.ensures.worked share (c.if-begun.ensures.begun refl unsent);
       ends = c.work_begun.ensures.ended ∙ ap (λ t. saturated (g.B.Bench.ended t + 1)) c.if-begun.ensures.tallies;
     })
 
--- the job of an expensive program may go as it arrived: only readings were returned for it.
+-- the job of an expensive program may go: its cost was read, and its track is unchanged.
 pub returns-else-begun-clause-dispatched : goal.returns-else-begun-clause-dispatched
 returns-else-begun-clause-dispatched g c =
     let s = (worker_view g.B.Bench.changes g.B.Bench.ended g.B.Bench.called g.B.Bench.logged
@@ -36,8 +36,9 @@ returns-else-begun-clause-dispatched g c =
     let share = c.begin_if_cheap-begun.new.share in
     let new = c.send_or_work.new.self.done in
     let found = c.if-begun.ensures.expensive refl in
-    let may = subst (λ (o : Offload). MayGo s o job before.share.log share.log) (sym c.requires.least) (inr found.0) in
-    let dispatched = c.send_or_work.ensures.dispatched before.share.log may in
+    let may = subst (λ (o : Offload). MayGo s o job before.share.log share.log) (sym c.requires.least) found.0 in
+    let still = still_going g.B.Book.ServerName.first_job c.args.self.now.keys s g.B.Bench.files (Expensive c.args.least) job before.share.log share.log found.0 c.requires.produced in
+    let dispatched = c.send_or_work.ensures.dispatched before.share.log may still.1 in
     subst (λ (p : Share _). IsSentOrWorked s (Expensive c.args.least) job (logged_at before.share.log (record before { share = p })) new) found.1
     (subst (λ (o : Offload). IsSentOrWorked s o job (logged_at before.share.log (record before { share = share })) new) c.requires.least dispatched)
 
@@ -55,4 +56,4 @@ send_or_work-requires g c =
     let s = (worker_view g.B.Bench.changes g.B.Bench.ended g.B.Bench.called g.B.Bench.logged
     g.M.TimeSource.is_time g.M.TimeSource.is_random g.G.Gate.passed g.W.Wire.called) in
     let found = c.if-begun.ensures.expensive refl in
-    record { produced = still_read g.B.Book.ServerName.first_job c.args.self.now.keys s g.B.Bench.files c.args.self.now.job found.0.readings c.args.self.now.done.share.log c.begin_if_cheap-begun.new.share.log found.0.given c.requires.produced }
+    record { produced = (still_going g.B.Book.ServerName.first_job c.args.self.now.keys s g.B.Bench.files (Expensive c.args.least) c.args.self.now.job c.args.self.now.done.share.log c.begin_if_cheap-begun.new.share.log found.0 c.requires.produced).0 }

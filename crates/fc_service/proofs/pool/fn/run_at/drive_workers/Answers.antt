@@ -1,4 +1,4 @@
-use Rattle.std.proofs.Common.{◌∙◌}
+use Rattle.std.proofs.Common.{◌∙◌, arith}
 use Rattle.fc_workers.specs.Producing.{with_new_track}
 use Rattle.fc_workers.specs.Shares.{new_share}
 use Rattle.fc_workers.proofs.Producing.{new_with}
@@ -14,6 +14,8 @@ returns g c = (
       tallies = c.captures.own.tallies;
       log = with_new_track c.captures.keys c.captures.own.log;
       new_log = new_with c.captures.keys c.captures.own.log c.requires.new_log;
+      own = c.new.ensures.own;
+      job = (let first = c.requires.keys in omega (arith, first));
       done = c.new.ensures.done ∙ (λ i. record { sent = c.requires.sent i; share = new_share (c.requires.got i) c.captures.own.tallies (with_new_track c.captures.keys c.captures.own.log) });
     };
     drives = c.drive-ingress.ensures;
