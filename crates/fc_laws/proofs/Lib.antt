@@ -3,3 +3,4 @@ pub mod front
 pub mod jobs
 pub mod slots
 pub mod words
+pub mod starts

@@ -12,3 +12,4 @@ pub mod RefusalLaws
 pub mod ShardLaws
 pub mod PolicyLaws
 pub mod TimerLaws
+pub mod StartLaws

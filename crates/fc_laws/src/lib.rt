@@ -69,10 +69,14 @@
 //!   of its policy, by default 1,024 exchanges, and 16 transfers.
 //! - A notification is confirmable exactly if the policy's time has passed since the observer's
 //!   registration or last confirmable notification. By default this time is 86,400,000 ms.
+//! - If a slot can be restored, so can the stored state that a run then leaves in it. The next run
+//!   begins with the slot's program, version and variables, at its serial or a higher one. The head
+//!   word of a restored program is that of its slot's serial, and its ring has the commits since
+//!   the start. No start restores an image that the verifier refuses, and the error names the slot.
 //!
 //! By the contracts of `laws`, `slot_laws`, `ask_laws`, `answer_laws`, `exchange_laws`,
 //! `body_laws`, `way_laws`, `reply_laws`, `response_laws`, `refusal_laws`, `observe_laws`,
-//! `policy_laws`, `shard_laws`, `timer_laws`, `turn_laws`, `gauge_laws`.
+//! `policy_laws`, `shard_laws`, `start_laws`, `timer_laws`, `turn_laws`, `gauge_laws`.
 #![tactic(auto)]
 
 pub mod answer_laws;
@@ -88,6 +92,7 @@ pub mod reply_laws;
 pub mod response_laws;
 pub mod shard_laws;
 pub mod slot_laws;
+pub mod start_laws;
 pub mod timer_laws;
 pub mod turn_laws;
 pub mod way_laws;
