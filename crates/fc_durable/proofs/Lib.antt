@@ -1,0 +1,4 @@
+pub mod Keeping
+pub mod Moves
+pub mod Installs
+pub mod Removals
