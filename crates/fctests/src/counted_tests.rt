@@ -1,7 +1,5 @@
 //! A shard under its lock: the changes that its calls count.
 ghost use Rattle.std.specs.Prelude.{◌≡◌, ◌+◌};
-ghost use Rattle.fc_core.specs.Policies.{default_policy};
-ghost use Rattle.fc_workers.specs.Fronts.{beginning};
 ghost use Rattle.fc_workers.specs.Naming.{AreNamed};
 
 use crate::job_tests::job;
@@ -11,7 +9,7 @@ use fc_filed::NewServerBook;
 use fc_help::{Method, NO_READINGS, Request};
 use fc_machine::{Frame, run};
 use fc_registry::{Ask, Committed, Job, Removal, SlotNumber, SlotSnapshot, Taken, Ticket};
-use fc_server::Begin;
+use fc_server::{Begin, FirstServer};
 use fc_verify::verify;
 use fc_workers::{Bench, Blanks, Books, Locked, TrackLog};
 use std::alloc::Global;
@@ -31,25 +29,48 @@ fn post() -> Job {
 // of the commit has serial 8; `false` if there was no snapshot or no commit.
 fn commit<B: Bench, R: Wait>(
     rt: &R,
-    alloc: Global,
+    frame: &mut Frame,
     bench: &B,
     tallies: &mut B::Tallies,
     log: &mut TrackLog<B::Book>,
     job: &Job,
-) -> Result<bool, Fail> {
-    let readings = &NO_READINGS;
+) -> bool {
     let mut found = SlotSnapshot::blank();
-    let taken = bench.take(rt, job, readings, &mut found, tallies, log);
-    let Taken::Given(given) = &taken else {
-        return Ok(false);
-    };
-    let ticket = Ticket::of(given, &found);
-    let mut frame = Frame::new(alloc)?;
-    let (program, request) = (ticket.program(), ticket.request());
-    let outcome = run(&mut frame, program, request, ticket.vars(), readings);
-    match bench.commit(rt, 0, &outcome, &ticket, tallies, log) {
-        Committed::Done(mark) => Ok(mark.into_serial() == 8),
-        Committed::Overtaken | Committed::Ended | Committed::Stranger => Ok(false),
+    let taken = bench.take(rt, job, &NO_READINGS, &mut found, tallies, log);
+    match &taken {
+        Taken::Given(given) => {
+            let ticket = Ticket::of(given, &found);
+            commit_run(rt, frame, bench, tallies, log, &ticket)
+        }
+        Taken::Missing | Taken::Refused | Taken::Stale => false,
+    }
+}
+
+// Runs the program of a snapshot, and commits the outcome. Returns whether the mark of the commit has
+// serial 8; `false` if there was no commit.
+fn commit_run<B: Bench, R: Wait>(
+    rt: &R,
+    frame: &mut Frame,
+    bench: &B,
+    tallies: &mut B::Tallies,
+    log: &mut TrackLog<B::Book>,
+    ticket: &Ticket<'_>,
+) -> bool {
+    let outcome = run(
+        frame,
+        ticket.program(),
+        ticket.request(),
+        ticket.vars(),
+        ticket.readings(),
+    );
+    is_at_8(bench.commit(rt, 0, &outcome, ticket, tallies, log))
+}
+
+// Returns whether a run was committed, and its mark has serial 8.
+fn is_at_8(committed: Committed) -> bool {
+    match committed {
+        Committed::Done(mark) => mark.into_serial() == 8,
+        Committed::Overtaken | Committed::Ended | Committed::Stranger => false,
     }
 }
 
@@ -62,10 +83,11 @@ fn change_slot<B: Bench, R: Wait>(
     tallies: &mut B::Tallies,
     log: &mut TrackLog<B::Book>,
 ) -> Result<Option<u64>, Fail> {
-    let job = post();
+    let mut frame = Frame::new(alloc)?;
     let program = Arc::new(alloc, verify(alloc, COUNTER).map_err(|_| "accepted")?)?;
+    let job = post();
     let _made = bench.install(rt, &job, program, tallies, log);
-    let has_run = commit(rt, alloc, bench, tallies, log, &job)?;
+    let has_run = commit(rt, &mut frame, bench, tallies, log, &job);
     let removal = bench.remove(rt, &job, tallies, log);
     let _absent = bench.remove(rt, &job, tallies, log);
     match removal {
@@ -74,8 +96,8 @@ fn change_slot<B: Bench, R: Wait>(
     }
 }
 
-// Changes a slot of a new server that begins at serial 7. Returns the slot's serial at the end, 0
-// if a change failed, and the number of changes in the tally of its shard.
+// Changes a slot of a new server whose slots begin at serial 7. Returns the slot's serial at the
+// end, 0 if a change failed, and the number of changes in the tally of its shard.
 fn change<B: Books, R: Wait>(
     rt: &R,
     alloc: Global,
@@ -85,22 +107,14 @@ fn change<B: Books, R: Wait>(
     requires parts { blanks.parts ≡ 2 }
     requires names { AreNamed blanks B.names }
     requires books { blanks.parts ≡ B.parts }
-    requires first { B.first ≡ beginning default_policy 0 }
     requires table { book.table ≡ B.table }
     requires book_threads { book.first_job ≡ 10 }
     requires threads { book.first_job ≡ B.first_job }
-    requires begin { B.begin ≡ record { serial = 7; id = 0; policy = default_policy } }
-    requires book_begins { book.begin ≡ record { serial = 7; id = 0; policy = default_policy } }
+    requires server { book.first ≡ B.first }
 {
     let device = Bare::new();
     let (server, mut unassigned, mut logs, _keys) = Locked::<B, Bare>::new(
-        alloc,
-        7,
-        0,
-        &DEFAULT_POLICY,
-        &device,
-        blanks,
-        book,
+        alloc, &device, blanks, book,
     )?;
     let Some(mut log) = logs.pop() else {
         unreachable!();
@@ -119,7 +133,8 @@ fn each_change_is_counted_once(rt: HostRuntime) -> Result<(), Fail> {
         id: 0,
         policy: DEFAULT_POLICY,
     };
-    let book = NewServerBook::new(rt.alloc(), 1, &begin)?;
+    let first = FirstServer::new(rt.alloc(), &begin)?;
+    let book = NewServerBook::new(rt.alloc(), 1, first)?;
     assert!(rt; change::<Brand, HostRuntime>(&rt, rt.alloc(), blanks, book)? == (10, 3));
     Ok(())
 }
@@ -140,20 +155,20 @@ fn ask_what_is_known<B: Bench, R: Wait>(
     tallies: &mut B::Tallies,
     log: &mut TrackLog<B::Book>,
 ) -> Known {
-    let at_first = bench.is_known_idle(3, 1_000, log);
+    let at_first = bench.skip_if_idle(3, 1_000, log);
     let advanced = bench.advance_if_idle(rt, 3, 1_000, log);
-    let after_its_advance = advanced && bench.is_known_idle(3, 5_000, log);
-    let at_the_other_shard = bench.is_known_idle(2, 5_000, log);
+    let after_its_advance = advanced && bench.skip_if_idle(3, 5_000, log);
+    let at_the_other_shard = bench.skip_if_idle(2, 5_000, log);
     let _absent = bench.remove(rt, &post(), tallies, log);
     Known {
         at_first,
         after_its_advance,
         at_the_other_shard,
-        after_its_call: bench.is_known_idle(3, 5_000, log),
+        after_its_call: bench.skip_if_idle(3, 5_000, log),
     }
 }
 
-// Returns what is known of the shards of a new server that begins at serial 7.
+// Returns what is known of the shards of a new server.
 fn know<B: Books, R: Wait>(
     rt: &R,
     alloc: Global,
@@ -163,22 +178,14 @@ fn know<B: Books, R: Wait>(
     requires parts { blanks.parts ≡ 2 }
     requires names { AreNamed blanks B.names }
     requires books { blanks.parts ≡ B.parts }
-    requires first { B.first ≡ beginning default_policy 0 }
     requires table { book.table ≡ B.table }
     requires book_threads { book.first_job ≡ 10 }
     requires threads { book.first_job ≡ B.first_job }
-    requires begin { B.begin ≡ record { serial = 7; id = 0; policy = default_policy } }
-    requires book_begins { book.begin ≡ record { serial = 7; id = 0; policy = default_policy } }
+    requires server { book.first ≡ B.first }
 {
     let device = Bare::new();
     let (server, mut unassigned, mut logs, _keys) = Locked::<B, Bare>::new(
-        alloc,
-        7,
-        0,
-        &DEFAULT_POLICY,
-        &device,
-        blanks,
-        book,
+        alloc, &device, blanks, book,
     )?;
     let Some(mut log) = logs.pop() else {
         unreachable!();
@@ -196,7 +203,8 @@ fn an_idle_shard_is_known_until_it_is_called(rt: HostRuntime) -> Result<(), Fail
         id: 0,
         policy: DEFAULT_POLICY,
     };
-    let book = NewServerBook::new(rt.alloc(), 1, &begin)?;
+    let first = FirstServer::new(rt.alloc(), &begin)?;
+    let book = NewServerBook::new(rt.alloc(), 1, first)?;
     let expected = Known {
         at_first: false,
         after_its_advance: true,

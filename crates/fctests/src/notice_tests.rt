@@ -368,8 +368,8 @@ fn a_state_of_two_blocks_is_joined(rt: HostRuntime) -> Result<(), Fail> {
     Ok(())
 }
 
-// The registration has message ID 7, and the deregistration 8. After the request with ID 6, the next
-// one has ID 9; then the next ID is 10.
+// The registration has message ID 7, and the deregistration 8. After the request with ID 6, the
+// next one has ID 9; then the next ID is 10.
 #[test]
 fn a_further_block_never_has_the_id_of_the_deregistration(rt: HostRuntime) -> Result<(), Fail> {
     let alloc = rt.alloc();

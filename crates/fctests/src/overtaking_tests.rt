@@ -3,8 +3,6 @@
 //! The tests check the order of the responses, and the workers' counts of changes and conflicts.
 ghost use Rattle.std.specs.Prelude.{◌≡◌, ◌+◌, ◌<◌, vec_len};
 ghost use Rattle.std.specs.List.{All};
-ghost use Rattle.fc_workers.specs.Fronts.{beginning};
-ghost use Rattle.fc_core.specs.Policies.{default_policy};
 ghost use Rattle.fc_workers.specs.Messages.{first_brought};
 ghost use Rattle.fc_workers.specs.Naming.{AreNamed};
 ghost use Rattle.fc_workers.specs.OneOrder.{IsNewLog};
@@ -18,12 +16,13 @@ use coap_msg::Emission;
 use fc_core::DEFAULT_POLICY;
 use fc_filed::{NewServerBook, ServerName};
 use fc_help::{NO_READINGS, Readings};
+use fc_jobs::{Jobs, Sent};
 use fc_registry::SlotNumber;
-use fc_server::DEFAULT_BEGIN;
+use fc_server::{DEFAULT_BEGIN, FirstServer};
 use fc_verify::{Verified, verify};
 use fc_workers::{
-    Bench, Blanks, Books, CallLog, Context, Device, Dispatcher, Gate, JobKeys, Locked, Offload,
-    ShareOf, TimeSource, TrackLog, Wire, drive_workers, make_seats,
+    Bench, Blanks, Books, CallLog, Context, Device, Dispatcher, Gate, JobKeys, JobMessage, Locked,
+    Offload, SeedOf, ShareOf, TimeSource, TrackLog, Wire, drive_workers, make_seats,
 };
 use std::alloc::{AllocError, Global};
 use std::marker::Brand;
@@ -216,9 +215,6 @@ where
         keys,
     } = crew;
     let (jobs, sent, mut seats) = make_seats(alloc, tallies, logs)?;
-    let Some(seat) = seats.pop() else {
-        return Err(anyhow::anyhow!("no seat"));
-    };
     let context = Context {
         alloc,
         bench,
@@ -226,19 +222,55 @@ where
         wire: replies,
         times: replies,
     };
+    match seats.pop() {
+        Some(own) => both(work_seated(rt, &context, &jobs, sent, own, keys, seats, drive)),
+        None => Err(anyhow::anyhow!("no seat")),
+    }
+}
+
+// Runs a worker at each of `seats`, while `drive` delivers requests to a dispatcher with the state
+// `own`. Returns the result of `drive`, and the workers' statistics.
+fn work_seated<'a, B: Bench + Sync, G: Gate + Sync, F: Drive, R: Threads + Wait + Clock + Sync>(
+    rt: &R,
+    context: &'a Context<'a, B, G, Replies, Replies>,
+    jobs: &'a Jobs<JobMessage<B::Book>>,
+    sent: Sent<JobMessage<B::Book>>,
+    own: SeedOf<B::Tallies, B::Book>,
+    keys: JobKeys<B::Book>,
+    seats: Vec<SeedOf<B::Tallies, B::Book>>,
+    drive: &F,
+) -> (
+    Result<(), AllocError>,
+    Result<Vec<ShareOf<B::Tallies, B::Book>>, AllocError>,
+)
+where
+    B::Tallies: Send,
+    B::Book: Send,
+    requires sent { sent.channel ≡ jobs.now }
+    requires new_log { IsNewLog own.log }
+    requires keys { keys ≡ first_brought B.Book.first_job }
+    requires seats { All (λ s. s.got.channel ≡ jobs.now) seats.items }
+{
     let driver = Driver {
-        alloc,
-        dispatcher: Dispatcher::new(&context, &jobs, sent, seat, keys, Offload::Every),
+        alloc: context.alloc,
+        dispatcher: Dispatcher::new(context, jobs, sent, own, keys, Offload::Every),
     };
-    let (fed, shares) = drive_workers(
+    drive_workers(
         rt,
-        &context,
-        &jobs,
+        context,
+        jobs,
         seats,
-        move |_has_workers| -> Result<(), AllocError> { drive.drive(rt, driver, replies) },
-    );
-    fed?;
-    Ok(shares?)
+        move |_has_workers| -> Result<(), AllocError> { drive.drive(rt, driver, context.wire) },
+    )
+}
+
+// Returns the second result, or the error of either.
+fn both<T: Drop>(
+    results: (Result<(), AllocError>, Result<Vec<T>, AllocError>),
+) -> anyhow::Result<Vec<T>> {
+    let (first, second) = results;
+    first?;
+    Ok(second?)
 }
 
 // A trial: an install, and then two POSTs for two workers. The first POST is delayed until the
@@ -472,7 +504,8 @@ pub(crate) fn hold<R: Threads + Wait + Clock + Sync>(
     trial: &Trial,
 ) -> anyhow::Result<Held<u64>> {
     let blanks = Blanks::new(u64::from(tallies) + 2);
-    let book = NewServerBook::new(alloc, u16::from(tallies) + 1, &DEFAULT_BEGIN)?;
+    let first = FirstServer::new(alloc, &DEFAULT_BEGIN)?;
+    let book = NewServerBook::new(alloc, u16::from(tallies) + 1, first)?;
     hold_named::<Brand, R>(rt, alloc, tallies, trial, blanks, book)
 }
 
@@ -488,22 +521,14 @@ fn hold_named<B: Books + Send + Sync, R: Threads + Wait + Clock + Sync>(
     requires parts { blanks.parts ≡ tallies + 2 }
     requires names { AreNamed blanks B.names }
     requires books { blanks.parts ≡ B.parts }
-    requires first { B.first ≡ beginning default_policy 0 }
     requires table { book.table ≡ B.table }
     requires book_threads { book.first_job ≡ 9 + tallies + 1 }
     requires threads { book.first_job ≡ B.first_job }
-    requires begin { B.begin ≡ record { serial = 0; id = 0; policy = default_policy } }
-    requires book_begins { book.begin ≡ record { serial = 0; id = 0; policy = default_policy } }
+    requires server { book.first ≡ B.first }
 {
     let device = Bare::new();
     let (server, mut unassigned, logs, keys) = Locked::<B, Bare>::new(
-        alloc,
-        0,
-        0,
-        &DEFAULT_POLICY,
-        &device,
-        blanks,
-        book,
+        alloc, &device, blanks, book,
     )?;
     let tallies = unassigned.split_each(alloc, usize::from(tallies) + 1)?;
     let crew = Crew {

@@ -1,4 +1,6 @@
 //! Pools: the state of a server after its workers have ended.
+ghost use Rattle.std.specs.Prelude.{◌<◌};
+
 use crate::driver::{PEER, Request, datagram};
 use crate::overtaking_tests::{Bare, COUNTER, Replies};
 use crate::wait_tests::PUT_EXPENSIVE;
@@ -6,14 +8,23 @@ use fc_core::DEFAULT_POLICY;
 use fc_core::front::blank_emission;
 use fc_record::NoChanges;
 use fc_registry::SlotNumber;
-use fc_server::Begin;
+use fc_server::{Begin, FirstServer};
 use fc_service::pool::{Driven, Driver, Ingress, Pool, run_pool};
+use fc_store::{StoredProgram, StoredSlot};
 use fc_workers::Offload;
 use std::alloc::{AllocError, Global};
+use std::array::from_fn;
 use std::sync::Wait;
 use std::test::Fail;
 use std::thread;
 use std::time::{Clock, Duration};
+
+// A server whose slots begin at serial 7.
+const AT_SEVEN: Begin = Begin {
+    serial: 7,
+    id: 0,
+    policy: DEFAULT_POLICY,
+};
 
 // A driver that installs the counter in slots 1 and 9, which shard 1 owns, in slot 2, and in slot 9
 // again.
@@ -55,11 +66,6 @@ fn a_pool_counts_the_changes_of_each_shard(rt: HostRuntime) -> Result<(), Fail> 
     let pool = Pool {
         workers: 2,
         offload: Offload::Every,
-        begin: Begin {
-            serial: 7,
-            id: 0,
-            policy: DEFAULT_POLICY,
-        },
         wire: &replies,
         times: &replies,
         device: &Bare::new(),
@@ -67,16 +73,54 @@ fn a_pool_counts_the_changes_of_each_shard(rt: HostRuntime) -> Result<(), Fail> 
     };
     let mut err = Vec::new(rt.alloc());
     let installs = Installs { alloc: rt.alloc() };
-    let fed = run_pool(&rt, rt.alloc(), &mut err, &pool, installs)?;
+    let first = FirstServer::new(rt.alloc(), &AT_SEVEN)?;
+    let fed = run_pool(&rt, rt.alloc(), &mut err, &pool, first, installs)?;
     fed.given?;
     assert!(rt; fed.has_workers);
     assert!(rt; fed.closed.changes == [0, 3, 1, 0, 0, 0, 0, 0]);
-    assert!(rt; fed.closed.first_serials == [7; 8]);
     let [_, shard1, shard2, ..] = &fed.closed.shards;
     assert_eq!(rt; shard1.serial(SlotNumber::new(1)), 8);
     assert_eq!(rt; shard1.serial(SlotNumber::new(9)), 9);
     assert_eq!(rt; shard1.serial(SlotNumber::new(17)), 7);
     assert_eq!(rt; shard2.serial(SlotNumber::new(2)), 8);
+    Ok(())
+}
+
+// A pool that begins with stored slots goes on from their serials. Slot 9 is stored at serial 5
+// with the counter; the other slots are stored as empty, at serial 0.
+#[test]
+fn a_pool_goes_on_from_stored_slots(rt: HostRuntime) -> Result<(), Fail> {
+    let replies = Replies::new();
+    let pool = Pool {
+        workers: 2,
+        offload: Offload::Every,
+        wire: &replies,
+        times: &replies,
+        device: &Bare::new(),
+        recorder: &NoChanges,
+    };
+    let mut stored: [StoredSlot; 64] = from_fn(|_| StoredSlot::blank());
+    stored[9] = StoredSlot {
+        serial: 5,
+        program: Some(StoredProgram {
+            version: 3,
+            image: Vec::from_slice(rt.alloc(), COUNTER)?,
+            vars: Vec::from_slice(rt.alloc(), &[0; 8])?,
+        }),
+    };
+    let Ok(first) = FirstServer::over(rt.alloc(), &stored, 0, &DEFAULT_POLICY) else {
+        return Err("the slots are restored".into());
+    };
+    assert_eq!(rt; first.heads().peek(SlotNumber::new(9)), 11);
+    let mut err = Vec::new(rt.alloc());
+    let installs = Installs { alloc: rt.alloc() };
+    let fed = run_pool(&rt, rt.alloc(), &mut err, &pool, first, installs)?;
+    fed.given?;
+    assert!(rt; fed.closed.changes == [0, 3, 1, 0, 0, 0, 0, 0]);
+    let [_, shard1, shard2, ..] = &fed.closed.shards;
+    assert_eq!(rt; shard1.serial(SlotNumber::new(1)), 1);
+    assert_eq!(rt; shard1.serial(SlotNumber::new(9)), 7);
+    assert_eq!(rt; shard2.serial(SlotNumber::new(2)), 1);
     Ok(())
 }
 
@@ -170,11 +214,6 @@ fn the_device_is_read_again_for_a_sent_job(rt: HostRuntime) -> Result<(), Fail> 
     let pool = Pool {
         workers: 1,
         offload: Offload::Expensive(6_000),
-        begin: Begin {
-            serial: 7,
-            id: 0,
-            policy: DEFAULT_POLICY,
-        },
         wire: &replies,
         times: &replies,
         device: &device,
@@ -185,7 +224,8 @@ fn the_device_is_read_again_for_a_sent_job(rt: HostRuntime) -> Result<(), Fail> 
         alloc: rt.alloc(),
         clock: &rt,
     };
-    let fed = run_pool(&rt, rt.alloc(), &mut err, &pool, prices)?;
+    let first = FirstServer::new(rt.alloc(), &AT_SEVEN)?;
+    let fed = run_pool(&rt, rt.alloc(), &mut err, &pool, first, prices)?;
     let Priced { gets, first, all } = fed.given?;
     assert!(rt; fed.has_workers);
     assert_eq!(rt; first, 1);

@@ -150,8 +150,8 @@ fn a_timer_runs_its_program_at_its_beats(rt: HostRuntime) -> Result<(), Fail> {
     Ok(())
 }
 
-// The three datagrams that are sent are responses: those of an empty slot, and those of an expensive
-// program, which notifies nobody. The second request of an empty slot is a duplicate.
+// The three datagrams that are sent are responses: those of an empty slot, and those of an
+// expensive program, which notifies nobody. The second request of an empty slot is a duplicate.
 #[test]
 fn a_timer_sends_nothing(rt: HostRuntime) -> Result<(), Fail> {
     for workers in 1..3 {

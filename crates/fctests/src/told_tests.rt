@@ -3,14 +3,23 @@
 //! The calls advance the time, pass a signal, release a lease, and pass a random word. The
 //! contracts don't say in which state of the front or of a shard such a call is made. They don't
 //! state the effect of the random word either.
+ghost use Rattle.std.specs.Prelude.{◌≡◌};
+ghost use Rattle.fc_workers.specs.Messages.{first_brought};
+ghost use Rattle.fc_workers.specs.OneOrder.{IsNewLog};
+
 use crate::driver::{PEER, Request, datagram};
 use crate::lock_tests::Open;
 use crate::overtaking_tests::{COUNTER, Crew, Held, Replies, Trial, hold};
 use fc_core::Handled;
 use fc_core::front::{blank_emission, blank_job};
+use fc_filed::ServerName;
+use fc_jobs::{Jobs, Sent};
 use fc_observe::{Ticked, Turn};
 use fc_registry::SlotNumber;
-use fc_workers::{Bench, CallLog, Context, Dispatcher, Offload, TimeSource, TrackLog, make_seats};
+use fc_workers::{
+    Bench, CallLog, Context, Dispatcher, JobKeys, JobMessage, Offload, SeedOf, ShareOf, TimeSource,
+    TrackLog, WorkerSeed, make_seats,
+};
 use std::alloc::{AllocError, Global};
 use std::sync::Wait;
 use std::sync::atomic::{AtomicU64, Ordering};
@@ -81,19 +90,39 @@ impl Told {
         crew: Crew<B::Tallies, B::Book>,
     ) -> anyhow::Result<Held<B::Tallies>> {
         let Crew {
-            mut tallies,
-            mut logs,
+            tallies,
+            logs,
             keys,
         } = crew;
-        let (Some(mut own), Some(mut log)) = (tallies.pop(), logs.pop()) else {
-            return Err(anyhow::anyhow!("no tallies"));
-        };
+        let (jobs, sent, mut seats) = make_seats(alloc, tallies, logs)?;
+        match (seats.pop(), seats.pop()) {
+            (Some(seat), Some(other)) => self.hold_at(
+                rt, alloc, bench, &jobs, sent, seat, keys, other,
+            ),
+            _ => Err(anyhow::anyhow!("no seats")),
+        }
+    }
+
+    // Makes this call on a new server, with a dispatcher at `seat`, and with the tallies and the log
+    // of `other` for the test's own calls. Returns an error if the call doesn't have the expected
+    // effect.
+    fn hold_at<B: Bench, R: Wait>(
+        &self,
+        rt: &R,
+        alloc: Global,
+        bench: &B,
+        jobs: &Jobs<JobMessage<B::Book>>,
+        sent: Sent<JobMessage<B::Book>>,
+        seat: SeedOf<B::Tallies, B::Book>,
+        keys: JobKeys<B::Book>,
+        other: SeedOf<B::Tallies, B::Book>,
+    ) -> anyhow::Result<Held<B::Tallies>>
+        requires sent { sent.channel ≡ jobs.now }
+        requires new_log { IsNewLog seat.log }
+        requires keys { keys ≡ first_brought B.Book.first_job }
+    {
         let replies = Replies::new();
         let watch = Watch::new();
-        let (jobs, sent, mut seats) = make_seats(alloc, tallies, logs)?;
-        let Some(seat) = seats.pop() else {
-            return Err(anyhow::anyhow!("no seat"));
-        };
         let context = Context {
             alloc,
             bench,
@@ -101,21 +130,51 @@ impl Told {
             wire: &replies,
             times: &watch,
         };
-        let mut dispatcher = Dispatcher::new(&context, &jobs, sent, seat, keys, Offload::Never);
-        observe_counter(rt, alloc, &mut dispatcher)?;
-        let shows = match self {
-            Told::Time => shows_time(rt, alloc, &mut dispatcher)?,
-            Told::Signals => shows_signals(rt, alloc, bench, &mut log, &mut dispatcher)?,
-            Told::Turn => shows_turn(rt, bench, &mut own, &mut log),
-            Told::Word => shows_word(rt, &watch, &mut dispatcher),
-        };
-        if !shows {
-            return Err(anyhow::anyhow!("the server wasn't told"));
+        let mut dispatcher = Dispatcher::new(&context, jobs, sent, seat, keys, Offload::Never);
+        let shown = self.show(rt, alloc, bench, other, &watch, &mut dispatcher);
+        let share = dispatcher.close();
+        match shown {
+            Ok(true) => seen_alone(alloc, replies, share),
+            Ok(false) => Err(anyhow::anyhow!("the server wasn't told")),
+            Err(error) => Err(error.into()),
         }
-        let mut shares = Vec::new(alloc);
-        shares.push(dispatcher.close())?;
-        replies.seen(alloc, shares)
     }
+
+    // Observes the counter, and makes this call with the tallies and the log of `other`. Returns
+    // whether the call has the expected effect, or an error if memory can't be allocated.
+    fn show<B: Bench, R: Wait>(
+        &self,
+        rt: &R,
+        alloc: Global,
+        bench: &B,
+        other: SeedOf<B::Tallies, B::Book>,
+        watch: &Watch,
+        dispatcher: &mut Teller<'_, B>,
+    ) -> Result<bool, AllocError> {
+        observe_counter(rt, alloc, dispatcher)?;
+        let WorkerSeed {
+            mut tallies,
+            mut log,
+            ..
+        } = other;
+        match self {
+            Told::Time => shows_time(rt, alloc, dispatcher),
+            Told::Signals => shows_signals(rt, alloc, bench, &mut log, dispatcher),
+            Told::Turn => Ok(shows_turn(rt, bench, &mut tallies, &mut log)),
+            Told::Word => Ok(shows_word(rt, watch, dispatcher)),
+        }
+    }
+}
+
+// Returns the results of a trial in which the dispatcher ran all jobs.
+fn seen_alone<T: Drop, J: ServerName>(
+    alloc: Global,
+    replies: Replies,
+    share: ShareOf<T, J>,
+) -> anyhow::Result<Held<T>> {
+    let mut shares = Vec::new(alloc);
+    shares.push(share)?;
+    replies.seen(alloc, shares)
 }
 
 // A dispatcher that runs each job itself.

@@ -8,10 +8,10 @@ use Rattle.fc_workers.specs.Workers.{WorkerSeed}
 use Rattle.fctests.proofs.overtaking_tests.work_fed.Goals as goal
 
 -- each seat that is left has received no job yet.
-pub drive_workers-fed-requires-clause-seats : goal.drive_workers-fed-requires-clause-seats
-drive_workers-fed-requires-clause-seats g c =
+pub work_seated-requires-clause-seats : goal.work_seated-requires-clause-seats
+work_seated-requires-clause-seats g c =
     let jobs = c.in_ok-jobs.jobs in
     let seats = c.in_ok-jobs.seats in
     let left = subst (λ (l : List (WorkerSeed _)). All (λ (s : WorkerSeed _). s.got ≡ nothing_got jobs) l) (sym c.pop.ensures.rest)
     (All-take (λ (s : WorkerSeed _). s.got ≡ nothing_got jobs) (vec_len seats - 1) seats.items c.in_ok-jobs.ensures.seats.got) in
-    λ k d lt. ap (λ (x : Got TrackedJob). x.channel) (left k d lt)
+    λ lifetimes bounds k d lt. ap (λ (x : Got TrackedJob). x.channel) (left k d lt)
