@@ -1,8 +1,8 @@
 //! Changes of slots that are saved in a store before they are made.
 //!
-//! A server with a store (`fc_store`) makes each change of a slot by one of these functions:
-//! [`install`], [`commit`] and [`remove`]. A call plans the change (`fc_registry`), saves its
-//! update, and then makes the change in the shard. If the update can't be saved, no slot changes,
+//! These functions are for a server with a store (`fc_store`): [`install`], [`commit`] and
+//! [`remove`]. No server calls them yet. A call plans the change (`fc_registry`), saves its update,
+//! and then makes the change in the shard. If the update can't be saved, no slot changes,
 //! and the job is answered 5.03. Nothing is saved if the call changes no slot.
 //!
 //! ```rust
