@@ -1,6 +1,6 @@
 -- The effect of an update on the stored slots.
-use Rattle.std.specs.Prelude.{◌≡◌, ℕ, ◌<◌, ◌==◌, if◌then◌else◌, Bool, false, List, Option, Some, None}
-use Rattle.fc_store.specs.Stored.{StoredProgram, StoredSlot, StoredSlots, blank_slot}
+use Rattle.std.specs.Prelude.{◌≡◌, ℕ, ◌<◌, ◌==◌, if◌then◌else◌, Bool, List, Option, Some, None}
+use Rattle.fc_store.specs.Stored.{StoredProgram, StoredSlot, StoredSlots}
 use Rattle.fc_store.specs.declared.store.ProgramUpdate.{ProgramUpdate}
 use Rattle.fc_store.specs.declared.store.ProgramUpdate.TheVariants.{Install, Commit, Remove}
 use Rattle.fc_store.specs.declared.store.SlotUpdate.{SlotUpdate}
@@ -31,13 +31,3 @@ AreSameSlots a b = (n : ℕ) → n < 64 → a n ≡ b n
 -- the update is stored if the result is true; otherwise nothing changes.
 abbrev pub IsStoredIf : Bool → SlotUpdate → StoredSlots → StoredSlots → Type 0
 IsStoredIf result u old new = AreSameSlots new (if result then slots_after u old else old)
-
--- ---- an optional store
-
-abbrev pub persistent_if : {S : Type 0} → (S → Bool) → Option S → Bool
-persistent_if persistent None = false
-persistent_if persistent (Some s) = persistent s
-
-abbrev pub stored_if : {S : Type 0} → (S → StoredSlots) → Option S → StoredSlots
-stored_if stored None = λ _. blank_slot
-stored_if stored (Some s) = stored s

@@ -1,10 +1,15 @@
 //! Persistent state of the slots: a trait for stores, and state after a crash.
 //!
 //! A server saves an update of a slot before it makes the change. [`Store::save`] gets a
-//! [`SlotUpdate`]: the slot's next serial (its revision counter) and the change of its program. If
-//! the call returns `true`, each start after a later crash finds the update, until the next update
-//! is saved. If it returns `false`, the stored slots don't change and the server must not make the
-//! change. A start after a crash may then find the slots with or without the update.
+//! [`SlotUpdate`]: the slot's next serial (its revision counter) and the change of its program.
+//!
+//! - If the call returns `true`, the update is stored. A start after a crash finds the update, if
+//!   the crash comes before the next call of `save`.
+//! - If the call returns `false`, the stored slots don't change, and the server must not make the
+//!   change. A start after a crash may then find the slots with or without the update.
+//!
+//! Both statements about starts hold of a ready store, while the medium returns the data that was
+//! written to it.
 //!
 //! ```rust
 //! use fc_store::{ProgramUpdate, SlotUpdate, Store};
@@ -26,10 +31,13 @@
 //!   `false` leaves all stored slots as they were.
 //! - While the medium returns the data that was written to it, a start after a crash finds just the
 //!   stored slots if the last save returned `true`. If that save returned `false`, a start finds
-//!   slots that it could find before the call, or the slots with that update.
-//! - A store in memory and an optional store guarantee this too.
+//!   slots that it could find before the call, or the slots with that update. Both hold of a ready
+//!   store, which a save leaves ready. No contract is about a crash during a call.
+//! - [`MemoryStore`] has these clauses only in a model, for tests: in the model its slots survive a
+//!   crash. [`NoStore`], which stores nothing, refuses each update.
 //!
-//! By the contracts of `StoredSlot::after`, `MemoryStore::new`, the clauses of `Store`.
+//! By the contracts of `StoredSlot::after`, `copy_slots`, `MemoryStore::new`, the clauses of
+//! `Store`.
 #![tactic(auto)]
 
 pub mod memory;
@@ -37,5 +45,5 @@ pub mod store;
 pub mod stored;
 
 pub use memory::{MemoryStore, SLOTS, blank_slots};
-pub use store::{ProgramUpdate, SlotUpdate, Store};
-pub use stored::{StoredProgram, StoredSlot};
+pub use store::{NoStore, ProgramUpdate, SlotUpdate, Store};
+pub use stored::{StoredProgram, StoredSlot, copy_slots};

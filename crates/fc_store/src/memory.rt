@@ -1,6 +1,7 @@
 //! A store in memory, for tests.
 //!
-//! Its slots are lost when the process ends. A test can make it refuse updates.
+//! Its slots are lost when the process ends. Its contracts suppose that the slots survive a crash,
+//! as those of a persistent store do. A test can make it refuse updates.
 ghost use Rattle.std.specs.Prelude.{◌≡◌, ◌<◌, ℕ, true, false, length, replicate, IfOk};
 ghost use Rattle.fc_store.specs.Updates.{AreSameSlots};
 ghost use Rattle.fc_store.specs.Stored.{blank_slot, stored_in};
@@ -60,7 +61,7 @@ pub fn blank_slots(alloc: Global) -> Result<Vec<StoredSlot>, AllocError>
 }
 
 impl Store for MemoryStore {
-    ghost persistent = { λ _. true };
+    ghost persistent = { true };
 
     ghost stored = { λ s. stored_in s.slots.items };
 

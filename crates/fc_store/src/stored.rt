@@ -50,6 +50,23 @@ impl StoredSlot {
         }
     }
 
+    /// Copies the slot.
+    ///
+    /// # Errors
+    /// Returns `AllocError` if memory can't be allocated.
+    pub fn copy(&self, alloc: Global) -> Result<StoredSlot, AllocError>
+        ensures { IfOk result (λ s. s ≡ self.now) }
+    {
+        let program = match &self.program {
+            Some(program) => self.with_vars(alloc, &program.vars)?,
+            None => None,
+        };
+        Ok(StoredSlot {
+            serial: self.serial,
+            program,
+        })
+    }
+
     /// Copies the slot and applies `update` to the copy.
     ///
     /// # Errors
@@ -77,6 +94,20 @@ impl StoredSlot {
             None => Ok(None),
         }
     }
+}
+
+/// Copies a list of slots.
+///
+/// # Errors
+/// Returns `AllocError` if memory can't be allocated.
+pub fn copy_slots(alloc: Global, slots: &[StoredSlot]) -> Result<Vec<StoredSlot>, AllocError>
+    ensures { IfOk result (λ v. v.items ≡ slots.now) }
+{
+    let mut copies = Vec::with_capacity(alloc, slots.len())?;
+    for slot in slots {
+        copies.push(slot.copy(alloc)?)?;
+    }
+    Ok(copies)
 }
 
 // Copies an image and variables into a stored program of this version.
