@@ -1,6 +1,6 @@
 -- The slots that the table stores after the statement that writes a row.
-use Rattle.std.proofs.Common.{◌≡◌, ◌⊎◌, inl, inr, ℕ, ◌<◌, ℤ, pos, Bool, true, false, ◌&&◌, ◌||◌, cond, List, [], ◌∷◌, append-nil, length, get_or, Option, Some, None, Ok, Err, Result, refl, sym, ap, subst, ◌∙◌, arith, ⊎_elim}
-use Rattle.std.specs.Prelude.{◌==◌, if◌then◌else◌, IsTrue, is_ok}
+use Rattle.std.proofs.Common.{◌≡◌, ◌⊎◌, inl, inr, ℕ, ◌<◌, ℤ, pos, Bool, true, false, not, ◌&&◌, ◌||◌, cond, List, [], ◌∷◌, append-nil, length, get_or, Option, Some, None, Ok, Err, Result, refl, sym, ap, subst, ◌∙◌, arith, ⊎_elim}
+use Rattle.std.specs.Prelude.{◌==◌, if◌then◌else◌, IfErr, IfOk, IsTrue, is_ok}
 use Rattle.std.specs.Ordering.{is_eq}
 use Rattle.std.proofs.lemmas.Bool.{cases_Bool, cases_eq, eq-eqb, ne_eqb}
 use Rattle.std.proofs.lemmas.Bool.Decides.{nat_tests}
@@ -109,6 +109,26 @@ does_put : (limit : Option ℕ) (mode : Mode) (db : Trees) (n serial : ℕ) (pro
 does_put limit mode db n serial None text tally after h = puts limit mode db n serial Null Null Null cast_null text tally after h
 does_put limit mode db n serial (Some p) text tally after h = puts limit mode db n serial (Int (pos p.version)) (Blob p.image) (Blob p.vars) (cast_int (pos p.version)) text tally after h
 
+-- a statement that changed nothing or was rolled back leaves the slots that the table stores.
+module _ (old : State) (stored : StoredSlots) (has : Mirrors old stored) where
+  pub unchanged : (new : State) → IsTrue new.is_open → IsUnchanged old new ⊎ IsRolledBack old new → Mirrors new stored
+  unchanged new is_open (inl u) = record {
+    schema = ap (λ (d : Database). d.schema) u.0.now_is ∙ has.schema;
+    autocommit = u.0.mode ∙ has.autocommit;
+    committed = u.0.committed_is ∙ has.committed ∙ sym u.0.now_is;
+    numbered = subst (λ (d : Database). AreNumbered (d.trees 0)) (sym u.0.now_is) has.numbered;
+    same = λ m few. ap (λ (d : Database). slots_in_rows (d.trees 0) m) u.0.now_is ∙ has.same m few;
+  }
+  unchanged new is_open (inr r) =
+      let undone = r.undone is_open in
+      let now : new.now ≡ old.now = undone.0 ∙ has.committed in record {
+        schema = ap (λ (d : Database). d.schema) now ∙ has.schema;
+        autocommit = r.autocommit;
+        committed = undone.1 ∙ sym undone.0;
+        numbered = subst (λ (d : Database). AreNumbered (d.trees 0)) (sym now) has.numbered;
+        same = λ m few. ap (λ (d : Database). slots_in_rows (d.trees 0) m) now ∙ has.same m few;
+      }
+
 module _ (n : ℕ) (s : StoredSlot) (old : State) (stored : StoredSlots) (has : Mirrors old stored) where
   abbrev changed : Trees → Type 0
   changed db = AreNumbered (db 0) × AreSameSlots (slots_in_rows (db 0)) (with_stored_slot n s stored)
@@ -154,30 +174,11 @@ module _ (n : ℕ) (s : StoredSlot) (old : State) (stored : StoredSlots) (has : 
         same = it.1.1;
       }
 
-  -- if the statement changed nothing or was rolled back, the table stores the same slots as before.
-  unchanged : (new : State) → IsTrue new.is_open → IsUnchanged old new ⊎ IsRolledBack old new → Mirrors new stored
-  unchanged new is_open (inl u) = record {
-    schema = ap (λ (d : Database). d.schema) u.0.now_is ∙ has.schema;
-    autocommit = u.0.mode ∙ has.autocommit;
-    committed = u.0.committed_is ∙ has.committed ∙ sym u.0.now_is;
-    numbered = subst (λ (d : Database). AreNumbered (d.trees 0)) (sym u.0.now_is) has.numbered;
-    same = λ m few. ap (λ (d : Database). slots_in_rows (d.trees 0) m) u.0.now_is ∙ has.same m few;
-  }
-  unchanged new is_open (inr r) =
-      let undone = r.undone is_open in
-      let now : new.now ≡ old.now = undone.0 ∙ has.committed in record {
-        schema = ap (λ (d : Database). d.schema) now ∙ has.schema;
-        autocommit = r.autocommit;
-        committed = undone.1 ∙ sym undone.0;
-        numbered = subst (λ (d : Database). AreNumbered (d.trees 0)) (sym now) has.numbered;
-        same = λ m few. ap (λ (d : Database). slots_in_rows (d.trees 0) m) now ∙ has.same m few;
-      }
-
   pub refused : (new : State) (e : Error) → IsTrue new.is_open → Executes put_text (row_values n s) old new (Err e) → Mirrors new stored
   unfolding ExecutesIn IsNotRun
-  refused new e is_open (inl (inl it)) = unchanged new is_open (inl it.1)
-  refused new e is_open (inl (inr fails)) = unchanged new is_open (inr fails.3)
-  refused new e is_open (inr h) = unchanged new is_open (elim (cases_Bool (shows_rows false h.0)) [
+  refused new e is_open (inl (inl it)) = unchanged old stored has new is_open (inl it.1)
+  refused new e is_open (inl (inr fails)) = unchanged old stored has new is_open (inr fails.3)
+  refused new e is_open (inr h) = unchanged old stored has new is_open (elim (cases_Bool (shows_rows false h.0)) [
     | inl shows ↦ inl (rw shows at h.2).1
     | inr runs ↦ elim (rw runs at h.2) [ inl placed ↦ inl placed.1 | inr fails ↦ inr fails.3 ]
   ])
@@ -201,22 +202,48 @@ module _ (n : ℕ) (s : StoredSlot) (old : State) (stored : StoredSlots) (has : 
 
 -- ---- while the connection is open
 
-module _ (n : ℕ) (s : StoredSlot) (old new : State) (stored : StoredSlots) (C : Trees → Type 0) (sv : Survives old new C) (m : IsMirrored old stored) (opened : IsTrue old.is_open) where
+module _ (n : ℕ) (s : StoredSlot) (old new : State) (stored : StoredSlots) (sv : Survives old new (CommitsBy put_text (row_values n s) old)) (m : IsMirrored false old stored) where
   was : HasCleanDisk new → Mirrors old stored
-  was clean = m (omega (arith, sv.clean, clean)) opened
+  was clean = (m (omega (arith, sv.clean, clean))).1
 
-  pub mirrored : (answer : Bool) → (HasCleanDisk new → Puts n s old new answer) → IsMirrored new (if answer then with_stored_slot n s stored else stored)
-  mirrored answer put clean is_open = put_mirrors n s old stored (was clean) new answer is_open (put clean)
+  pub kept : (answer : Bool) → (HasCleanDisk new → Puts n s old new answer) → IsMirrored (not answer) new (if answer then with_stored_slot n s stored else stored)
+  kept true put = λ clean.
+      let is_open = put_open n s old stored (was clean) new true (put clean) refl in
+      (is_open, put_mirrors n s old stored (was clean) new true is_open (put clean))
+  kept false put = λ clean is_open. put_mirrors n s old stored (was clean) new false is_open (put clean)
 
-  pub stays_open : (answer : Bool) → (HasCleanDisk new → Puts n s old new answer) → HasCleanDisk new → answer ≡ true → IsTrue new.is_open
-  stays_open answer put clean said = put_open n s old stored (was clean) new answer (put clean) said
+  pub crashes : HasCleanDisk new → (db : Trees) → new.may_leave db → old.may_leave db ⊎ AreSameSlots (slots_in_rows (db 0)) (with_stored_slot n s stored)
+  crashes clean db may = elim (sv.crash clean db may) [
+    | inl before ↦ inl before
+    | inr by ↦ inr (commits n s old stored (was clean) db by)
+  ]
 
-pub crashes : (n : ℕ) (s : StoredSlot) (old new : State) (stored : StoredSlots) → Survives old new (CommitsBy put_text (row_values n s) old) → IsMirrored old stored → IsTrue old.is_open → HasCleanDisk new
-    → (db : Trees) → new.may_leave db → old.may_leave db ⊎ AreSameSlots (slots_in_rows (db 0)) (with_stored_slot n s stored)
-crashes n s old new stored sv m opened clean db may = elim (sv.crash clean db may) [
-  | inl before ↦ inl before
-  | inr by ↦ inr (commits n s old stored (was n s old new stored (CommitsBy put_text (row_values n s) old) sv m opened clean) db by)
-]
+-- ---- after a write that failed
+
+pub doubted : (s : State) (stored : StoredSlots) → IsMirrored false s stored → IsMirrored true s stored
+doubted s stored m = λ clean is_open. (m clean).1
+
+module _ (old new : State) (stored : StoredSlots) (sv : Survives old new (λ db. ⊥)) (m : IsMirrored true old stored) where
+  was_kept : HasCleanDisk new → IsTrue old.is_open → Mirrors old stored
+  was_kept clean opened = m (omega (arith, sv.clean, clean)) opened
+
+  answered : (HasCleanDisk new → IsUnchanged old new) → IsMirrored false new stored
+  answered same clean =
+      let u = same clean in
+      (u.0.is_open, unchanged old stored (was_kept clean u.0.was_open) new u.0.is_open (inl u))
+
+  unanswered : (sql : List ℕ) (params : Row) (e : Error) → (HasCleanDisk new → IsNotRun old new sql params e) → IsMirrored true new stored
+  unfolding IsNotRun
+  unanswered sql params e not_run clean is_open = elim (not_run clean) [
+    | inl it ↦ unchanged old stored (was_kept clean it.1.0.was_open) new is_open (inl it.1)
+    | inr fails ↦ unchanged old stored (was_kept clean (fails.3.was_open is_open)) new is_open (inr fails.3)
+  ]
+
+  -- a connection that compiles a statement is open.
+  pub asked : {A : Type 0} (Is : A → Type 0) (r : Result A Error) (sql : List ℕ) → (HasCleanDisk new → IfOk r (λ x. Is x × IsUnchanged old new))
+      → (HasCleanDisk new → IfErr r (λ e. (params : Row) → IsNotRun old new sql params e)) → IsMirrored (not (is_ok r)) new stored
+  asked Is (Ok x) sql ok err = answered (λ clean. (ok clean).1)
+  asked Is (Err e) sql ok err = unanswered sql [] e (λ clean. err clean [])
 
 -- ---- the copy in memory
 
@@ -230,8 +257,12 @@ with_after s k d all at is lt made n few = ⊎_elim
     both : (n == s.slot) ≡ true → k ≡ slot_after s (stored_in all n) → (if n == s.slot then k else stored_in all n) ≡ (if n == s.slot then slot_after s (stored_in all n) else stored_in all n)
     both is e = ap (λ (c : Bool). if c then k else stored_in all n) is ∙ e ∙ sym (ap (λ (c : Bool). if c then slot_after s (stored_in all n) else stored_in all n) is)
 
-pub mirrors_same : (s : State) (a b : StoredSlots) → AreSameSlots a b → Mirrors s a → Mirrors s b
+mirrors_same : (s : State) (a b : StoredSlots) → AreSameSlots a b → Mirrors s a → Mirrors s b
 mirrors_same s a b e m = record { schema = m.schema; autocommit = m.autocommit; committed = m.committed; numbered = m.numbered; same = λ n few. m.same n few ∙ e n few }
+
+pub kept_same : (b : Bool) (s : State) (x y : StoredSlots) → AreSameSlots x y → IsMirrored b s x → IsMirrored b s y
+kept_same true s x y e m = λ clean is_open. mirrors_same s x y e (m clean is_open)
+kept_same false s x y e m = λ clean. let it = m clean in (it.0, mirrors_same s x y e it.1)
 
 pub same_both : (a b c : StoredSlots) → AreSameSlots a c → AreSameSlots b c → AreSameSlots a b
 same_both a b c p q n few = p n few ∙ sym (q n few)

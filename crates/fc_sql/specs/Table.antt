@@ -6,7 +6,7 @@ use Rattle.sqlite.specs.declared.types.Value.TheVariants.{Null, Int, Blob}
 use Rattle.sqlite.specs.Order.{Row}
 use Rattle.sqlite_value.specs.Order.{column}
 use Rattle.std.specs.List.{AllByRecursion}
-use Rattle.sqlite_trees.specs.Tree.{rowid}
+use Rattle.sqlite_trees.specs.Tree.{Trees, rowid}
 use Rattle.sqlite_trees.specs.View.{is_int}
 use Rattle.sqlite_rules.specs.Edit.{row_at}
 use Rattle.sqlite.specs.declared.error.Error.{Error}
@@ -119,10 +119,15 @@ pub record Mirrors (s : State) (stored : StoredSlots) : Type 0 where
   pub numbered : AreNumbered (s.now.trees 0)
   pub same : AreSameSlots (slots_in_rows (s.now.trees 0)) stored
 
--- if the medium is clean and the connection is open, the table stores these slots, and is
--- committed.
-abbrev pub IsMirrored : State → StoredSlots → Type 0
-IsMirrored s stored = HasCleanDisk s → IsTrue s.is_open → Mirrors s stored
+-- if the medium is clean, the table stores these slots and is committed, and the connection is
+-- open. After a failed write (`in_doubt`), the table does so while the connection is open.
+abbrev pub IsMirrored : Bool → State → StoredSlots → Type 0
+IsMirrored false s stored = HasCleanDisk s → IsTrue s.is_open × Mirrors s stored
+IsMirrored true s stored = HasCleanDisk s → IsTrue s.is_open → Mirrors s stored
+
+-- if the medium is clean, a start finds just these slots.
+abbrev pub FindsOnly : State → StoredSlots → Type 0
+FindsOnly s stored = HasCleanDisk s → (db : Trees) → s.may_leave db → AreSameSlots (slots_in_rows (db 0)) stored
 
 -- the slots, with another state of slot n.
 abbrev pub with_stored_slot : ℕ → StoredSlot → StoredSlots → StoredSlots

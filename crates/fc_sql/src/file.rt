@@ -1,11 +1,11 @@
-//! A store in a file. No program opens such a store yet.
+//! A store in a file.
 ghost use Rattle.std.specs.Prelude.{IfOk, IfErr, IsTrue};
 ghost use Rattle.sqlite.specs.State.{HasCleanDisk};
 ghost use Rattle.sqlite.specs.Files.{file_state, IsOpened};
 ghost use Rattle.sqlite.specs.Start.{FindsIn};
 ghost use Rattle.sqlite.specs.WalFiles.{image_at};
 ghost use Rattle.fc_store.specs.Stored.{stored_in};
-ghost use Rattle.fc_sql.specs.Table.{IsMirrored};
+ghost use Rattle.fc_sql.specs.Table.{FindsOnly, IsMirrored};
 ghost use Rattle.fc_sql.specs.Found.{FindsSlots, IsFailure};
 
 use crate::error::OpenError;
@@ -19,7 +19,10 @@ pub type FileOfSlots = SqlStore<FileStore<FileFrom<Wary>>>;
 ///
 /// # Errors
 /// Returns why the file can't be opened. A file that isn't a store of slots keeps its contents.
-pub fn open(rt: &HostRuntime, path: &str) -> Result<FileOfSlots, OpenError> {
+pub fn open(rt: &HostRuntime, path: &str) -> Result<FileOfSlots, OpenError>
+    ensures ready { IfOk result (λ s. IsMirrored s.in_doubt (file_state s.conn) (stored_in s.slots.items)) }
+    ensures settled { IfOk result (λ s. FindsOnly (file_state s.conn) (stored_in s.slots.items)) }
+{
     open_from(rt, path, Wary)
 }
 
@@ -35,7 +38,8 @@ pub fn open_from<S: Start>(
     path: &str,
     start: S,
 ) -> Result<SqlStore<FileStore<FileFrom<S>>>, OpenError>
-    ensures ready { IfOk result (λ s. IsMirrored (file_state s.conn) (stored_in s.slots.items)) }
+    ensures ready { IfOk result (λ s. IsMirrored s.in_doubt (file_state s.conn) (stored_in s.slots.items)) }
+    ensures settled { IfOk result (λ s. FindsOnly (file_state s.conn) (stored_in s.slots.items)) }
     ensures open { IfOk result (λ s. HasCleanDisk (file_state s.conn) → IsTrue (file_state s.conn).is_open) }
     ensures found { IfOk result (λ s. HasCleanDisk (file_state s.conn) → FindsSlots (image_at S.Start) s.conn (stored_in s.slots.items)) }
 {

@@ -21,11 +21,12 @@
 //! # What is proved
 //!
 //! - `SqlStore` meets the clauses of `Store` over any store of the `sqlite` crate. The rows are
-//!   just the stored slots. A save that returns `true` is committed, so no crash undoes it. A save
-//!   that returns `false` leaves the database as before, or with the update.
-//! - `open` returns such a store. Its slots are just those that the database stores. A slot has one
-//!   row with its state, or has no row and is blank, and there is no other row. An empty database
-//!   gets the table.
+//!   just the stored slots. A save that returns `true` is committed: no crash undoes it while the
+//!   medium returns the data that was written to it. A save that returns `false` leaves the
+//!   database as before, or with the update. The store stays ready for the next save.
+//! - `open` returns such a store, which is ready. Its slots are just those that the database
+//!   stores. A slot has one row with its state, or has no row and is blank, and there is no other
+//!   row. An empty database gets the table.
 //! - Any other database is refused and is left as it was. The error names the row that is no slot's
 //!   state, and the reason.
 //!

@@ -3,7 +3,7 @@
 //! Clauses about the database suppose that the medium is clean at the end: it returned the data
 //! that was written to it. The clause `survives` doesn't suppose this: it says which changes a
 //! crash may leave.
-ghost use Rattle.std.specs.Prelude.{◌≡◌, ◌⊎◌, ℤ, pos, [], length, ◌∷◌, IsTrue, IfOk, IfErr, OnOk};
+ghost use Rattle.std.specs.Prelude.{◌≡◌, ◌⊎◌, ℤ, pos, false, [], length, ◌∷◌, IsTrue, IfOk, IfErr, OnOk};
 ghost use Rattle.std.specs.List.{All};
 ghost use Rattle.std.specs.List.Sorted.{IsPermutation};
 ghost use Rattle.sqlite.specs.State.{CommitsBy, HasCleanDisk, Survives};
@@ -40,7 +40,7 @@ pub fn load<S: Alter + Drop>(
     conn: &mut Connection<S>,
 ) -> Result<Vec<StoredSlot>, OpenError>
     ensures size { IfOk result (λ v. length v.items ≡ 64) }
-    ensures ready { IfOk result (λ v. IsMirrored (state S.Store conn.new) (stored_in v.items)) }
+    ensures ready { IfOk result (λ v. IsMirrored false (state S.Store conn.new) (stored_in v.items)) }
     ensures open { HasCleanDisk (state S.Store conn.new) → OnOk result (IsTrue (state S.Store conn.new).is_open) }
     ensures found { HasCleanDisk (state S.Store conn.new) → IfOk result (λ v. StoresIn (state S.Store conn.old).now (stored_in v.items)) }
     ensures refused { HasCleanDisk (state S.Store conn.new) → IfErr result (RefusesDatabase (state S.Store conn.old) (state S.Store conn.new)) }
@@ -59,7 +59,7 @@ fn read_made<S: Alter + Drop>(
 ) -> Result<Vec<StoredSlot>, OpenError>
     requires table { HasTable (state S.Store conn.old) }
     ensures size { IfOk result (λ v. length v.items ≡ 64) }
-    ensures ready { IfOk result (λ v. IsMirrored (state S.Store conn.new) (stored_in v.items)) }
+    ensures ready { IfOk result (λ v. IsMirrored false (state S.Store conn.new) (stored_in v.items)) }
     ensures open { HasCleanDisk (state S.Store conn.new) → OnOk result (IsTrue (state S.Store conn.new).is_open) }
     ensures found { HasCleanDisk (state S.Store conn.new) → IfOk result (λ v. TableStores (state S.Store conn.old) (stored_in v.items)) }
     ensures refused { HasCleanDisk (state S.Store conn.new) → IfErr result (RefusesRows (state S.Store conn.old) (state S.Store conn.new)) }

@@ -1,5 +1,5 @@
 //! The table of slots, and the statement that writes a row.
-ghost use Rattle.std.specs.Prelude.{◌≡◌, ◌⊎◌, ◌<◌, ◌^◌, if◌then◌else◌, pos, true, IsTrue, Some, None};
+ghost use Rattle.std.specs.Prelude.{◌≡◌, ◌⊎◌, ◌<◌, ◌^◌, if◌then◌else◌, not, pos, true, false, Some, None};
 ghost use Rattle.sqlite.specs.Tree.{Trees};
 ghost use Rattle.sqlite.specs.State.{CommitsBy, HasCleanDisk, Survives};
 ghost use Rattle.sqlite.specs.Held.{state};
@@ -21,20 +21,39 @@ pub const TABLE: &str =
 pub const PUT: &str =
     "INSERT OR REPLACE INTO slot (number, serial, version, image, vars) VALUES (?1, ?2, ?3, ?4, ?5)";
 
+// A query that reads no table.
+const QUESTION: &str = "SELECT 1";
+
 // The greatest integer that the table can store.
 const GREATEST: u64 = 9_223_372_036_854_775_807;
+
+/// Returns whether the connection takes a write.
+///
+/// `in_doubt` says that the last write failed. The failure may have shut the connection, so a
+/// statement is then compiled: a connection that is shut refuses it.
+pub fn takes_writes<S: Alter>(conn: &mut Connection<S>, in_doubt: bool) -> bool
+    ensures kept { (before : StoredSlots) → IsMirrored in_doubt (state S.Store conn.old) before
+        → IsMirrored (not result) (state S.Store conn.new) before }
+    ensures clean { HasCleanDisk (state S.Store conn.new) → HasCleanDisk (state S.Store conn.old) }
+    ensures crash { HasCleanDisk (state S.Store conn.new) → (db : Trees)
+        → S.Store.recovers conn.new.store db → S.Store.recovers conn.old.store db }
+{
+    if in_doubt {
+        conn.prepare(QUESTION).is_ok()
+    } else {
+        true
+    }
+}
 
 /// Writes the row of `slot`, and returns whether it is written and committed.
 ///
 /// Returns `false` if the serial or the version is above the greatest integer of SQLite, 2^63 - 1,
 /// or if the statement fails.
 pub fn write<S: Alter>(conn: &mut Connection<S>, slot: u8, stored: &StoredSlot) -> bool
-    ensures stored { (before : StoredSlots) → IsMirrored (state S.Store conn.old) before → IsTrue (state S.Store conn.old).is_open
-        → IsMirrored (state S.Store conn.new) (if result then with_stored_slot slot stored.now before else before) }
+    ensures kept { (before : StoredSlots) → IsMirrored false (state S.Store conn.old) before
+        → IsMirrored (not result) (state S.Store conn.new) (if result then with_stored_slot slot stored.now before else before) }
     ensures clean { HasCleanDisk (state S.Store conn.new) → HasCleanDisk (state S.Store conn.old) }
-    ensures open { (before : StoredSlots) → IsMirrored (state S.Store conn.old) before → IsTrue (state S.Store conn.old).is_open
-        → HasCleanDisk (state S.Store conn.new) → result ≡ true → IsTrue (state S.Store conn.new).is_open }
-    ensures crash { (before : StoredSlots) → IsMirrored (state S.Store conn.old) before → IsTrue (state S.Store conn.old).is_open
+    ensures crash { (before : StoredSlots) → IsMirrored false (state S.Store conn.old) before
         → HasCleanDisk (state S.Store conn.new) → (db : Trees) → S.Store.recovers conn.new.store db
         → S.Store.recovers conn.old.store db ⊎ AreSameSlots (slots_in_rows (db 0)) (with_stored_slot slot stored.now before) }
 {
