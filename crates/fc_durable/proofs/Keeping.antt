@@ -14,7 +14,7 @@ use Rattle.fc_registry.proofs.Plans.{kept_changed}
 use Rattle.fc_core.specs.declared.event.Event.{Event}
 use Rattle.fc_core.specs.declared.stage.Task.{Task}
 use Rattle.fc_core.specs.Transitions.{Common, Effect, ShardMoves, inputs_of, shard_moved, transition}
-use Rattle.fc_durable.specs.Keeping.{AreSameElsewhere, FindsStored, KeepsStored, IsStoring, StoresChange, StoresShard, IsWorking}
+use Rattle.fc_durable.specs.Keeping.{AreSameElsewhere, FindsStored, KeepsStored, IsStoring, StoresChange, StoresShard}
 use Rattle.fc_durable.specs.Saved.{HasImages, SavesUpdate, SavesBy, SavesPlan, StoreMoves}
 
 -- ---- one slot of a shard and its stored state
@@ -100,19 +100,19 @@ module _ {S : Type 0} (g : Ghosts S) (e : Event) (task : Task) (before after : S
       });
       others = λ k lt ne. ap (λ (x : S). g.stored x k) same;
       clean = λ c. subst g.is_clean same c;
-      works = λ was c w. subst (IsWorking g) (sym same) w;
+      ready = λ r. subst g.is_ready (sym same) r;
       durable = λ was c w settled. subst (λ (x : S). FindsStored g x) (sym same) settled;
       crash = λ c w s found may. inl (subst (λ (x : S). g.may_recover x found) same may);
     }
 
     -- a store that isn't persistent needs no state of the shard.
-    keeps_nothing : (made : Bool) → g.persistent old ≡ false → new ≡ old →
+    keeps_nothing : (made : Bool) → g.persistent ≡ false → new ≡ old →
         KeepsStored g e made task before after old new
     keeps_nothing made none same = record {
       stored = λ s. absurd (false≢true (sym none ∙ s.persistent));
       others = λ k lt ne. ap (λ (x : S). g.stored x k) same;
       clean = λ c. subst g.is_clean same c;
-      works = λ was c w. subst (IsWorking g) (sym same) w;
+      ready = λ r. subst g.is_ready (sym same) r;
       durable = λ was c w settled. subst (λ (x : S). FindsStored g x) (sym same) settled;
       crash = λ c w s found may. inl (subst (λ (x : S). g.may_recover x found) same may);
     }
@@ -133,7 +133,7 @@ module _ {S : Type 0} (g : Ghosts S) (e : Event) (task : Task) (before after : S
         apart : (k : ℕ) → (IsOwned before k → ⊥) → k ≡ n → ⊥
         apart k ne e = ne (subst (IsOwned before) (sym e) own)
 
-        after_crash : (made : Bool) → SavesUpdate g u made old new → g.is_clean new → IsWorking g old →
+        after_crash : (made : Bool) → SavesUpdate g u made old new → g.is_clean new → g.is_ready old →
             IsStoring g old before → (found : StoredSlots) → g.may_recover new found
             → g.may_recover old found ⊎ (StoresChange e before task found × AreSameElsewhere before
             found (g.stored old))
@@ -147,43 +147,39 @@ module _ {S : Type 0} (g : Ghosts S) (e : Event) (task : Task) (before after : S
               λ k lt ne. stored_there
                   (g.stored old) found u n k planned.0 lt (apart k ne) same,
             ))
-            (saved.crash w.is_ready w.is_open clean found may)
+            (saved.crash w clean found may)
 
         keeps_saved : (made : Bool) → SavesUpdate g u made old new → (made ≡ true →
             ShardMoves e before task after) → (made ≡ false → after ≡ before) →
             KeepsStored g e made task before after old new
         keeps_saved true saved moves stays = record {
           stored = λ s. record {
-            persistent = saved.persistent;
+            persistent = s.persistent;
             stored = subst (StoresShard (g.stored new)) (sym (moves refl any)) (stores_changed before n
                 own m (g.stored old) (g.stored new) c u is planned image saved.stored s.stored);
           };
           others = λ k lt ne. stored_there (g.stored old) (g.stored new) u n k planned.0 lt (apart k ne)
               saved.stored;
           clean = saved.clean;
-          works = λ was c w. record {
-            is_ready = saved.ready w.is_ready w.is_open;
-            is_open =
-                saved.stays_open w.is_ready w.is_open c refl;
-          };
-          durable = λ was clean w settled. saved.durable w.is_ready w.is_open clean refl;
+          ready = saved.ready;
+          durable = λ was clean w settled. saved.durable w clean refl;
           crash = after_crash true saved;
         }
         keeps_saved false saved moves stays = record {
           stored = λ s. record {
-            persistent = saved.persistent;
+            persistent = s.persistent;
             stored = subst (StoresShard (g.stored new)) (sym (stays refl)) (λ k owned room. subst
                 (IsStoredOf (slot_in before k)) (sym (saved.stored k owned.slot)) (s.stored k owned
                 room));
           };
           others = λ k lt ne. saved.stored k lt;
           clean = saved.clean;
-          works = λ was c w. absurd (false≢true was);
+          ready = saved.ready;
           durable = λ was clean w settled. absurd (false≢true was);
           crash = after_crash false saved;
         }
 
-        keeps_by : (persistent made : Bool) → g.persistent old ≡ persistent →
+        keeps_by : (persistent made : Bool) → g.persistent ≡ persistent →
             SavesBy g persistent u made old new → (made ≡ true → ShardMoves e before task after) →
             (made ≡ false → after ≡ before) → KeepsStored g e made task before after old new
         keeps_by true made is saved moves stays = keeps_saved made saved moves stays
@@ -201,7 +197,7 @@ module _ {S : Type 0} (g : Ghosts S) (e : Event) (task : Task) (before after : S
     keeps_plan made (c ∷ cs) None own is planned images saved moves stays = absurd planned
     keeps_plan made (c ∷ cs) (Some u) own is planned images saved moves stays =
         keeps_by own c u (is ∙ ap (λ (rest : List Change). c ∷ rest) planned.1) planned.0 images
-        (g.persistent old) made refl saved moves stays
+        g.persistent made refl saved moves stays
 
     -- a store that saves an event's update first keeps the state of the shard's slots.
     pub keeps_shard : (made : Bool) → IsOwned before n → StoreMoves g e before task made old new →

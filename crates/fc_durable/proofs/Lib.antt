@@ -2,3 +2,4 @@ pub mod Keeping
 pub mod Moves
 pub mod Installs
 pub mod Removals
+pub mod Recovery

@@ -21,7 +21,7 @@ no_program slot serial saves.Remove before is = refl
 
 -- the update that a persistent store saved for one change.
 saved_update : {S : Type 0} (g : Ghosts S) (slot : Slot) (n : ℕ) (cs : List Change) (c : Change)
-    (made : Bool) (old new : S) → cs ≡ c ∷ [] → g.persistent old ≡ true →
+    (made : Bool) (old new : S) → cs ≡ c ∷ [] → g.persistent ≡ true →
     (plan : Option SlotUpdate) → IsPlan slot n cs plan → SavesPlan g plan made old new
     → (u : SlotUpdate) × IsPlan slot n (c ∷ []) (Some u) × SavesUpdate g u made old new
 saved_update g slot n cs c made old new is persistent None planned saved =
@@ -34,7 +34,7 @@ saved_update g slot n cs c made old new is persistent (Some u) planned saved = (
 )
 
 module _ {S : Type 0} (g : Ghosts S) (slot : Slot) (n : ℕ) (old new : S) (persistent : g.persistent
-    old ≡ true) where
+    ≡ true) where
   removes : (p : Present) → slot.serial < last_serial → slot.present ≡ Some p →
       (remove_from slot).changes ≡ Removed ∷ []
   removes p below is = λ i. (clear_by (lt-ltb slot.serial last_serial below i) slot.serial (is

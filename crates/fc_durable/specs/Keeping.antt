@@ -25,13 +25,8 @@ StoresChange e shard task stored = (after : Shard) → ShardMoves e shard task a
 
 -- the store is persistent, and has the state of each slot of the shard.
 pub record IsStoring {S : Type 0} (g : Ghosts S) (store : S) (shard : Shard) : Type 0 where
-  pub persistent : g.persistent store ≡ true
+  pub persistent : g.persistent ≡ true
   pub stored : StoresShard (g.stored store) shard
-
--- the store is ready, and no failure has shut it.
-pub record IsWorking {S : Type 0} (g : Ghosts S) (store : S) : Type 0 where
-  pub is_ready : g.is_ready store
-  pub is_open : g.is_open store
 
 -- if the machine stops now, a start finds just the stored slots.
 abbrev pub FindsStored : {S : Type 0} → Ghosts S → S → Type 0
@@ -47,13 +42,13 @@ pub record KeepsStored {S : Type 0} (g : Ghosts S) (e : Event) (made : Bool) (ta
   pub stored : IsStoring g old before → IsStoring g new after
   pub others : AreSameElsewhere before (g.stored new) (g.stored old)
   pub clean : g.is_clean new → g.is_clean old
-  pub works : made ≡ true → g.is_clean new → IsWorking g old → IsWorking g new
+  pub ready : g.is_ready old → g.is_ready new
   -- after a change that is made, a start still finds just the stored slots.
-  pub durable : made ≡ true → g.is_clean new → IsWorking g old → FindsStored g old →
+  pub durable : made ≡ true → g.is_clean new → g.is_ready old → FindsStored g old →
       FindsStored g new
   -- a start finds slots that it could find before, or the stored slots with the event's change. The
   -- change may be found although its save was refused.
-  pub crash : g.is_clean new → IsWorking g old → IsStoring g old before → (found : StoredSlots) →
+  pub crash : g.is_clean new → g.is_ready old → IsStoring g old before → (found : StoredSlots) →
       g.may_recover new found →
       g.may_recover old found
       ⊎ (StoresChange e before task found × AreSameElsewhere before found (g.stored old))

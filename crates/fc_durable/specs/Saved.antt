@@ -14,15 +14,13 @@ use Rattle.fc_core.specs.Transitions.{Common, inputs_of, transition}
 -- a store saved the update with this result: the guarantees of `Store::save`.
 pub record SavesUpdate {S : Type 0} (g : Ghosts S) (u : SlotUpdate) (result : Bool) (old new : S) :
     Type 0 where
-  pub persistent : g.persistent new ≡ true
   pub stored : IsStoredIf result u (g.stored old) (g.stored new)
   pub clean : g.is_clean new → g.is_clean old
-  pub ready : g.is_ready old → g.is_open old → g.is_ready new
-  pub durable : g.is_ready old → g.is_open old → g.is_clean new → result ≡ true →
-      (found : StoredSlots) → g.may_recover new found → AreSameSlots found (g.stored new)
-  pub stays_open : g.is_ready old → g.is_open old → g.is_clean new → result ≡ true → g.is_open new
-  pub crash : g.is_ready old → g.is_open old → g.is_clean new → (found : StoredSlots) →
-      g.may_recover new found → g.may_recover old found
+  pub ready : g.is_ready old → g.is_ready new
+  pub durable : g.is_ready old → g.is_clean new → result ≡ true → (found : StoredSlots) →
+      g.may_recover new found → AreSameSlots found (g.stored new)
+  pub crash : g.is_ready old → g.is_clean new → (found : StoredSlots) → g.may_recover new found →
+      g.may_recover old found
       ⊎ AreSameSlots found (slots_after u (g.stored old))
 
 -- the store saves the update if it is persistent. Otherwise the change is made without a save, and
@@ -35,7 +33,7 @@ SavesBy g false u made old new = (made ≡ true) × (new ≡ old)
 -- made, or the update can't be saved. Without an update nothing is saved.
 abbrev pub SavesPlan : {S : Type 0} → Ghosts S → Option SlotUpdate → Bool → S → S → Type 0
 SavesPlan g None made old new = (made ≡ true) × (new ≡ old)
-SavesPlan g (Some u) made old new = SavesBy g (g.persistent old) u made old new
+SavesPlan g (Some u) made old new = SavesBy g g.persistent u made old new
 
 -- the update of an install has an image of the install's program.
 abbrev pub HasImages : List Change → Option SlotUpdate → Type 0
