@@ -1,2 +1,3 @@
 pub mod Snapshots
 mod Confirming
+mod Planned

@@ -2,22 +2,31 @@
 //!
 //! The contract of a call mentions only the shard that is passed to the call. The workers
 //! (`fc_workers`) make these calls under the shard's lock, and `fc_filed` files them.
-ghost use Rattle.std.specs.Prelude.{◌≡◌, ℕ, ◌+◌, ⊤, if◌then◌else◌};
+ghost use Rattle.std.specs.Prelude.{◌≡◌, ℕ, ◌+◌, ◌<◌, ⊤, if◌then◌else◌, List, [], ◌∷◌, true, is_some, IfSome};
+ghost use Rattle.fc_verify.specs.Accepted.{Accepts};
+ghost use Rattle.fc_verify.specs.Judged.{judged};
+ghost use Rattle.fc_registry.specs.Calls.{commit_of, initial_vars_of, wants};
+ghost use Rattle.fc_registry.specs.Changes.{Change as SlotChange, Committed as Commits, Installed, Removed};
 ghost use Rattle.fc_registry.specs.Notes.{noted_as};
-ghost use Rattle.fc_registry.specs.Slots.{IsOwned, Shard as Seen};
+ghost use Rattle.fc_registry.specs.Plans.{IsPlanned, SavesImage};
+ghost use Rattle.fc_registry.specs.Slots.{IsOwned, Shard as Seen, slot_in};
 ghost use Rattle.fc_registry.specs.Turns.{written_if};
+ghost use Rattle.fc_core.specs.Stages.{image_of};
+ghost use Rattle.fc_core.specs.Steps.{changes_of_call, Commits as CommitCall, Installs as InstallCall, Removes as RemoveCall};
 ghost use Rattle.fc_calls.specs.Doings.{CommitsAt, DescribesTo, GivesTurnAt, GivesUpAt, HandsOn, InstallsTo, NotesAt, PassesIfIdle};
 ghost use Rattle.fc_calls.specs.Doings.{RemovesFrom, TakesInto, FindsCost, TellsIdleUntil, TellsObservers, TicksAt};
 ghost use Rattle.fc_calls.specs.Kept.{HasEightSlots, commit_changes, confirm_times, install_changes, removal_changes, serials};
 
 use coap_msg::{Emission, Endpoint};
+use fc_core::task::image;
 use fc_help::Readings;
 use fc_machine::Outcome;
 use fc_observe::{Ticked, Turn};
 use fc_registry::{
     Committed, Job, Made, NoteOutcome, Notification, PLACES, Receipt, Removal, Shard, SlotNumber,
-    SlotSnapshot, Taken, Ticket,
+    SlotSnapshot, Taken, Ticket, plan_commit, plan_install, plan_removal,
 };
+use fc_store::SlotUpdate;
 use fc_verify::Verified;
 use std::sync::Arc;
 
@@ -56,10 +65,40 @@ pub trait ShardCall {
 }
 
 /// A call of a shard that may change a slot.
+///
+/// A server with a store saves the update of the change before it makes the call.
 pub trait Change: ShardCall {
+    // The slot that the call may change.
+    ghost slot: { Self → ℕ };
+
+    // The change that the call may make.
+    ghost change: { Self → SlotChange };
+
+    // The changes that a result reports.
+    ghost made: { Self → Self.Answer → List SlotChange };
+
+    // The call may change its slot, as far as the call's arguments determine this.
+    ghost may_change: { Self → Type 0 } = { λ call. ⊤ };
+
+    // An installed program is that of the job's image.
+    ghost is_verified: { Self → Type 0 } = { λ call. ⊤ };
+
     /// Returns whether a result reports a change of a slot, which a tally counts.
     fn has_changed(answer: &Self::Answer) -> bool
         ensures { Self.changes answer.now ≡ (if result then 1 else 0) };
+
+    /// Returns the update of the change that the call makes in `shard`.
+    ///
+    /// Returns `None` if the call changes no slot there. The shard isn't changed. The update of an
+    /// install has an image of the program, if the program is that of the job's image.
+    fn plan<'p>(&'p self, shard: &'p Shard) -> Option<SlotUpdate<'p>>
+        requires may { Self.may_ask self.now shard.now }
+        ensures made { (answer : Self.Answer) (room : Self.Room) (after : Seen) → Self.does self.entry.now shard.entry.now answer room after
+            → made self.entry.now answer ≡ (if is_some result then change self.entry.now ∷ [] else []) }
+        ensures planned { IfSome result (IsPlanned (slot_in shard.entry.now (slot self.entry.now)) (slot self.entry.now) (change self.entry.now)) }
+        ensures slot { IfSome result (λ u. u.slot < 64) }
+        ensures image { is_verified self.entry.now → IfSome result (λ u. SavesImage (change self.entry.now) u.program) }
+        ensures may_change { IfSome result (λ _. may_change self.entry.now) };
 }
 
 /// Takes a snapshot of a job's slot, with these readings.
@@ -110,6 +149,14 @@ impl<'a> ShardCall for Commit<'a> {
 }
 
 impl<'a> Change for Commit<'a> {
+    ghost slot = { λ call. call.ticket.now.origin.slot };
+
+    ghost change = { λ call. Commits (commit_of call.ticket.now) };
+
+    ghost made = { λ call answer. changes_of_call (CommitCall 0 call.ticket.now answer) };
+
+    ghost may_change = { λ call. wants call.ticket.now ≡ true };
+
     fn has_changed(answer: &Committed) -> bool
         ensures { commit_changes answer.now ≡ (if result then 1 else 0) }
     {
@@ -117,6 +164,10 @@ impl<'a> Change for Commit<'a> {
             Committed::Done(mark) => mark.changed(),
             Committed::Overtaken | Committed::Ended | Committed::Stranger => false,
         }
+    }
+
+    fn plan<'p>(&'p self, shard: &'p Shard) -> Option<SlotUpdate<'p>> {
+        plan_commit(shard, self.outcome, self.ticket)
     }
 }
 
@@ -145,10 +196,24 @@ impl<'a> ShardCall for Install<'a> {
 }
 
 impl<'a> Change for Install<'a> {
+    ghost slot = { λ call. call.job.now.origin.slot };
+
+    ghost change = { λ call. Installed call.program.value (initial_vars_of call.job.now.ask) };
+
+    ghost made = { λ call answer. changes_of_call (InstallCall call.program.value (initial_vars_of call.job.now.ask) answer) };
+
+    ghost is_verified = { λ call. judged (image_of call.job.now.ask) ≡ Accepts call.program.value };
+
     fn has_changed(answer: &Made) -> bool
         ensures { install_changes answer.now ≡ (if result then 1 else 0) }
     {
         matches!(answer, Made::Raised { .. })
+    }
+
+    fn plan<'p>(&'p self, shard: &'p Shard) -> Option<SlotUpdate<'p>> {
+        let ask = &self.job.ask;
+        let slot = self.job.origin.slot;
+        plan_install(shard, slot, image(ask), &self.program, ask.initial_vars())
     }
 }
 
@@ -175,10 +240,20 @@ impl<'a> ShardCall for Remove<'a> {
 }
 
 impl<'a> Change for Remove<'a> {
+    ghost slot = { λ call. call.job.now.origin.slot };
+
+    ghost change = { λ call. Removed };
+
+    ghost made = { λ call answer. changes_of_call (RemoveCall answer) };
+
     fn has_changed(answer: &Removal) -> bool
         ensures { removal_changes answer.now ≡ (if result then 1 else 0) }
     {
         matches!(answer, Removal::Removed { .. })
+    }
+
+    fn plan<'p>(&'p self, shard: &'p Shard) -> Option<SlotUpdate<'p>> {
+        plan_removal(shard, self.job.origin.slot)
     }
 }
 

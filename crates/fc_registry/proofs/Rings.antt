@@ -282,7 +282,8 @@ ring_started serial (Some k) can =
     subst (λ (o : Option Present). RingContinues (first o) [] (first o)) (sym (restored_program serial k can))
     (subst (λ (n : ℕ). HasRingSince n serial k.vars p []) since (ring_begun serial p within), can.state.2)
 
--- the ring of a slot that was restored counts from the newest install after that, or from the start.
+-- the ring of a slot that was restored counts from the newest install after that, or from the
+-- start.
 pub rings_continue : (k : StoredSlot) (cs : List Change) → CanRestore k → IsChain (restored_slot k) cs → RingContinues (restored_slot k) cs (after_changes (restored_slot k) cs)
 rings_continue k [] can chain = ring_started k.serial k.program can.program
 rings_continue k (Installed program v ∷ cs) can chain =

@@ -17,17 +17,21 @@ use fc_store::{StoredProgram, StoredSlot};
 use fc_verify::{Refusal, Verified, verify};
 use std::alloc::Global;
 use std::sync::Arc;
+use thiserror::Error;
 
 /// The reason why a stored slot isn't restored; the slot is unchanged.
-#[derive(Clone, Copy, Debug, PartialEq, Eq)]
+#[derive(Clone, Copy, Debug, PartialEq, Eq, Error)]
 pub enum RestoreError {
     /// No history can leave this state.
     ///
     /// The slot's serial, the program's version or the number of variables is wrong.
+    #[error("its serial, its version or the size of its variables is wrong")]
     State,
     /// The verifier refuses the image.
+    #[error("its image isn't accepted: {0}")]
     Image(Refusal),
     /// Memory can't be allocated.
+    #[error("memory allocation failed")]
     Memory,
 }
 

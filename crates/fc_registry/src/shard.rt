@@ -526,6 +526,17 @@ impl Shard {
         idle
     }
 
+    /// Returns whether the shard is idle at its present time.
+    ///
+    /// It is idle if no notification has timed out and no observer has a pending one. Nothing
+    /// changes.
+    pub fn is_idle(&mut self) -> bool
+        ensures idle { result ≡ is_idle self.old }
+        ensures after { self.new ≡ self.old }
+    {
+        self.check_idle(self.now)
+    }
+
     /// Returns a time before which the shard stays idle, unless it is called.
     ///
     /// Before that time no notification has timed out, and no observer has a pending one. The time

@@ -11,13 +11,18 @@ use crate::shard::Shard;
 use crate::slot_number::{SHARDS, SlotNumber};
 use fc_store::StoredSlot;
 use std::alloc::{AllocError, Global};
+use thiserror::Error;
 
 /// The reason why the shards of a server aren't restored.
-#[derive(Clone, Copy, Debug, PartialEq, Eq)]
+#[derive(Clone, Copy, Debug, PartialEq, Eq, Error)]
 pub enum StartError {
     /// This slot, 0 to 63, isn't restored, for this reason.
+    ///
+    /// The text names slot 9 as `/p/9`.
+    #[error("/p/{0}: {1}")]
     Slot(u8, RestoreError),
     /// Memory for the shards can't be allocated.
+    #[error("memory allocation failed")]
     Memory,
 }
 

@@ -1,0 +1,13 @@
+use Rattle.std.proofs.Common.{◌/◌}
+use Rattle.fc_registry.specs.Slots.{slot_in}
+use Rattle.fc_registry.specs.Watches.{watch_at}
+use Rattle.fc_calls.proofs.Planned.{commit_made}
+use Rattle.fc_calls.proofs.calls.CommitChange.plan.Goals as goal
+
+pub returns-clause-made : goal.returns-clause-made
+returns-clause-made c = λ answer room after does.
+    let call = c.args.self.now in
+    let n = call.ticket.now.origin.slot in
+    let shard = c.args.shard.now in
+    commit_made call.outcome.now call.ticket.now (slot_in shard n) (watch_at shard (n / 8)) c.plan_commit.result answer does.after
+    c.plan_commit.ensures.none c.plan_commit.ensures.writes does.commit
