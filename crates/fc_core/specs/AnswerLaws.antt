@@ -24,9 +24,10 @@ use Rattle.fc_core.specs.Transitions.{names}
 -- ---- the origin of an answer
 
 -- the event makes the answer of job k 5.03. The job is at this stage, in this slot, and has had
--- this many tickets. Memory for a ticket or an install was refused (`NoTicket`, `NoMemory`), or the
--- slot changed under the eighth ticket (`Overtaken`). Or the slot is at its last serial and has to
--- change. Or the change that the job wants to make can't be saved (`Unsaved`).
+-- this many tickets. Memory for a ticket was refused (`NoTicket`). Or memory for an install was
+-- refused, or the store refused the save (`NoMemory`). Or the slot changed under the eighth ticket
+-- (`Overtaken`). Or the slot is at its last serial and has to change. Or the store refuses to save
+-- the job's change (`Unsaved`).
 pub data IsUnavailable (e : Event) (k : ℕ) (j : Job) (slot : Slot) (at : Stage) (taken : ℕ) : Type 0 where
   NoTicket : (count : ℕ) (readings : List ℕ) (p : Present) (event : e ≡ Take k false readings) (is : at ≡ ToTake count) (found : slot.present ≡ Some p) → IsUnavailable e k j slot at taken
   NoMemory : (event : e ≡ Install k false) (is : at ≡ ToInstall) → IsUnavailable e k j slot at taken

@@ -37,7 +37,7 @@ pub data Content : Type 0 where
   -- the slot was empty.
   Missing : Content
   -- the slot is at its last serial, memory can't be allocated, the slot changed under the eighth
-  -- ticket, or the change can't be saved.
+  -- ticket, or the store refuses the save.
   Unavailable : Content
   -- a program was installed; `created` says whether the slot was empty.
   Made : (receipt : Receipt) (created : Bool) → Content

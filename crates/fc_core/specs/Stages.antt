@@ -144,7 +144,7 @@ after_list (ToList seen) = listed seen.items
 after_list other = other
 
 -- whether a server may refuse the change of a job at this stage: the commit of a run that wants to
--- write, or a removal. The refusal of an install is an `Install` without memory.
+-- write, or a removal. The refusal of an install is an `Install` with `false`.
 abbrev pub is_refusable : Stage → Bool
 is_refusable (ToCommit count t) = wants t
 is_refusable ToRemove = true

@@ -34,10 +34,10 @@ pub data Call : Type 0 where
   Installs : (program : Program) (initial : InitialVars) (answer : Made) → Call
   -- no install, since the image breaks a rule; this is the job's answer.
   Rejects : (content : Content) → Call
-  -- no install, since memory was refused.
+  -- no install, since memory was refused or the store refused the save.
   Refuses : Call
   Removes : (removal : Removal) → Call
-  -- no change of the job's slot: the change that the job would make at stage `at` can't be saved.
+  -- no change of the job's slot: the store refuses to save the job's change at stage `at`.
   RefusesChange : (at : Stage) → Call
   Describes : (receipt : Option Receipt) → Call
   -- raise the head word of the job's slot; `content` is the answer that the job gives then.

@@ -73,13 +73,14 @@ abbrev pub call_if : Bool → Call → Option Call
 call_if true call = Some call
 call_if false call = None
 
--- the call of an install by the judgement of its image, if memory isn't refused.
+-- the call of an install by the judgement of its image, if it isn't refused.
 abbrev pub install_call : InitialVars → Judgement → Slot → Call
 install_call initial (Accepts p) slot = Installs p initial (install_in slot p initial).answer
 install_call initial (Breaks rule k) slot = Rejects (Rejected rule k)
 install_call initial Untypable slot = Rejects Untyped
 
--- the call of an install, with memory or without.
+-- the call of an install. `false` says that memory can't be allocated or that the install can't be
+-- saved.
 abbrev pub install_if : Bool → InitialVars → Judgement → Slot → Call
 install_if true initial judgement slot = install_call initial judgement slot
 install_if false initial judgement slot = Refuses
@@ -213,7 +214,7 @@ commit_effect shard count t now =
       raises = None;
     }
 
--- the transition of an install by the judgement of its image, if memory isn't refused.
+-- the transition of an install by the judgement of its image, if it isn't refused.
 abbrev pub install_effect : InitialVars → Judgement → Inputs → Effect
 install_effect initial judgement s = effect_of (Install 0 true) s (Some (install_call initial judgement s.slot))
 

@@ -24,7 +24,7 @@ pub enum End {
     /// The service is unavailable.
     ///
     /// The slot is at its last serial, memory couldn't be allocated, the slot changed since the
-    /// job's eighth snapshot, or the change can't be saved.
+    /// job's eighth snapshot, or the store refuses the save.
     Unavailable,
     /// A program was installed; `true` if the slot was empty before.
     Made(Receipt, bool),

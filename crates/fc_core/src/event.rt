@@ -38,7 +38,7 @@ pub enum Event<'a> {
     },
     /// A job verifies its image and installs the program.
     ///
-    /// Memory can be allocated or not.
+    /// `memory` is false if memory can't be allocated, or if the store refuses the save.
     Install {
         job: usize,
         memory: bool,
@@ -47,7 +47,7 @@ pub enum Event<'a> {
     Remove {
         job: usize,
     },
-    /// The change of a job's slot can't be saved, and the server refuses it.
+    /// The store refuses to save the change of a job's slot, so it isn't made.
     ///
     /// The change is a removal, or the commit of a run that wants to write. The refusal of an
     /// install is an [`Event::Install`] without memory.

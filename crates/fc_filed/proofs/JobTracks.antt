@@ -14,7 +14,7 @@ use Rattle.fc_calls.specs.Logged.{HandlesDatagram, AdvancesFront, FiresTimer, Dr
 use Rattle.fc_calls.specs.Logged.{TakesForJob, CommitsRun, InstallsProgram, RemovesProgram, HandsSignal, AdvancesIdle, SkipsIdle, AdvancesShard, GivesTurn, NotesTurn, GivesUpTurn}
 use Rattle.fc_core.specs.Stage.{Stage}
 use Rattle.fc_core.specs.Stages.{first_stage}
-use Rattle.fc_linear.specs.Operations.{Operation, Logged, RejectsImage, LacksMemory, FailsToSave, IsOfServer, StageMoves, is_for_job, job_brought, part_of}
+use Rattle.fc_linear.specs.Operations.{Operation, Logged, RejectsImage, RefusesInstall, FailsToSave, IsOfServer, StageMoves, is_for_job, job_brought, part_of}
 use Rattle.fc_linear.specs.Parts.{FollowsStages}
 use Rattle.fc_filed.specs.declared.entry.FiledEntry.{FiledEntry}
 use Rattle.fc_filed.specs.Books.{IsRightForJob}
@@ -54,7 +54,7 @@ of_old_job (Logged (NotesTurn turn id now random told noted)) job s t m = record
 of_old_job (Logged (GivesUpTurn turn now)) job s t m = record { for = refl; of_server = tt; none = refl }
 of_old_job (Logged (RaisesWord slot word)) job s t m = record { for = refl; of_server = tt; none = refl }
 of_old_job (RejectsImage j content) job s t m = record { for = refl; of_server = tt; none = refl }
-of_old_job (LacksMemory j) job s t m = record { for = refl; of_server = tt; none = refl }
+of_old_job (RefusesInstall j) job s t m = record { for = refl; of_server = tt; none = refl }
 of_old_job (FailsToSave j) job s t m = record { for = refl; of_server = tt; none = refl }
 
 -- ---- the entries on a track, after an entry is filed

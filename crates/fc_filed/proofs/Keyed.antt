@@ -6,7 +6,7 @@ use Rattle.fc_book.specs.declared.view.BookView.{BookView}
 use Rattle.fc_book.specs.Tracks.{HasKey}
 use Rattle.fc_calls.specs.Logged.{HandlesDatagram, AdvancesFront, FiresTimer, DrawsId, AnswersRequest, TellsReceipt, GivesReadings, ReadsCost, LooksAt, RaisesWord}
 use Rattle.fc_calls.specs.Logged.{TakesForJob, CommitsRun, InstallsProgram, RemovesProgram, HandsSignal, AdvancesIdle, SkipsIdle, AdvancesShard, GivesTurn, NotesTurn, GivesUpTurn}
-use Rattle.fc_linear.specs.Operations.{Operation, Logged, RejectsImage, LacksMemory, FailsToSave, ServerPart, FrontPart, ShardPart, WordsPart, NoPart, IsOfServer, part_of}
+use Rattle.fc_linear.specs.Operations.{Operation, Logged, RejectsImage, RefusesInstall, FailsToSave, ServerPart, FrontPart, ShardPart, WordsPart, NoPart, IsOfServer, part_of}
 use Rattle.fc_filed.specs.declared.entry.FiledEntry.{FiledEntry}
 use Rattle.fc_filed.specs.Entries.{AreKeyed, IsKeyed, is_of_job, part_key}
 use Rattle.fc_filed.specs.Threads.{MayFile, entry_by, key_of_first}
@@ -39,7 +39,7 @@ low_of (Logged (NotesTurn turn id now random told noted)) p = omega arith
 low_of (Logged (GivesUpTurn turn now)) p = omega arith
 low_of (Logged (RaisesWord slot word)) p = tt
 low_of (RejectsImage job content) p = tt
-low_of (LacksMemory job) p = tt
+low_of (RefusesInstall job) p = tt
 low_of (FailsToSave job) p = tt
 
 -- the key of a part's or a thread's track is less than the key of the first job's track.

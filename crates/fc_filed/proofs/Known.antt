@@ -11,7 +11,7 @@ use Rattle.fc_book.specs.declared.view.BookView.{BookView}
 use Rattle.fc_book.specs.Tracks.{AreOn, HasKey, IsViewOf, entries_with, is_on, with_entry}
 use Rattle.fc_core.specs.Heads.{word_at}
 use Rattle.fc_calls.specs.Logged.{HandlesDatagram, AdvancesFront, FiresTimer, DrawsId, AnswersRequest, TellsReceipt, GivesReadings, LooksAt, RaisesWord, TakesForJob, CommitsRun, InstallsProgram, RemovesProgram, HandsSignal, AdvancesIdle, AdvancesShard, GivesTurn, NotesTurn, GivesUpTurn, ReadsCost, SkipsIdle}
-use Rattle.fc_linear.specs.Operations.{Operation, Logged, RejectsImage, LacksMemory, FailsToSave}
+use Rattle.fc_linear.specs.Operations.{Operation, Logged, RejectsImage, RefusesInstall, FailsToSave}
 use Rattle.fc_filed.specs.declared.entry.FiledEntry.{FiledEntry}
 use Rattle.fc_filed.specs.Entries.{ChangesWords, OperationsLead, entry_keys}
 use Rattle.fc_filed.specs.Threads.{greatest_word, known_word, word_in}
@@ -75,7 +75,7 @@ module _ (slot : ℕ) where
   kept (Logged (GivesUpTurn turn now)) ws vs lt d = unchanged (Logged (GivesUpTurn turn now)) ws vs lt d (omega arith)
   kept (Logged (RaisesWord n word)) ws vs lt d = raised n word ws vs lt d
   kept (RejectsImage job content) ws vs lt d = unchanged (RejectsImage job content) ws vs lt d (omega arith)
-  kept (LacksMemory job) ws vs lt d = unchanged (LacksMemory job) ws vs lt d (omega arith)
+  kept (RefusesInstall job) ws vs lt d = unchanged (RefusesInstall job) ws vs lt d (omega arith)
   kept (FailsToSave job) ws vs lt d = unchanged (FailsToSave job) ws vs lt d (omega arith)
 
   -- ---- a history

@@ -3,7 +3,7 @@ use Rattle.std.proofs.Common.{◌≡◌, ◌⊎◌, Bool, true, false, List, [],
 use Rattle.std.specs.Prelude.{◌||◌}
 use Rattle.fc_calls.specs.Logged.{HandlesDatagram, AdvancesFront, FiresTimer, DrawsId, AnswersRequest, TellsReceipt, GivesReadings, ReadsCost, LooksAt, RaisesWord}
 use Rattle.fc_calls.specs.Logged.{TakesForJob, CommitsRun, InstallsProgram, RemovesProgram, HandsSignal, AdvancesIdle, SkipsIdle, AdvancesShard, GivesTurn, NotesTurn, GivesUpTurn}
-use Rattle.fc_linear.specs.Operations.{Operation, Logged, RejectsImage, LacksMemory, FailsToSave, ServerPart, FrontPart, ShardPart, WordsPart, NoPart, is_for_job, is_locked, is_words, part_of}
+use Rattle.fc_linear.specs.Operations.{Operation, Logged, RejectsImage, RefusesInstall, FailsToSave, ServerPart, FrontPart, ShardPart, WordsPart, NoPart, is_for_job, is_locked, is_words, part_of}
 use Rattle.fc_server.specs.States.{ServerState}
 use Rattle.fc_filed.specs.declared.entry.FiledEntry.{FiledEntry}
 use Rattle.fc_filed.specs.Idle.{AreSkipsIdle, IsIdleIfSkipped}
@@ -41,7 +41,7 @@ module _ (begin : ServerState) (log : List FiledEntry) where
   skips_none (Logged (GivesUpTurn turn now)) is = tt
   skips_none (Logged (RaisesWord slot word)) is = tt
   skips_none (RejectsImage job content) is = tt
-  skips_none (LacksMemory job) is = tt
+  skips_none (RefusesInstall job) is = tt
   skips_none (FailsToSave job) is = tt
 
   or_right : (a b : Bool) → b ≡ true → (a || b) ≡ true

@@ -4,7 +4,7 @@ ghost use Rattle.atomic_table.specs.Seated.{TableId};
 ghost use Rattle.fc_book.specs.Tracks.{first_own, first_view, merged_with, own_view, part_view, with_begun, with_next, with_part, without_first};
 ghost use Rattle.fc_server.specs.States.{ServerState};
 ghost use Rattle.fc_calls.specs.Logged.{LooksAt, RaisesWord, SkipsIdle};
-ghost use Rattle.fc_linear.specs.Operations.{LacksMemory, Logged, NoPart, RejectsImage, part_of, is_for_job, is_locked};
+ghost use Rattle.fc_linear.specs.Operations.{FailsToSave, RefusesInstall, Logged, NoPart, RejectsImage, part_of, is_for_job, is_locked};
 ghost use Rattle.fc_registry.specs.Shards.{shard_at};
 ghost use Rattle.fc_filed.specs.Books.{HasServerHistory, IsFirstSent};
 ghost use Rattle.fc_filed.specs.Idle.{LeadToIdle};
@@ -349,15 +349,27 @@ impl<J: ServerName> ServerTracks<J> {
         reject_as::<Brand, J>(book, self, who, job, answer);
     }
 
-    /// Files that memory for the program of `job`, an install, can't be allocated.
+    /// Files that the program of `job`, an install, isn't installed.
     ///
-    /// The entry is filed for thread `who` and for the job whose track is first.
-    pub fn lack_memory(&mut self, book: &ServerBook<J>, who: u64, job: &Job)
+    /// Memory can't be allocated, or the store refuses the save. The entry is filed for thread
+    /// `who` and for the job whose track is first.
+    pub fn refuse_install(&mut self, book: &ServerBook<J>, who: u64, job: &Job)
         requires thread { HasOwnTrack J.first_job who self.old }
         requires job { HasJobFirst J.first_job self.old }
-        ensures filed { self.new ≡ did_by who (LacksMemory job.now) self.old }
+        ensures filed { self.new ≡ did_by who (RefusesInstall job.now) self.old }
     {
-        lack_as::<Brand, J>(book, self, who, job);
+        refuse_as::<Brand, J>(book, self, who, job);
+    }
+
+    /// Files that the store refuses to save `job`'s change, a commit or a removal.
+    ///
+    /// The entry is filed for thread `who` and for the job whose track is first.
+    pub fn fail_to_save(&mut self, book: &ServerBook<J>, who: u64, job: &Job)
+        requires thread { HasOwnTrack J.first_job who self.old }
+        requires job { HasJobFirst J.first_job self.old }
+        ensures filed { self.new ≡ did_by who (FailsToSave job.now) self.old }
+    {
+        fail_as::<Brand, J>(book, self, who, job);
     }
 }
 
@@ -419,19 +431,37 @@ fn reject_as<X: FiledName, J: ServerName>(
     file_alone_as::<X, J>(book, tracks, who);
 }
 
-/// Files that memory for the program of `job`, an install, can't be allocated.
+/// Files that the program of `job`, an install, isn't installed.
 ///
 /// `X` names the entry. It becomes the last one on the tracks of thread `who` and of the job. See
-/// [`ServerTracks::lack_memory`].
-fn lack_as<X: FiledName, J: ServerName>(
+/// [`ServerTracks::refuse_install`].
+fn refuse_as<X: FiledName, J: ServerName>(
     book: &ServerBook<J>,
     tracks: &mut ServerTracks<J>,
     who: u64,
     job: &Job,
 )
-    requires entry { X.entry ≡ entry_by who tracks.old (LacksMemory job.now) }
-    requires may { MayFile J.first_job who tracks.old (LacksMemory job.now) }
-    ensures filed { tracks.new ≡ did_by who (LacksMemory job.now) tracks.old }
+    requires entry { X.entry ≡ entry_by who tracks.old (RefusesInstall job.now) }
+    requires may { MayFile J.first_job who tracks.old (RefusesInstall job.now) }
+    ensures filed { tracks.new ≡ did_by who (RefusesInstall job.now) tracks.old }
+{
+    let _ = job;
+    file_alone_as::<X, J>(book, tracks, who);
+}
+
+/// Files that the store refuses to save `job`'s change, a commit or a removal.
+///
+/// `X` names the entry. It becomes the last one on the tracks of thread `who` and of the job. See
+/// [`ServerTracks::fail_to_save`].
+fn fail_as<X: FiledName, J: ServerName>(
+    book: &ServerBook<J>,
+    tracks: &mut ServerTracks<J>,
+    who: u64,
+    job: &Job,
+)
+    requires entry { X.entry ≡ entry_by who tracks.old (FailsToSave job.now) }
+    requires may { MayFile J.first_job who tracks.old (FailsToSave job.now) }
+    ensures filed { tracks.new ≡ did_by who (FailsToSave job.now) tracks.old }
 {
     let _ = job;
     file_alone_as::<X, J>(book, tracks, who);

@@ -59,8 +59,8 @@
 //! - A look at a head word and a raise are entries too, made in the step itself. The history's
 //!   looks and raises lead the head words from the server's first ones to those of the table. A
 //!   look returns at least every word of its slot in the entries on the owner's tracks, whichever
-//!   track it is on. So does a read that isn't filed (`ServerTracks::read_word`). A rejected image
-//!   and refused memory are also entries; they belong to no part.
+//!   track it is on. So does a read that isn't filed (`ServerTracks::read_word`). A rejected image,
+//!   a refused install and a change that can't be saved are also entries; they belong to no part.
 //! - Before the time in a shard's idle word, the shard is idle after its entries in the history: no
 //!   notification has timed out, and no observer has a pending one. So each shard that was skipped
 //!   was idle at that place of the history. Both are part of the rule of the book.

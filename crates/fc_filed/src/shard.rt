@@ -141,6 +141,13 @@ impl<J: ServerName, P: Part> FiledShard<J, P> {
         ask_as::<C, J, P, Brand>(self, book, tracks, who, call, room)
     }
 
+    /// Returns the shard, for a call's plan.
+    pub fn shard(&self) -> &Shard
+        ensures { result.now ≡ self.now.shard }
+    {
+        &self.shard
+    }
+
     /// Makes a call that leaves the shard unchanged, and files nothing.
     pub fn inspect<C: ShardCall>(&mut self, call: C, room: &mut C::Room) -> C::Answer
         requires may { C.may_ask call self.old.shard }
@@ -173,6 +180,19 @@ impl<J: ServerName, P: Part> FiledShard<J, P> {
             self.note_idle(book);
         }
         idle
+    }
+
+    /// Notes in the book until when the shard stays idle, if it is idle now.
+    ///
+    /// Until then the shard can be skipped while this lock is held, unless it is called. Nothing is
+    /// filed, and nothing changes.
+    pub fn note_if_idle(&mut self, book: &ServerBook<J>)
+        requires same { P.table ≡ J.table }
+        ensures { self.new ≡ self.old }
+    {
+        if self.shard.is_idle() {
+            self.note_idle(book);
+        }
     }
 
     // Notes in the book until when the shard, which is idle, stays idle.

@@ -25,7 +25,7 @@ ghost use Rattle.std.specs.Prelude.{ℕ, ◌⊎◌, ◌++◌, ◌<◌, ◌≤◌
 /// The causes of each answer:
 ///
 /// - 5.03 (Service Unavailable): memory can't be allocated, the slot changes under the job's eighth
-///   ticket, the slot is at its last serial and has to change, or the change can't be saved.
+///   ticket, the slot is at its last serial and has to change, or the store refuses the save.
 /// - 4.04 (Not Found): a snapshot or a receipt finds the slot empty.
 /// - 2.03 (Valid): the slot's head word is that of a program at a serial that the request names.
 /// - 2.02 (Deleted): a removal.

@@ -117,7 +117,7 @@ pub fn raises_keep_the_answer()
         → stage s k ≡ ToRaise word content → stage (and_then (did (Raise k) o) s) k ≡ ToAnswer content }
 {}
 
-/// A change that can't be saved isn't made, and its job is answered 5.03.
+/// A change whose save is refused isn't made, and its job is answered 5.03.
 ///
 /// 5.03 is Service Unavailable. The change is a removal, or the commit of a run that wants to
 /// write: a POST whose code is of class 2. Its refusal changes the stage of its job and nothing

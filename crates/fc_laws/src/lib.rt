@@ -29,8 +29,8 @@
 //!   request are rejected by a Reset message. Ignored datagrams, signals and silent refusals get no
 //!   response.
 //! - A refusal leaves everything unchanged except the time, a drawn message ID and the stage of the
-//!   refused job, with three exceptions. The refusal of a change that can't be saved changes the
-//!   stage of its job alone, and the job is answered 5.03.
+//!   refused job, with three exceptions. A refused save changes the stage of its job alone, and the
+//!   job is answered 5.03.
 //! - An answer is sent to the client's endpoint, with the request's token. A confirmable request is
 //!   answered in its acknowledgement, with the request's message ID. Any other request is answered
 //!   in a non-confirmable message with a message ID of the server. An answer is sent less than

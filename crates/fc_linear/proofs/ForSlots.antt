@@ -48,7 +48,7 @@ use Rattle.fc_calls.specs.Doings.{SaysFound}
 use Rattle.fc_server.specs.Serving.{Serves}
 use Rattle.fc_server.specs.States.{AtWork, Does, ServerState, inputs_in, shards_moved}
 use Rattle.fc_server.proofs.Others.{does_quietly}
-use Rattle.fc_linear.specs.Operations.{Operation, Logged, LogEntry, LacksMemory, FailsToSave, ReceiptMoves, RejectsImage}
+use Rattle.fc_linear.specs.Operations.{Operation, Logged, LogEntry, RefusesInstall, FailsToSave, ReceiptMoves, RejectsImage}
 use Rattle.fc_linear.specs.Parts.{RightByParts}
 use Rattle.fc_linear.proofs.Afters.{After, eight}
 use Rattle.fc_linear.proofs.Firsts.{entry_for, named, on_shard}
@@ -409,9 +409,9 @@ module _ (k : ℕ) (es : List LogEntry) (h : History) (end s : ServerState) (tas
         rest = record { front = st.front; shards = st.shards; words = st.words; jobs = n.jobs; to_come = n.to_come; numbered = n.numbered; of_server = st.of_server.1 };
       }
 
-  pub after_lack : (j : Job) → RightByParts end s tasks (entry_for k (LacksMemory j) ∷ es) → After k (LacksMemory j) es h end
-  after_lack j st =
-      let op : Operation = LacksMemory j in
+  pub after_refused_install : (j : Job) → RightByParts end s tasks (entry_for k (RefusesInstall j) ∷ es) → After k (RefusesInstall j) es h end
+  after_refused_install j st =
+      let op : Operation = RefusesInstall j in
       let task = task_at tasks k in
       let n = named k op end s tasks es st refl refl in
       let later : Task = record { job = task.job; stage = n.stage } in

@@ -13,14 +13,14 @@ use Rattle.fc_server.specs.declared.server.Begin.{Begin}
 use Rattle.fc_server.specs.Serving.{Serves}
 use Rattle.fc_server.specs.States.{ServerState, begin_of, first_server, server_over}
 use Rattle.fc_server.proofs.Beginning.{begins, begins_with}
-use Rattle.fc_linear.specs.Operations.{Operation, Logged, LogEntry, LacksMemory, FailsToSave, RejectsImage, emitted_of, event_of}
+use Rattle.fc_linear.specs.Operations.{Operation, Logged, LogEntry, RefusesInstall, FailsToSave, RejectsImage, emitted_of, event_of}
 use Rattle.fc_linear.specs.Parts.{IsHistoryOf, LeavesServer, RightByParts, history_on, next_if}
 use Rattle.fc_linear.proofs.Afters.{After}
 use Rattle.fc_linear.proofs.Firsts.{entry_for}
 use Rattle.fc_linear.proofs.AtFront.{after_answer, after_draw, after_fire, after_handle, after_tick}
 use Rattle.fc_linear.proofs.AtShards.{after_cost, after_due, after_idle, after_shard_tick, after_signal, after_skip}
 use Rattle.fc_linear.proofs.ForJobs.{after_look, after_raise, after_take, below_eight}
-use Rattle.fc_linear.proofs.ForSlots.{after_give_up, after_install, after_lack, after_note, after_receipt, after_refuse, after_reject, after_remove, after_run}
+use Rattle.fc_linear.proofs.ForSlots.{after_give_up, after_install, after_refused_install, after_note, after_receipt, after_refuse, after_reject, after_remove, after_run}
 
 module _ (k : ℕ) (es : List LogEntry) (h : History) (end s : ServerState) (tasks : List Task) (v : Serves h s tasks) where
   after_first : (op : Operation) → RightByParts end s tasks (entry_for k op ∷ es) → After k op es h end
@@ -46,7 +46,7 @@ module _ (k : ℕ) (es : List LogEntry) (h : History) (end s : ServerState) (tas
   after_first (Logged (RaisesWord slot word)) st = after_raise k es h end s tasks v slot word st
   after_first (Logged (TellsReceipt job receipt)) st = after_receipt k es h end s tasks v job receipt st
   after_first (RejectsImage job content) st = after_reject k es h end s tasks v job content st
-  after_first (LacksMemory job) st = after_lack k es h end s tasks v job st
+  after_first (RefusesInstall job) st = after_refused_install k es h end s tasks v job st
   after_first (FailsToSave job) st = after_refuse k es h end s tasks v job st
 
 -- if a log is right from a server that a history leaves, the history continued by the log leaves

@@ -43,9 +43,10 @@ pub data Operation : Type 0 where
   Logged : (call : LoggedCall) → Operation
   -- the image of an install breaks a rule; `content` is the answer.
   RejectsImage : (job : Job) (content : Content) → Operation
-  -- memory for the program of an install can't be allocated.
-  LacksMemory : (job : Job) → Operation
-  -- the change of the job's slot can't be saved.
+  -- the program of an install isn't installed: memory can't be allocated, or the store
+  -- refuses the save.
+  RefusesInstall : (job : Job) → Operation
+  -- the store refuses to save the job's change, a commit or a removal.
   FailsToSave : (job : Job) → Operation
 
 -- an operation, with the number of its job; the number has no meaning if the operation is for no
@@ -88,7 +89,7 @@ part_by (RaisesWord slot word) = WordsPart
 abbrev pub part_of : Operation → ServerPart
 part_of (Logged call) = part_by call
 part_of (RejectsImage job content) = NoPart
-part_of (LacksMemory job) = NoPart
+part_of (RefusesInstall job) = NoPart
 part_of (FailsToSave job) = NoPart
 
 abbrev pub is_front : ServerPart → Bool
@@ -205,7 +206,7 @@ StageMoves (Logged (GivesUpTurn turn now)) job s t = (needs : TurnStage) × (s �
 StageMoves (Logged (RaisesWord slot word)) job s t = (slot ≡ job.origin.slot) × ((content : Content) × (s ≡ ToRaise word content) × (t ≡ ToAnswer content))
 StageMoves (RejectsImage j content) job s t =
     (j ≡ job) × ((f : Fault) × IsRefusal (image_of job.ask) (Broken f) × (content ≡ refused (Broken f))) × (s ≡ ToInstall) × (t ≡ ToAnswer content)
-StageMoves (LacksMemory j) job s t = (j ≡ job) × (s ≡ ToInstall) × (t ≡ ToAnswer Unavailable)
+StageMoves (RefusesInstall j) job s t = (j ≡ job) × (s ≡ ToInstall) × (t ≡ ToAnswer Unavailable)
 StageMoves (FailsToSave j) job s t = (j ≡ job) × (is_refusable s ≡ true) × (t ≡ ToAnswer Unavailable)
 StageMoves other job s t = ⊥
 
@@ -242,7 +243,7 @@ event_by k (RaisesWord slot word) = Some (Raise k)
 abbrev pub event_for : ℕ → Operation → Option Event
 event_for k (Logged call) = event_by k call
 event_for k (RejectsImage j content) = Some (Install k true)
-event_for k (LacksMemory j) = Some (Install k false)
+event_for k (RefusesInstall j) = Some (Install k false)
 event_for k (FailsToSave j) = Some (Refuse k)
 
 abbrev pub event_of : LogEntry → Option Event

@@ -19,7 +19,7 @@ ghost use Rattle.fc_server.specs.States.{ServerState, begin_of, first_server, se
 ghost use Rattle.fc_store.specs.Stored.{StoredProgram, StoredSlot, StoredSlots, stored_in};
 ghost use Rattle.fc_verify.specs.Accepted.{Accepts};
 ghost use Rattle.fc_verify.specs.Judged.{judged};
-ghost use Rattle.fc_linear.specs.Operations.{FailsToSave, LacksMemory, LogEntry, NoPart, RejectsImage, StageMoves, event_for, part_of, Logged, ShardPart};
+ghost use Rattle.fc_linear.specs.Operations.{FailsToSave, RefusesInstall, LogEntry, NoPart, RejectsImage, StageMoves, event_for, part_of, Logged, ShardPart};
 ghost use Rattle.fc_linear.specs.Parts.{IsHistoryOf, LeavesServer, RightByParts, history_on};
 
 /// A new server is the one that its history begins with, with empty slots or with restored ones.
@@ -65,21 +65,21 @@ pub fn calls_continue_a_history()
 
 /// An image that isn't installed, or a change that isn't saved, is one of the job that it names.
 ///
-/// An image breaks a rule, or finds no memory, at the stage of its install. A change that isn't
+/// An image breaks a rule, or isn't installed, at the stage of its install. A change that isn't
 /// saved leads to 5.03 (Service Unavailable). It is no install, and its slot hasn't changed yet.
 ///
 /// None of the three is a call of a part of the server. Their events are an install with memory, an
-/// install without memory, and the refusal of a change.
+/// install that is refused, and the refusal of a change.
 pub fn filed_refusals_name_their_job()
     ensures rejects { (j job : Job) (content : Content) (s t : Stage) → StageMoves (RejectsImage j content) job s t → (j ≡ job) × (s ≡ ToInstall) }
-    ensures lacks { (j job : Job) (s t : Stage) → StageMoves (LacksMemory j) job s t → (j ≡ job) × (s ≡ ToInstall) }
+    ensures refused { (j job : Job) (s t : Stage) → StageMoves (RefusesInstall j) job s t → (j ≡ job) × (s ≡ ToInstall) }
     ensures unsaved { (j job : Job) (s t : Stage) → StageMoves (FailsToSave j) job s t → (j ≡ job) × (t ≡ ToAnswer Unavailable) }
     ensures not_installs { (job : Job) (t : Stage) → StageMoves (FailsToSave job) job ToInstall t → ⊥ }
     ensures not_made { (job : Job) (word : ℕ) (content : Content) (t : Stage) → StageMoves (FailsToSave job) job (ToRaise word content) t → ⊥ }
     ensures no_part { (job : Job) (content : Content) →
-        (part_of (RejectsImage job content) ≡ NoPart) × (part_of (LacksMemory job) ≡ NoPart) × (part_of (FailsToSave job) ≡ NoPart) }
+        (part_of (RejectsImage job content) ≡ NoPart) × (part_of (RefusesInstall job) ≡ NoPart) × (part_of (FailsToSave job) ≡ NoPart) }
     ensures events { (k : ℕ) (job : Job) (content : Content) →
-        (event_for k (RejectsImage job content) ≡ Some (Install k true)) × (event_for k (LacksMemory job) ≡ Some (Install k false)) × (event_for k (FailsToSave job) ≡ Some (Refuse k)) }
+        (event_for k (RejectsImage job content) ≡ Some (Install k true)) × (event_for k (RefusesInstall job) ≡ Some (Install k false)) × (event_for k (FailsToSave job) ≡ Some (Refuse k)) }
 {}
 
 /// A read of a cost, a skip and a call for readings are no events.

@@ -4,8 +4,8 @@ use Rattle.fc_linear.proofs.laws.filed_refusals_name_their_job.Goals as goal
 pub returns-clause-rejects : goal.returns-clause-rejects
 returns-clause-rejects c = λ j job content s t m. (m.0, m.2)
 
-pub returns-clause-lacks : goal.returns-clause-lacks
-returns-clause-lacks c = λ j job s t m. (m.0, m.1)
+pub returns-clause-refused : goal.returns-clause-refused
+returns-clause-refused c = λ j job s t m. (m.0, m.1)
 
 pub returns-clause-unsaved : goal.returns-clause-unsaved
 returns-clause-unsaved c = λ j job s t m. (m.0, m.2)
