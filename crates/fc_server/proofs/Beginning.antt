@@ -19,7 +19,7 @@ use Rattle.fc_core.specs.Exchanges.{first_front}
 use Rattle.fc_core.specs.declared.policy.Policy.{Policy}
 use Rattle.fc_core.proofs.Calling.{EntryWithin}
 use Rattle.fc_server.specs.Agreement.{ShardsAgree}
-use Rattle.fc_server.specs.Serving.{Serves}
+use Rattle.fc_server.specs.Serving.{IsFirstServer, Serves}
 use Rattle.fc_server.specs.States.{CanBeginWith, ServerState}
 
 module _ (slots : ℕ → Slot) (confirm_after : ℕ) where
@@ -107,3 +107,14 @@ empty_words serial = refl
 pub begins : (serial id : ℕ) (policy : Policy) (s : ServerState) → s.front ≡ first_front policy id → s.shards ≡ first_shards serial policy.confirm_after → s.words ≡ no_words → Serves (Begins serial id policy) s []
 begins serial id policy s front shards words =
     begins_with (empty_at serial) id policy s front (shards ∙ empty_shards_are_new serial policy.confirm_after) (words ∙ empty_words serial) (λ n. tt)
+
+-- restored slots and their head words are the first state of a server.
+pub first_with : (stored : StoredSlots) (id : ℕ) (policy : Policy) (s : ServerState) → s.front ≡ first_front policy id → s.shards ≡ shards_over (λ n. restored_slot (stored n)) policy.confirm_after
+    → s.words ≡ first_words (λ n. restored_slot (stored n)) → ((n : ℕ) → FitsSlot (restored_slot (stored n)).present) → IsFirstServer s
+first_with stored id policy s front shards words fits =
+    record { can = can_begin stored policy.confirm_after s shards words; history = BeginsWith stored id policy; serves = begins_with stored id policy s front shards words fits }
+
+-- so are empty slots.
+pub first_empty : (serial id : ℕ) (policy : Policy) (s : ServerState) → s.front ≡ first_front policy id → s.shards ≡ first_shards serial policy.confirm_after → s.words ≡ no_words → IsFirstServer s
+first_empty serial id policy s front shards words =
+    first_with (empty_at serial) id policy s front (shards ∙ empty_shards_are_new serial policy.confirm_after) (words ∙ empty_words serial) (λ n. tt)

@@ -23,7 +23,7 @@ use Rattle.fc_core.specs.History.{History, Then, did, seen}
 use Rattle.fc_core.specs.Legal.{AllMean, IsLegal}
 use Rattle.fc_core.specs.Stages.{first_stage}
 use Rattle.fc_server.specs.Agreement.{Agrees, Parts}
-use Rattle.fc_server.specs.States.{ServerState}
+use Rattle.fc_server.specs.States.{CanBeginWith, ServerState}
 use Rattle.fc_server.specs.Steps.{shard_turn}
 
 abbrev pub with_tasks : ServerState → List Task → Parts
@@ -172,6 +172,12 @@ pub record IsReachable (s : ServerState) : Type 0 where
   pub history : History
   pub tasks : List Task
   pub serves : Serves history s tasks
+
+-- a server can begin in this state, and some history leaves the state without jobs.
+pub record IsFirstServer (s : ServerState) : Type 0 where
+  pub can : CanBeginWith s
+  pub history : History
+  pub serves : Serves history s []
 
 -- the task is that of a lease that needs a snapshot and is active. The clock of its slot's shard
 -- has reached this time.

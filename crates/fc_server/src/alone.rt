@@ -12,6 +12,7 @@ ghost use Rattle.fc_server.specs.Shown.{IsShown};
 ghost use Rattle.fc_server.specs.States.{CanBegin, begin_of};
 
 use crate::engine::{Engine, FireOutcome, NotifyOutcome};
+use crate::first::FirstServer;
 use crate::ingress::Ingress;
 use crate::server::Begin;
 use crate::witness::{NoWitness, Witness};
@@ -54,9 +55,22 @@ impl SingleThread {
         ensures begins { IfOk result (λ alone. Serves (begin_of begin.now) alone.engine []) }
         ensures handed { IfOk result (λ alone. alone.handed ≡ record { readings = no_readings; random = 0 }) }
     {
+        SingleThread::over(alloc, FirstServer::new(alloc, begin)?)
+    }
+
+    /// Makes a server in the state `first`.
+    ///
+    /// The readings and the random word for its jobs are zeros. See [`Engine::over`].
+    ///
+    /// # Errors
+    /// Returns `AllocError` if memory can't be allocated.
+    pub fn over(alloc: Global, first: FirstServer) -> Result<SingleThread, AllocError>
+        ensures engine { IfOk result (λ alone. alone.engine ≡ first) }
+        ensures handed { IfOk result (λ alone. alone.handed ≡ record { readings = no_readings; random = 0 }) }
+    {
         Ok(SingleThread {
             alloc,
-            engine: Engine::new(alloc, begin)?,
+            engine: Engine::over(alloc, first)?,
             handed: Handed {
                 readings: NO_READINGS,
                 random: 0,

@@ -19,6 +19,7 @@ ghost use Rattle.fc_server.specs.Shown.{IsShown};
 ghost use Rattle.fc_server.specs.States.{CanBegin, begin_of};
 ghost use Rattle.fc_server.specs.Steps.{shard_told};
 
+use crate::first::FirstServer;
 use crate::server::{Begin, Server};
 use crate::witness::Witness;
 use coap_msg::{Emission, Endpoint};
@@ -60,8 +61,18 @@ impl Engine {
         requires { CanBegin begin.now }
         ensures { IfOk result (λ e. Serves (begin_of begin.now) e []) }
     {
+        Engine::over(alloc, FirstServer::new(alloc, begin)?)
+    }
+
+    /// Makes a server in the state `first`.
+    ///
+    /// # Errors
+    /// Returns `AllocError` if memory can't be allocated.
+    pub fn over(alloc: Global, first: FirstServer) -> Result<Engine, AllocError>
+        ensures { IfOk result (λ e. e ≡ first) }
+    {
         Ok(Engine {
-            server: Server::new(alloc, begin)?,
+            server: Server::over(alloc, first)?,
             task: Task::blank(),
         })
     }

@@ -15,7 +15,7 @@ use std::marker::Model;
 
 /// The front, the eight shards, and the head words of a server before any event.
 ///
-/// In contracts they are the first state of the server.
+/// In contracts they are the first state of the server. Some history leaves each first state.
 #[derive(Drop)]
 pub struct FirstServer {
     pub(crate) front: Front,
@@ -30,9 +30,9 @@ impl Model for FirstServer {
 
     ghost view = { λ f. record { front = f.front; shards = f.shards.items; words = f.heads } };
 
-    ghost use Rattle.fc_server.specs.States.{CanBeginWith};
+    ghost use Rattle.fc_server.specs.Serving.{IsFirstServer};
 
-    ghost invariant = { λ f. CanBeginWith (record { front = f.front; shards = f.shards.items; words = f.heads }) };
+    ghost invariant = { λ f. IsFirstServer (record { front = f.front; shards = f.shards.items; words = f.heads }) };
 }
 
 impl FirstServer {

@@ -54,11 +54,12 @@
 //!   of the times that the shards return.
 //! - The gauges of the front at a time, and the numbers of a shard's observers, are read. A read is
 //!   no event.
-//! - A server over stored slots has the restored slots, without observers, and the head words of
-//!   the restored programs. Otherwise the error names a slot that isn't restored, with the reason,
-//!   or says that memory can't be allocated.
+//! - A first state over stored slots has the restored slots, without observers, and the head words
+//!   of the restored programs. Otherwise the error names a slot that isn't restored, with the
+//!   reason, or says that memory can't be allocated. Some history leaves each first state without
+//!   jobs. `Engine::over` and `SingleThread::over` make a server in any first state.
 //!
-//! By the contracts of `FirstServer`, `Server`, `Engine::handle`, `tick`, `fire`, `resend`,
+//! By the contracts of `FirstServer`, `Server`, `Engine::over`, `handle`, `tick`, `fire`, `resend`,
 //! `notify`, `idle_until`, `gauges`, `observer_counts`, `SingleThread`, `Flushing::begin`, `step`,
 //! `flush::idle_until`.
 #![tactic(auto)]

@@ -2,19 +2,16 @@
 //!
 //! The engine and `fc_world` make the calls. A call for a task has no effect if the task's stage
 //! doesn't need the event of the call; `Lose` ends any task.
-ghost use Rattle.std.specs.Prelude.{◌≡◌, ℕ, List, ◌<◌, ◌≤◌, if◌then◌else◌, [], false, length, slice_set, IfErr, IfOk, OnOk};
-ghost use Rattle.fc_registry.specs.Restored.{restored_slot};
+ghost use Rattle.std.specs.Prelude.{◌≡◌, ℕ, ◌<◌, if◌then◌else◌, false, length, slice_set, IfOk, OnOk};
 ghost use Rattle.fc_registry.specs.Shards.{first_shards, shard_at};
-ghost use Rattle.fc_registry.specs.Starts.{CanRestore, IsStartError, shards_over};
 ghost use Rattle.fc_registry.specs.Turns.{written_if};
 ghost use Rattle.fc_registry.specs.Watches.{StaysIdleUntil, at_time, is_idle, observer_counts, signal_call, signalled};
 ghost use Rattle.fc_core.specs.declared.event.Event.{Event};
 ghost use Rattle.fc_core.specs.Exchanges.{advanced, first_front};
 ghost use Rattle.fc_core.specs.Gauges.{gauges_at};
-ghost use Rattle.fc_core.specs.Heads.{first_words, no_words};
+ghost use Rattle.fc_core.specs.Heads.{no_words};
 ghost use Rattle.fc_core.specs.Receiving.{after_delivered, delivered, emission_if, handled};
 ghost use Rattle.fc_core.specs.Timers.{timer_job};
-ghost use Rattle.fc_store.specs.Stored.{stored_in};
 ghost use Rattle.fc_server.specs.States.{Responds, AtWork, CanBegin, Does, DrawsId, Works};
 ghost use Rattle.fc_server.specs.Steps.{shard_asked, shard_ticked, shard_told, shard_turn};
 
@@ -25,8 +22,7 @@ use fc_core::{DEFAULT_POLICY, Event, Front, FrontGauges, Handled, Heads, Policy,
 use fc_help::Readings;
 use fc_machine::Frame;
 use fc_observe::Ticked;
-use fc_registry::{Job, PLACES, Shard, SlotNumber, StartError};
-use fc_store::StoredSlot;
+use fc_registry::{Job, PLACES, Shard, SlotNumber};
 use std::alloc::{AllocError, Global};
 use std::marker::Model;
 
@@ -79,45 +75,21 @@ impl Server {
         ensures shards { IfOk result (λ s. s.shards ≡ first_shards begin.now.serial begin.now.policy.confirm_after) }
         ensures words { IfOk result (λ s. s.words ≡ no_words) }
     {
-        let FirstServer {
-            front,
-            shards,
-            heads,
-        } = FirstServer::new(alloc, begin)?;
-        Ok(Server {
-            front,
-            shards,
-            heads,
-            frame: Frame::new(alloc)?,
-        })
+        Server::over(alloc, FirstServer::new(alloc, begin)?)
     }
 
-    /// Makes a server whose slots 0 to 63 are restored from these stored states.
-    ///
-    /// Each stored image is verified again. The server has the policy, and draws the message ID
-    /// `id` first. Its head words are those of the restored programs.
+    /// Makes a server in the state `first`.
     ///
     /// # Errors
-    /// Returns a slot that can't be restored, with the reason, or that memory can't be allocated.
-    pub fn over(
-        alloc: Global,
-        stored: &[StoredSlot],
-        id: u16,
-        policy: &Policy,
-    ) -> Result<Server, StartError>
-        requires { length stored.now ≡ 64 }
-        ensures front { IfOk result (λ s. s.front ≡ first_front policy.now id) }
-        ensures shards { IfOk result (λ s.
-            s.shards ≡ shards_over (λ n. restored_slot (stored_in stored.now n)) policy.now.confirm_after) }
-        ensures words { IfOk result (λ s. s.words ≡ first_words (λ n. restored_slot (stored_in stored.now n))) }
-        ensures can { IfOk result (λ s. (n : ℕ) → n < 64 → CanRestore (stored_in stored.now n)) }
-        ensures cause { IfErr result (IsStartError (stored_in stored.now)) }
+    /// Returns `AllocError` if memory can't be allocated.
+    pub fn over(alloc: Global, first: FirstServer) -> Result<Server, AllocError>
+        ensures { IfOk result (λ s. s ≡ first) }
     {
         let FirstServer {
             front,
             shards,
             heads,
-        } = FirstServer::over(alloc, stored, id, policy)?;
+        } = first;
         Ok(Server {
             front,
             shards,
@@ -344,7 +316,7 @@ impl Server {
         task.remove(&mut self.shards[task.job.origin.slot.shard()]);
     }
 
-    /// Applies `Refuse`: refuses the change of a task's slot, since the change can't be saved.
+    /// Applies `Refuse`: refuses the change of a task's slot, since the store refuses the save.
     ///
     /// If the task is at a removal, or at the commit of a run that wants to write, its answer is
     /// then 5.03. Otherwise, nothing changes. No other part of the server changes. See

@@ -15,7 +15,7 @@ use fc_core::front::blank_emission;
 use fc_core::{Event, Handled, Policy, Task};
 use fc_observe::Ticked;
 use fc_registry::{SHARDS, SLOTS, SlotNumber, StartError};
-use fc_server::{Begin, Server};
+use fc_server::{Begin, FirstServer, Server};
 use fc_store::StoredSlot;
 use std::alloc::{AllocError, Global};
 
@@ -143,7 +143,7 @@ impl WorldState {
         ensures cause { IfErr result (IsStartError (stored_in stored.now)) }
     {
         Ok(WorldState {
-            server: Server::over(alloc, stored, id, policy)?,
+            server: Server::over(alloc, FirstServer::over(alloc, stored, id, policy)?)?,
             tasks: Vec::new(alloc),
         })
     }
