@@ -29,7 +29,7 @@ use Rattle.fc_registry.specs.declared.job.Job.{Job}
 use Rattle.fc_workers.specs.Asked.{shard_called}
 use Rattle.fc_workers.specs.Called.{WorkerView}
 use Rattle.fc_workers.specs.Deliveries.{Delivery, deliveries_in, delivery_by}
-use Rattle.fc_workers.specs.Dispatch.{AreSignalled, HasBegunNext, HasReadCost, IsDispatched, IsDispatchedUnder, IsDone, IsHandedOver, IsTakenIn, IsTimerFired, IsTurnAsked, IsTurnDone, IsWorkedHere, MayGo, MayHaveReadCost, MayHaveReadings, logged_at, unsent}
+use Rattle.fc_workers.specs.Dispatch.{AreSignalled, HasBegunNext, HasLeastCost, HasReadCost, IsDispatched, IsDispatchedUnder, IsDone, IsHandedOver, IsTakenIn, IsTimerFired, IsTurnAsked, IsTurnDone, IsWorkedHere, MayGo, MayHaveReadCost, MayHaveReadings, least_cost, logged_at, unsent}
 use Rattle.fc_workers.specs.Filed.{FilesCalls, HasFiled, HasSameTracks}
 use Rattle.fc_workers.specs.Logs.{TrackedLog}
 use Rattle.fc_workers.specs.Messages.{TrackedJob, with_tracks}
@@ -38,7 +38,7 @@ use Rattle.fc_workers.specs.Shares.{AreTurns, IsTurn}
 use Rattle.fc_workers.specs.Work.{IsReplied}
 use Rattle.fc_workers.specs.Workers.{Dispatched, Share}
 use Rattle.fc_workers.specs.declared.dispatcher.Offload.{Offload}
-use Rattle.fc_workers.specs.declared.dispatcher.Offload.TheVariants.{Every, Expensive, Never}
+use Rattle.fc_workers.specs.declared.dispatcher.Offload.TheVariants.{ChangesAndExpensive, Never}
 use Rattle.fc_workers.proofs.Filed.{MayWork, replied_filed}
 use Rattle.fc_workers.proofs.Producing.{at_rest, has_rest}
 
@@ -277,18 +277,24 @@ module _ (who : ℕ) where
         both [] [] u w.log v (readings_given job u w.log w.readings)
         (filed_delivers (Logged call) w.log v (files.logged call w.log v w.read))
 
+    going_by_cost : (least : Option ℕ) (job : Job) (u v : TrackedLog) → HasLeastCost s least job u v
+        → Delivers who [] u v
+    going_by_cost None job u v is = unchanged u v is
+    going_by_cost (Some least) job u v w = cost_read job (Some w.0) u v w.2
+
     going : (offload : Offload) (job : Job) (u v : TrackedLog) → MayGo s offload job u v
         → Delivers who [] u v
-    going Every job u v is = unchanged u v is
-    going (Expensive least) job u v w = cost_read job (Some w.0) u v w.2
     going Never job u v w = absurd w
+    going (ChangesAndExpensive least) job u v (inl w) = unchanged u v w.2
+    going (ChangesAndExpensive least) job u v (inr w) =
+        going_by_cost (least_cost (ChangesAndExpensive least) job) job u v w
+    going offload job u v w = going_by_cost (least_cost offload job) job u v w
 
-    staying : (offload : Offload) (job : Job) (u v : TrackedLog) → MayHaveReadCost s offload job u v
+    staying : (least : Option ℕ) (job : Job) (u v : TrackedLog) → MayHaveReadCost s least job u v
         → Delivers who [] u v
-    staying Every job u v is = unchanged u v is
-    staying (Expensive least) job u v (inl is) = unchanged u v is
-    staying (Expensive least) job u v (inr w) = cost_read job w.0 u v w.1
-    staying Never job u v is = unchanged u v is
+    staying None job u v is = unchanged u v is
+    staying (Some least) job u v (inl is) = unchanged u v is
+    staying (Some least) job u v (inr w) = cost_read job w.0 u v w.1
 
     module _ (offload : Offload) (job : Job) (before mid after : Dispatched T)
         (next : HasBegunNext mid after) where
@@ -307,7 +313,7 @@ module _ (who : ℕ) where
       worked_here : IsWorkedHere s offload job before mid → Dispatches [] before after
       worked_here w =
           both [] [] before.share.log w.log after.share.log
-          (staying offload job before.share.log w.log w.stays)
+          (staying (least_cost offload job) job before.share.log w.log w.stays)
           (both [] [] w.log mid.share.log after.share.log
           (replied_delivers unsent job (record before.share { log = w.log }) mid.share w.worked)
           (begun_next mid after next))

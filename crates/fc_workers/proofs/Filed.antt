@@ -11,17 +11,17 @@ use Rattle.fc_registry.specs.Taken.{Taken}
 use Rattle.fc_registry.specs.Taken.{Given, Missing, Stale, Refused}
 use Rattle.fc_book.specs.declared.view.Track.{Track}
 use Rattle.fc_book.specs.Tracks.{entries_at, entries_of}
-use Rattle.fc_core.specs.Contents.{Content}
+use Rattle.fc_core.specs.Contents.{Content, Unavailable}
 use Rattle.fc_core.specs.Stage.{Stage}
-use Rattle.fc_core.specs.Stage.{ToAnswer, ToTell, Gone}
+use Rattle.fc_core.specs.Stage.{ToAnswer, ToCommit, ToRemove, ToTell, Gone}
 use Rattle.fc_core.specs.TurnStage.{TurnStage}
 use Rattle.fc_core.specs.TurnStage as turns
-use Rattle.fc_core.specs.Stages.{asked_stage, first_or_turn, first_stage, matched, turn_took}
+use Rattle.fc_core.specs.Stages.{asked_stage, first_or_turn, first_stage, is_refusable, matched, turn_took}
 use Rattle.fc_core.specs.Steps.{Call, Matches, Lists, Takes, Commits, Installs, Rejects, Refuses, Removes, Describes, Raises, Answers, TakesTurn, Draws, Notes, GivesUp, Loses, RefusesChange, called_at, next_stage}
 use Rattle.fc_calls.specs.Logged.{LoggedCall}
 use Rattle.fc_calls.specs.Logged.{AnswersRequest, CommitsRun, DrawsId, GivesReadings, GivesUpTurn}
 use Rattle.fc_calls.specs.Logged.{InstallsProgram, LooksAt, NotesTurn, RaisesWord, RemovesProgram, TakesForJob, TellsReceipt}
-use Rattle.fc_linear.specs.Operations.{LacksMemory, Logged, Operation, RejectsImage, StageMoves}
+use Rattle.fc_linear.specs.Operations.{FailsToSave, RefusesInstall, Logged, Operation, RejectsImage, StageMoves}
 use Rattle.fc_filed.specs.declared.entry.FiledEntry.{FiledEntry}
 use Rattle.fc_filed.specs.Books.{IsRightForJob}
 use Rattle.fc_filed.specs.JobTracks.{FilesForJob, HasJobAt}
@@ -33,7 +33,7 @@ use Rattle.fc_workers.specs.Called.{BenchCall, EndsJob, SendsReply, WireCall, Wo
 use Rattle.fc_workers.specs.Filed.{FilesCalls, FilesEach, HasFiled, HasFiledFor, HasRightJobs, HasSameTracks}
 use Rattle.fc_workers.specs.Logs.{IsUnfiled, TrackedLog}
 use Rattle.fc_workers.specs.Outgoing.{GivesAnswer, IsFoundTold, IsGivenUp, IsSent, IsTurnReply, with_reply}
-use Rattle.fc_workers.specs.Work.{AreCalls, IsCallOf, IsReplied, IsRequestWorked, IsTurnWorked, IsWorked, IsWorkedAs, stage_after}
+use Rattle.fc_workers.specs.Work.{AreCalls, IsCallOf, IsChangeRefused, IsReplied, IsRequestWorked, IsTurnWorked, IsWorked, IsWorkedAs, stage_after}
 use Rattle.fc_workers.specs.Workers.{Share}
 
 -- ---- the tracks of a log that makes calls for a job
@@ -83,6 +83,14 @@ module _ (first_job : ℕ) (job : Job) where
   module _ {T : Type 0} (w : WorkerView T) (files : FilesCalls w) where
     -- ---- a request
 
+    refused_filed : (number : ℕ) (needs stage : Stage) (before after : TrackedLog) → MayWork first_job before → stage ≡ needs → IsChangeRefused w number job needs before after → Files stage (ToAnswer Unavailable) before after
+    refused_filed number (ToCommit count t) stage before after may at is =
+        after_none stage (ToAnswer Unavailable) before is.passed after (files.gate number before is.passed is.gate) may
+        (λ m. after_none stage (ToAnswer Unavailable) is.passed is.asked after (files.time is.now is.passed is.asked is.time) m
+        (λ n. one (FailsToSave job) stage (ToAnswer Unavailable) is.asked after n is.filed (refl, ap is_refusable at ∙ is.wants, refl)))
+    refused_filed number ToRemove stage before after may at is = one (FailsToSave job) stage (ToAnswer Unavailable) before after may is.1 (refl, ap is_refusable at, refl)
+    refused_filed number other stage before after may at is = absurd is
+
     call_filed : (number : ℕ) (call : Call) (stage : Stage) (before after : TrackedLog) → MayWork first_job before → stage ≡ called_at call → IsCallOf w number job call before after → Files stage (next_stage call) before after
     call_filed number (Matches serials word) stage before after may at is = one (Logged (LooksAt job.origin.slot word)) stage (next_stage (Matches serials word)) before after may
         (files.logged (LooksAt job.origin.slot word) before after is.1) (inl (refl, at, ap (λ (l : List ℕ). matched word l) is.0))
@@ -100,7 +108,7 @@ module _ (first_job : ℕ) (job : Job) where
     call_filed number (Installs p initial answer) stage before after may at is = one (Logged (InstallsProgram job p answer)) stage (next_stage (Installs p initial answer)) before after may
         (files.logged (InstallsProgram job p answer) before after is.3) (refl, is.0, is.1, at, refl)
     call_filed number (Rejects content) stage before after may at is = one (RejectsImage job content) stage (next_stage (Rejects content)) before after may is.1 (refl, is.0, at, refl)
-    call_filed number Refuses stage before after may at is = one (LacksMemory job) stage (next_stage Refuses) before after may is.1 (refl, at, refl)
+    call_filed number Refuses stage before after may at is = one (RefusesInstall job) stage (next_stage Refuses) before after may is.1 (refl, at, refl)
     call_filed number (Removes removal) stage before after may at is = one (Logged (RemovesProgram job removal)) stage (next_stage (Removes removal)) before after may
         (files.logged (RemovesProgram job removal) before after is.0) (refl, at, refl)
     call_filed number (Describes receipt) stage before after may at is = one (Logged (TellsReceipt job receipt)) stage (next_stage (Describes receipt)) before after may
@@ -113,7 +121,7 @@ module _ (first_job : ℕ) (job : Job) where
     call_filed number (Notes turn found id) stage before after may at is = absurd is
     call_filed number (GivesUp turn needs) stage before after may at is = absurd is
     call_filed number (Loses needs) stage before after may at is = absurd is
-    call_filed number (RefusesChange needs) stage before after may at is = absurd is
+    call_filed number (RefusesChange needs) stage before after may at is = refused_filed number needs stage before after may at is
 
     pub calls_filed : (number : ℕ) (calls : List Call) (before after : TrackedLog) → MayWork first_job before → AreCalls w number job calls before after → Files (asked_stage job) (stage_after job calls) before after
     unfolding AreCalls

@@ -12,14 +12,14 @@ use Rattle.fc_linear.specs.Operations.{Logged, job_in}
 use Rattle.fc_workers.specs.Asked.{shard_called}
 use Rattle.fc_workers.specs.Called.{WorkerView}
 use Rattle.fc_jobs.specs.Ends.{Sent}
-use Rattle.fc_workers.specs.Dispatch.{AreSignalled, HasReadCost, IsDispatched, IsHandedOver, IsWorkedHere, MayGo, MayHaveReadCost, MayHaveReadings, WithNext}
+use Rattle.fc_workers.specs.Dispatch.{AreSignalled, HasLeastCost, HasReadCost, IsDispatched, IsHandedOver, IsWorkedHere, MayGo, MayHaveReadCost, MayHaveReadings, WithNext, least_cost}
 use Rattle.fc_workers.specs.Filed.{FilesEach}
 use Rattle.fc_workers.specs.Logs.{TrackedLog}
 use Rattle.fc_workers.specs.Messages.{TrackedJob}
 use Rattle.fc_workers.specs.Producing.{HasProduced, MayProduce, first_tracked}
 use Rattle.fc_workers.specs.Workers.{Dispatched}
 use Rattle.fc_workers.specs.declared.dispatcher.Offload.{Offload}
-use Rattle.fc_workers.specs.declared.dispatcher.Offload.TheVariants.{Every, Expensive, Never}
+use Rattle.fc_workers.specs.declared.dispatcher.Offload.TheVariants.{ChangesAndExpensive, Never}
 use Rattle.fc_workers.proofs.Producing.{has_produced, still_may, still_produced, still_produced_by, track_same}
 
 low_called : (shard : ℕ) → shard_called shard < 8
@@ -82,22 +82,36 @@ module _ {T : Type 0} (first_job upcoming : ℕ) (w : WorkerView T) (files : Fil
         track_same first_job (Logged call) is.log after tt filed refl upcoming job read.0 ∙ read.1,
       )
 
-  pub still_going : (offload : Offload) (job : Job) (before after : TrackedLog) → MayGo w offload job before after → HasProduced first_job upcoming job before → HasProduced first_job upcoming job after × (first_own after.tracks ≡ first_own before.tracks)
-  still_going Every job before after is h = (subst (λ (l : TrackedLog). HasProduced first_job upcoming job l) (sym is) h, ap (λ (l : TrackedLog). first_own l.tracks) is)
-  still_going (Expensive least) job before after is h = still_priced job (Some is.0) before after is.2 h
-  still_going Never job before after is h = absurd is
+  -- nothing was called.
+  still_same : (job : Job) (before after : TrackedLog) → after ≡ before → HasProduced first_job upcoming job before → HasProduced first_job upcoming job after × (first_own after.tracks ≡ first_own before.tracks)
+  still_same job before after is h = (subst (λ (l : TrackedLog). HasProduced first_job upcoming job l) (sym is) h, ap (λ (l : TrackedLog). first_own l.tracks) is)
 
-  pub still_staying : (offload : Offload) (job : Job) (before after : TrackedLog) → MayHaveReadCost w offload job before after → HasProduced first_job upcoming job before → HasProduced first_job upcoming job after × (first_own after.tracks ≡ first_own before.tracks)
-  still_staying Every job before after is h = (subst (λ (l : TrackedLog). HasProduced first_job upcoming job l) (sym is) h, ap (λ (l : TrackedLog). first_own l.tracks) is)
-  still_staying (Expensive least) job before after (inl is) h = (subst (λ (l : TrackedLog). HasProduced first_job upcoming job l) (sym is) h, ap (λ (l : TrackedLog). first_own l.tracks) is)
-  still_staying (Expensive least) job before after (inr is) h = still_priced job is.0 before after is.1 h
-  still_staying Never job before after is h = (subst (λ (l : TrackedLog). HasProduced first_job upcoming job l) (sym is) h, ap (λ (l : TrackedLog). first_own l.tracks) is)
+  still_by_cost : (least : Option ℕ) (job : Job) (before after : TrackedLog) → HasLeastCost w least job before after → HasProduced first_job upcoming job before → HasProduced first_job upcoming job after × (first_own after.tracks ≡ first_own before.tracks)
+  still_by_cost None job before after is h = still_same job before after is h
+  still_by_cost (Some least) job before after is h = still_priced job (Some is.0) before after is.2 h
+
+  pub still_going : (offload : Offload) (job : Job) (before after : TrackedLog) → MayGo w offload job before after → HasProduced first_job upcoming job before → HasProduced first_job upcoming job after × (first_own after.tracks ≡ first_own before.tracks)
+  still_going Never job before after is h = absurd is
+  still_going (ChangesAndExpensive least) job before after (inl is) h = still_same job before after is.2 h
+  still_going (ChangesAndExpensive least) job before after (inr is) h = still_by_cost (least_cost (ChangesAndExpensive least) job) job before after is h
+  still_going offload job before after is h = still_by_cost (least_cost offload job) job before after is h
+
+  pub still_staying : (least : Option ℕ) (job : Job) (before after : TrackedLog) → MayHaveReadCost w least job before after → HasProduced first_job upcoming job before → HasProduced first_job upcoming job after × (first_own after.tracks ≡ first_own before.tracks)
+  still_staying None job before after is h = still_same job before after is h
+  still_staying (Some least) job before after (inl is) h = still_same job before after is h
+  still_staying (Some least) job before after (inr is) h = still_priced job is.0 before after is.1 h
 
   -- the job may go to the workers, or stays here.
-  pub still_produced_if : (goes : Bool) (offload : Offload) (job : Job) (before after : TrackedLog) → MatchBool goes (MayGo w offload job before after) (MayHaveReadCost w offload job before after) → HasProduced first_job upcoming job before
+  pub still_produced_if : (goes : Bool) (offload : Offload) (job : Job) (before after : TrackedLog) → MatchBool goes (MayGo w offload job before after) (MayHaveReadCost w (least_cost offload job) job before after) → HasProduced first_job upcoming job before
       → HasProduced first_job upcoming job after × (first_own after.tracks ≡ first_own before.tracks)
   still_produced_if true offload job before after is h = still_going offload job before after is h
-  still_produced_if false offload job before after is h = still_staying offload job before after is h
+  still_produced_if false offload job before after is h = still_staying (least_cost offload job) job before after is h
+
+-- the job of a program that was found expensive may go, if the policy has this least cost for it.
+pub may_go_by_cost : {T : Type 0} (w : WorkerView T) (offload : Offload) (least : ℕ) (job : Job) (before after : TrackedLog) → least_cost offload job ≡ Some least → HasLeastCost w (Some least) job before after → MayGo w offload job before after
+may_go_by_cost w Never least job before after by found = absurd (cc by)
+may_go_by_cost w (ChangesAndExpensive most) least job before after by found = inr (subst (λ (o : Option ℕ). HasLeastCost w o job before after) (sym by) found)
+may_go_by_cost w offload least job before after by found = subst (λ (o : Option ℕ). HasLeastCost w o job before after) (sym by) found
 
 -- ---- whether a job was sent
 

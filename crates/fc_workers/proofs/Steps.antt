@@ -7,7 +7,7 @@ use Rattle.fc_kinds.specs.Meaning.{Program}
 use Rattle.fc_verify.specs.Accepted.{Accepts}
 use Rattle.fc_verify.specs.Judged.{judged}
 use Rattle.fc_verify.specs.Refusals.{IsRefusal}
-use Rattle.fc_verify.specs.declared.refusal.Refusal.TheVariants.{Broken, NoMemory}
+use Rattle.fc_verify.specs.declared.refusal.Refusal.TheVariants.{Broken}
 use Rattle.fc_machine.specs.Ran.{Ran, ran}
 use Rattle.fc_help.specs.Request.{Request}
 use Rattle.fc_observe.specs.Observers.{ObserverList}
@@ -38,17 +38,17 @@ use Rattle.fc_core.specs.Heads.{head_word, is_match}
 use Rattle.fc_core.specs.Ends.{refused, refused_by}
 use Rattle.fc_core.specs.Fits.{IsSafe}
 use Rattle.fc_core.specs.Stages.{asked_stage, first_by, image_of, listed, matched, matched_by, run_content, removed, receipt_content, took, after_commit, made, snapshots}
-use Rattle.fc_core.specs.Steps.{Call, Takes, Commits, Installs, Lists, Matches, Rejects, Refuses, Removes, Describes, Raises}
+use Rattle.fc_core.specs.Steps.{Call, Takes, Commits, Installs, Lists, Matches, Rejects, Refuses, RefusesChange, Removes, Describes, Raises}
 use Rattle.fc_workers.specs.Workers.{Share}
 use Rattle.fc_workers.specs.Answers.{AreTallied, commit_overtakings, ended_by, saturated, snapshot_refusals, IsSnapshotWith, IsSomeInstall, IsSomeReceipt, IsSomeRemoval, IsSomeSnapshot}
 use Rattle.fc_calls.specs.Kept.{commit_changes, install_changes, removal_changes}
 use Rattle.fc_workers.specs.Logs.{TrackedLog}
 use Rattle.fc_calls.specs.Logged.{InstallsProgram, LoggedCall, LooksAt, RaisesWord, RemovesProgram, TellsReceipt}
-use Rattle.fc_linear.specs.Operations.{LacksMemory, RejectsImage}
+use Rattle.fc_linear.specs.Operations.{RefusesInstall, RejectsImage}
 use Rattle.fc_workers.specs.Called.{WorkerView}
 use Rattle.fc_workers.specs.Filed.{HasFiled}
 use Rattle.fc_workers.specs.Steps.{AreSeen, AsksRun, Follows, IsPlainRun, IsReady, IsStep, ListsOn, Walked, taken_at}
-use Rattle.fc_workers.specs.Work.{AreCalls, IsCallAt, IsCommitted, IsWorkedOff, HasCounted, stage_after, change_by, overtaking_by, refusal_by, snapshots_made, total}
+use Rattle.fc_workers.specs.Work.{AreCalls, IsCallAt, IsChangeRefused, IsCommitted, IsInstallRefused, IsWorkedOff, HasCounted, stage_after, change_by, overtaking_by, refusal_by, snapshots_made, total}
 
 -- ---- a step, stored in the job's state
 
@@ -65,7 +65,7 @@ none_tallied true x = omega arith
 none_tallied false x = omega arith
 
 -- unchanged tallies have risen by 0 changes.
-same_tallies : (changes : ℕ → ℕ) (n : ℕ) → AreTallied changes changes n 0
+pub same_tallies : (changes : ℕ → ℕ) (n : ℕ) → AreTallied changes changes n 0
 same_tallies changes n = λ shard less. none_tallied (shard == n % 8) (changes shard)
 
 -- tallies that rise by k changes rise by 0 + k, the total of a list of one call.
@@ -305,17 +305,42 @@ module _ {T : Type 0} (worker_view : WorkerView T) (number : ℕ) (job : Job) wh
     };
   })
 
-  -- if memory for the job's image is refused, this is a step to the answer `Unavailable`, and is
-  -- counted.
-  pub refuse_step : (p : Share T) (log : TrackedLog) {next : Stage} {after : Share T} → IsRefusal (image_of job.ask) NoMemory → HasFiled (LacksMemory job) p.log log → next ≡ ToAnswer Unavailable
-      → after ≡ record p { log = log; refusals = saturated (p.refusals + 1) } → IsStep worker_view number job ToInstall next p after
-  refuse_step p log is filed e c = is_step ToInstall e c (record {
+  -- if the program of the job's image isn't installed, this is a step to the answer `Unavailable`,
+  -- and is counted.
+  pub refuse_step : (p : Share T) (tallies : T) (log : TrackedLog) {next : Stage} {after : Share T} → IsInstallRefused worker_view job → HasFiled (RefusesInstall job) p.log log
+      → AreTallied (worker_view.changes p.tallies) (worker_view.changes tallies) job.origin.slot 0 → next ≡ ToAnswer Unavailable
+      → after ≡ record p { tallies = tallies; log = log; refusals = saturated (p.refusals + 1) } → IsStep worker_view number job ToInstall next p after
+  refuse_step p tallies log is filed rises e c = is_step ToInstall e c (record {
     call = Refuses;
     is = (refl, (is, filed));
     next = refl;
     follows = record { ready = tt; fewer = omega arith; few = omega arith };
     counted = record {
-      tallies = same_tallies (worker_view.changes p.tallies) job.origin.slot;
+      tallies = one_tallied (worker_view.changes p.tallies) (worker_view.changes tallies) job.origin.slot 0 rises;
+      refusals = omega arith;
+      overtakings = omega arith;
+      got = refl;
+      sent = refl;
+      failed = refl;
+    };
+  })
+
+  unsaved_follows : (old : Stage) (before after : TrackedLog) → IsReady job old → IsChangeRefused worker_view number job old before after → Follows job old 0 (ToAnswer Unavailable)
+  unsaved_follows (ToCommit count t) before after ready is = let few = ready.0 in record { ready = tt; fewer = omega arith; few = omega (arith, few) }
+  unsaved_follows ToRemove before after ready is = record { ready = tt; fewer = omega arith; few = omega arith }
+  unsaved_follows other before after ready is = absurd is
+
+  -- if the job's change can't be saved, this is a step to the answer `Unavailable`, and is counted.
+  pub unsaved_step : (old : Stage) (p : Share T) (tallies : T) (log : TrackedLog) {next : Stage} {after : Share T} → IsReady job old → IsChangeRefused worker_view number job old p.log log
+      → AreTallied (worker_view.changes p.tallies) (worker_view.changes tallies) job.origin.slot 0 → next ≡ ToAnswer Unavailable
+      → after ≡ record p { tallies = tallies; log = log; refusals = saturated (p.refusals + 1) } → IsStep worker_view number job old next p after
+  unsaved_step old p tallies log ready is rises e c = is_step old e c (record {
+    call = RefusesChange old;
+    is = (refl, is);
+    next = refl;
+    follows = unsaved_follows old p.log log ready is;
+    counted = record {
+      tallies = one_tallied (worker_view.changes p.tallies) (worker_view.changes tallies) job.origin.slot 0 rises;
       refusals = omega arith;
       overtakings = omega arith;
       got = refl;

@@ -1,7 +1,7 @@
 -- Possible results of calls, and counts of the results. A definition states that some front, shard
 -- or slot gives the result. It doesn't state which one, since other jobs change the server between
 -- two calls of a job.
-use Rattle.std.specs.Prelude.{◌≡◌, ℕ, ◌+◌, ◌%◌, ◌<◌, ◌==◌, if◌then◌else◌, Bool, List, Option, max, min}
+use Rattle.std.specs.Prelude.{◌≡◌, ℕ, ◌+◌, ◌%◌, ◌<◌, ◌==◌, if◌then◌else◌, Bool, List, Option, Some, None, max, min}
 use Rattle.coap_msg.specs.declared.types.Emission.{Emission}
 use Rattle.coap_msg.specs.declared.types.Endpoint.{Endpoint}
 use Rattle.fc_core.specs.declared.front.Answered.{Answered}
@@ -115,6 +115,11 @@ pub record IsSomeRemoval (removal : Removal) : Type 0 where
 pub record IsSomeReceipt (receipt : Option Receipt) : Type 0 where
   pub slot : Slot
   pub receipt_is : receipt ≡ receipt_at slot.present
+
+-- the number of changes that a result reports, or none without a result.
+abbrev pub changes_if : {A : Type 0} → (A → ℕ) → Option A → ℕ
+changes_if changes None = 0
+changes_if changes (Some answer) = changes answer
 
 -- the number of conflicts that a commit's result reports.
 abbrev pub commit_overtakings : Committed → ℕ

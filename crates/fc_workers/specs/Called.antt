@@ -3,6 +3,7 @@
 use Rattle.std.specs.Prelude.{ℕ, Bool, List}
 use Rattle.coap_msg.specs.declared.types.Emission.{Emission}
 use Rattle.fc_calls.specs.Logged.{LoggedCall}
+use Rattle.fc_registry.specs.Changes.{Change}
 use Rattle.fc_core.specs.declared.gauges.FrontGauges.{FrontGauges}
 use Rattle.fc_workers.specs.declared.call_log.CallLog.{CallLog}
 use Rattle.fc_workers.specs.Logs.{IsUnfiled, TrackedLog}
@@ -18,6 +19,10 @@ pub data BenchCall : Type 0 where
   ReadsGauges : (now : ℕ) (gauges : FrontGauges) → BenchCall
   -- the slots of a shard have these numbers of observers, by place.
   CountsObservers : (shard : ℕ) (counts : List ℕ) → BenchCall
+  -- this change of a slot can't be saved, and the slot is unchanged.
+  RefusesSave : (slot : ℕ) (change : Change) → BenchCall
+  -- a change of this slot's shard is found being saved.
+  FindsSaving : (slot : ℕ) → BenchCall
 
 -- a call of a transmitter for the job with this number.
 pub data WireCall : Type 0 where

@@ -1,5 +1,5 @@
 -- The effect of a dispatcher on its jobs: each goes to a worker, or the dispatcher runs it.
-use Rattle.std.specs.Prelude.{◌≡◌, ◌≢◌, ◌⊎◌, ◌+◌, ◌<◌, ◌≤◌, ℕ, zero, suc, Bool, true, false, List, [], Option, Some, None, length}
+use Rattle.std.specs.Prelude.{◌≡◌, ◌≢◌, ◌⊎◌, ◌+◌, ◌&&◌, ◌<◌, ◌≤◌, ℕ, zero, suc, Bool, true, false, if◌then◌else◌, List, [], Option, Some, None, is_none, length}
 use Rattle.coap_msg.specs.declared.types.Emission.{Emission}
 use Rattle.coap_msg.specs.declared.types.Endpoint.{Endpoint}
 use Rattle.fc_book.specs.Tracks.{first_own}
@@ -9,13 +9,16 @@ use Rattle.fc_core.specs.declared.front.Handled.{Handled}
 use Rattle.fc_core.specs.Receiving.{handled}
 use Rattle.fc_core.specs.Timers.{timer_job}
 use Rattle.fc_jobs.specs.Ends.{with_sent}
+use Rattle.fc_registry.specs.Calls.{is_post}
+use Rattle.fc_registry.specs.declared.job.Ask.{Ask}
+use Rattle.fc_registry.specs.declared.job.Ask.TheVariants.{Run, Install, Remove, Describe}
 use Rattle.fc_registry.specs.declared.job.Job.{Job}
 use Rattle.fc_workers.specs.declared.dispatcher.Offload.{Offload}
-use Rattle.fc_workers.specs.declared.dispatcher.Offload.TheVariants.{Every, Expensive, Never}
+use Rattle.fc_workers.specs.declared.dispatcher.Offload.TheVariants.{Expensive, ChangesAndExpensive, Never}
 use Rattle.fc_workers.specs.Logs.{TrackedLog}
 use Rattle.fc_workers.specs.Answers.{IsSomeDelivery, IsSomeIdle, IsSomeTurn, saturated}
 use Rattle.fc_calls.specs.Logged.{AdvancesIdle, FiresTimer, GivesReadings, GivesTurn, HandsSignal, HandlesDatagram, ReadsCost, SkipsIdle}
-use Rattle.fc_workers.specs.Called.{WorkerView}
+use Rattle.fc_workers.specs.Called.{FindsSaving, WorkerView}
 use Rattle.fc_workers.specs.Producing.{first_tracked, with_new_track, without_job}
 use Rattle.fc_workers.specs.Steps.{AsksRun, IsPlainRun}
 use Rattle.fc_workers.specs.Work.{IsReplied}
@@ -54,6 +57,29 @@ WithNext {T} Does before after = (done : Dispatched T) × Does before done × Ha
 abbrev pub HasCalled : {T : Type 0} → Dispatched T → Dispatched T → Type 0
 HasCalled before after = after ≡ logged_at after.share.log before
 
+-- whether the action may change the job's slot: an install, a removal, or a run for a POST.
+abbrev pub requests_change : Ask → Bool
+requests_change (Run request) = is_post request.method
+requests_change (Install body initial) = true
+requests_change Remove = true
+requests_change other = false
+
+-- whether the job may change its slot. The job of a lease changes none.
+abbrev pub may_change_slot : Job → Bool
+may_change_slot job = is_none job.turn && requests_change job.ask
+
+-- the least cost of an expensive program, if the policy sends the job for no other program.
+abbrev pub least_cost : Offload → Job → Option ℕ
+least_cost (Expensive least) job = Some least
+least_cost (ChangesAndExpensive least) job = if may_change_slot job then None else Some least
+least_cost other job = None
+
+-- the action reads the job's slot under the lock of its shard: a run, or a program's description.
+abbrev pub ReadsSlot : Ask → Type 0
+ReadsSlot (Run request) = Unit {0}
+ReadsSlot Describe = Unit {0}
+ReadsSlot other = ⊥
+
 -- the job is no run, or it has ETags, so that it may need none.
 abbrev pub MayNeedNoRun : Job → Type 0
 MayNeedNoRun job = (AsksRun job.ask → ⊥) ⊎ (job.etags.items ≢ [])
@@ -76,11 +102,24 @@ module _ {T : Type 0} (s : WorkerView T) where
     pub readings : MayHaveReadings job before log
     pub read : s.logged (ReadsCost job.origin.slot cost) log after
 
-  -- the job may go to workers: always, or by the cost that was read in its slot.
+  -- if there is a least cost, the cost in the job's slot was read, and is this number of steps or
+  -- more. Otherwise nothing was read.
+  abbrev pub HasLeastCost : Option ℕ → Job → TrackedLog → TrackedLog → Type 0
+  HasLeastCost None job before after = after ≡ before
+  HasLeastCost (Some least) job before after = (cost : ℕ) × (least ≤ cost) × HasReadCost job (Some cost) before after
+
+  -- the job reads its slot, and a change of the slot's shard was found being saved. Nothing else was
+  -- read.
+  abbrev pub IsHeldUp : Job → TrackedLog → TrackedLog → Type 0
+  IsHeldUp job before after = ReadsSlot job.ask × s.bench (FindsSaving job.origin.slot) × (after ≡ before)
+
+  -- the job may go to workers: by the cost that was read in its slot, or whatever the cost is. If
+  -- changes go, a job that a save holds up may go too.
   abbrev pub MayGo : Offload → Job → TrackedLog → TrackedLog → Type 0
-  MayGo Every job before after = after ≡ before
-  MayGo (Expensive least) job before after = (cost : ℕ) × (least ≤ cost) × HasReadCost job (Some cost) before after
   MayGo Never job before after = ⊥
+  MayGo (ChangesAndExpensive least) job before after =
+      IsHeldUp job before after ⊎ HasLeastCost (least_cost (ChangesAndExpensive least) job) job before after
+  MayGo offload job before after = HasLeastCost (least_cost offload job) job before after
 
   -- the job is no run, or its ETags may match; or the cost in its slot was read, and is below this
   -- number of steps. An empty slot has no cost.
@@ -88,10 +127,10 @@ module _ {T : Type 0} (s : WorkerView T) where
   IsFoundCheap least job before after =
       (MayNeedNoRun job × (after ≡ before)) ⊎ ((cost : Option ℕ) × IsBelow least cost × HasReadCost job cost before after)
 
-  -- the cost in the job's slot may have been read, if the policy depends on it.
-  abbrev pub MayHaveReadCost : Offload → Job → TrackedLog → TrackedLog → Type 0
-  MayHaveReadCost (Expensive least) job before after = (after ≡ before) ⊎ ((cost : Option ℕ) × HasReadCost job cost before after)
-  MayHaveReadCost other job before after = after ≡ before
+  -- if there is a least cost, the cost in the job's slot may have been read.
+  abbrev pub MayHaveReadCost : Option ℕ → Job → TrackedLog → TrackedLog → Type 0
+  MayHaveReadCost None job before after = after ≡ before
+  MayHaveReadCost (Some least) job before after = (after ≡ before) ⊎ ((cost : Option ℕ) × HasReadCost job cost before after)
 
   -- a job that may go was sent to the workers with its track, under the next number. The dispatcher
   -- has filed nothing for the job since the job arrived: the first track is unchanged. Nothing but
@@ -107,7 +146,7 @@ module _ {T : Type 0} (s : WorkerView T) where
   pub record IsWorkedHere (offload : Offload) (job : Job) (before after : Dispatched T) : Type 0 where
     pub sent : after.sent ≡ before.sent
     pub log : TrackedLog
-    pub stays : MayHaveReadCost offload job before.share.log log
+    pub stays : MayHaveReadCost (least_cost offload job) job before.share.log log
     pub track : first_own log.tracks ≡ first_own before.share.log.tracks
     pub worked : IsReplied s unsent job (record before.share { log = log }) after.share
     pub ends : s.ended after.share.tallies ≡ saturated (s.ended before.share.tallies + 1)

@@ -1,5 +1,5 @@
 -- The calls of a worker as they are filed: what they add to the worker's tracks.
-use Rattle.std.specs.Prelude.{◌≡◌, ℕ, ◌≤◌, List}
+use Rattle.std.specs.Prelude.{◌≡◌, ℕ, ◌≤◌}
 use Rattle.fc_book.specs.declared.view.BookView.{BookView}
 use Rattle.fc_book.specs.Tracks.{HasKey, entries_at}
 use Rattle.fc_registry.specs.declared.job.Job.{Job}
@@ -12,8 +12,7 @@ use Rattle.fc_filed.specs.declared.entry.FiledEntry.{FiledEntry}
 use Rattle.fc_filed.specs.Books.{IsRightForJob}
 use Rattle.fc_filed.specs.JobTracks.{FilesForJob}
 use Rattle.fc_filed.specs.Threads.{did_by}
-use Rattle.fc_workers.specs.declared.call_log.CallLog.{CallLog}
-use Rattle.fc_workers.specs.Asked.{IsLoggedCall, shard_called}
+use Rattle.fc_workers.specs.Asked.{IsLoggedCall, Peripherals, shard_called}
 use Rattle.fc_workers.specs.Called.{WireCall, WorkerView}
 use Rattle.fc_server.specs.States.{ServerState}
 use Rattle.fc_workers.specs.Logs.{TrackedLog, with_filed_call}
@@ -76,25 +75,25 @@ pub filed_alone : (call : LoggedCall) (before after : TrackedLog) → after ≡ 
 filed_alone call before after is = record { who = λ i. (is i).who; tracks = λ i. (is i).tracks }
 
 -- a server with locks files each of its logged calls.
-pub locked_files : (first : ServerState) (AreReadings : List ℕ → CallLog → CallLog → Type 0) → FilesEach (IsLoggedCall first AreReadings)
-locked_files first AreReadings (GivesReadings readings) before after is = record { who = λ i. (is.1 i).who; tracks = λ i. (is.1 i).tracks }
-locked_files first AreReadings (TellsReceipt job receipt) before after is = filed_alone (TellsReceipt job receipt) before after is.1
-locked_files first AreReadings (ReadsCost slot cost) before after is = filed_alone (ReadsCost slot cost) before after is.1
-locked_files first AreReadings (LooksAt slot word) before after is = filed_alone (LooksAt slot word) before after is
-locked_files first AreReadings (HandlesDatagram now from bytes brings) before after is = filed_alone (HandlesDatagram now from bytes brings) before after is.1
-locked_files first AreReadings (AdvancesFront now) before after is = filed_alone (AdvancesFront now) before after is.1
-locked_files first AreReadings (FiresTimer slot now) before after is = filed_alone (FiresTimer slot now) before after is.1
-locked_files first AreReadings (DrawsId now id) before after is = filed_alone (DrawsId now id) before after is.1
-locked_files first AreReadings (AnswersRequest now job content sent) before after is = filed_alone (AnswersRequest now job content sent) before after is.1
-locked_files first AreReadings (TakesForJob job readings taken) before after is = filed_alone (TakesForJob job readings taken) before after is.1
-locked_files first AreReadings (CommitsRun now ran ticket committed) before after is = filed_alone (CommitsRun now ran ticket committed) before after is.1
-locked_files first AreReadings (InstallsProgram job program made) before after is = filed_alone (InstallsProgram job program made) before after is.1
-locked_files first AreReadings (RemovesProgram job removal) before after is = filed_alone (RemovesProgram job removal) before after is.1
-locked_files first AreReadings (HandsSignal shard from id reset) before after is = filed_alone (HandsSignal (shard_called shard) from id reset) before after is.1
-locked_files first AreReadings (AdvancesIdle shard now) before after is = filed_alone (AdvancesIdle (shard_called shard) now) before after is.1
-locked_files first AreReadings (SkipsIdle shard now) before after is = filed_alone (SkipsIdle (shard_called shard) now) before after is
-locked_files first AreReadings (AdvancesShard shard now ticked) before after is = filed_alone (AdvancesShard (shard_called shard) now ticked) before after is.1
-locked_files first AreReadings (GivesTurn shard now turn) before after is = filed_alone (GivesTurn (shard_called shard) now turn) before after is.1
-locked_files first AreReadings (NotesTurn turn id now random told noted) before after is = filed_alone (NotesTurn turn id now random told noted) before after is.1
-locked_files first AreReadings (GivesUpTurn turn now) before after is = filed_alone (GivesUpTurn turn now) before after is.1
-locked_files first AreReadings (RaisesWord slot word) before after is = filed_alone (RaisesWord slot word) before after is
+pub locked_files : (first : ServerState) (io : Peripherals) → FilesEach (IsLoggedCall first io)
+locked_files first io (GivesReadings readings) before after is = record { who = λ i. (is.1 i).who; tracks = λ i. (is.1 i).tracks }
+locked_files first io (TellsReceipt job receipt) before after is = filed_alone (TellsReceipt job receipt) before after is.1
+locked_files first io (ReadsCost slot cost) before after is = filed_alone (ReadsCost slot cost) before after is.1
+locked_files first io (LooksAt slot word) before after is = filed_alone (LooksAt slot word) before after is
+locked_files first io (HandlesDatagram now from bytes brings) before after is = filed_alone (HandlesDatagram now from bytes brings) before after is.1
+locked_files first io (AdvancesFront now) before after is = filed_alone (AdvancesFront now) before after is.1
+locked_files first io (FiresTimer slot now) before after is = filed_alone (FiresTimer slot now) before after is.1
+locked_files first io (DrawsId now id) before after is = filed_alone (DrawsId now id) before after is.1
+locked_files first io (AnswersRequest now job content sent) before after is = filed_alone (AnswersRequest now job content sent) before after is.1
+locked_files first io (TakesForJob job readings taken) before after is = filed_alone (TakesForJob job readings taken) before after is.1
+locked_files first io (CommitsRun now ran ticket committed) before after is = filed_alone (CommitsRun now ran ticket committed) before after is.1
+locked_files first io (InstallsProgram job program made) before after is = filed_alone (InstallsProgram job program made) before after is.1
+locked_files first io (RemovesProgram job removal) before after is = filed_alone (RemovesProgram job removal) before after is.1
+locked_files first io (HandsSignal shard from id reset) before after is = filed_alone (HandsSignal (shard_called shard) from id reset) before after is.1
+locked_files first io (AdvancesIdle shard now) before after is = filed_alone (AdvancesIdle (shard_called shard) now) before after is.1
+locked_files first io (SkipsIdle shard now) before after is = filed_alone (SkipsIdle (shard_called shard) now) before after is
+locked_files first io (AdvancesShard shard now ticked) before after is = filed_alone (AdvancesShard (shard_called shard) now ticked) before after is.1
+locked_files first io (GivesTurn shard now turn) before after is = filed_alone (GivesTurn (shard_called shard) now turn) before after is.1
+locked_files first io (NotesTurn turn id now random told noted) before after is = filed_alone (NotesTurn turn id now random told noted) before after is.1
+locked_files first io (GivesUpTurn turn now) before after is = filed_alone (GivesUpTurn turn now) before after is.1
+locked_files first io (RaisesWord slot word) before after is = filed_alone (RaisesWord slot word) before after is

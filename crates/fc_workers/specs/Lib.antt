@@ -3,6 +3,7 @@ pub mod Messages
 pub mod Workers
 pub mod Called
 pub mod Answers
+pub mod SharedStores
 pub mod Asked
 pub mod Closing
 pub mod Counts

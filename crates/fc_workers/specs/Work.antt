@@ -1,9 +1,10 @@
 -- The effect of a job on a server that other jobs change too: a list of calls, the newest first.
 -- Each call is the one that the job's stage needs, with a result that some slot gives. Each call
 -- continues the worker's log from its state after the call before. So the log has no other calls.
-use Rattle.std.specs.Prelude.{◌≡◌, ℕ, ◌+◌, ◌<◌, ◌≤◌, List, [], ◌∷◌, length, Option, Some, None}
+use Rattle.std.specs.Prelude.{◌≡◌, ◌⊎◌, ℕ, ◌+◌, ◌<◌, ◌≤◌, true, List, [], ◌∷◌, length, Option, Some, None}
 use Rattle.coap_msg.specs.declared.types.Emission.{Emission}
 use Rattle.fc_isa.specs.declared.rule.Fault.{Fault}
+use Rattle.fc_kinds.specs.Meaning.{Program}
 use Rattle.fc_verify.specs.Accepted.{Accepts}
 use Rattle.fc_verify.specs.Judged.{judged}
 use Rattle.fc_verify.specs.Refusals.{IsRefusal}
@@ -12,21 +13,22 @@ use Rattle.fc_observe.specs.declared.entry.Turn.{Turn}
 use Rattle.fc_registry.specs.declared.job.Job.{Job}
 use Rattle.fc_registry.specs.declared.commit.Committed.{Committed}
 use Rattle.fc_registry.specs.Taken.{Taken}
-use Rattle.fc_registry.specs.Calls.{run_of, turn_of, initial_vars_of}
+use Rattle.fc_registry.specs.Calls.{commit_of, run_of, turn_of, initial_vars_of, wants}
+use Rattle.fc_registry.specs.Changes.{Committed as Wrote, Installed, Removed}
 use Rattle.fc_registry.specs.Slots.{Ticket}
 use Rattle.fc_core.specs.Stage.{Stage}
-use Rattle.fc_core.specs.Stage.{ToAnswer}
+use Rattle.fc_core.specs.Stage.{ToAnswer, ToCommit, ToRemove}
 use Rattle.fc_core.specs.Contents.{Content, IsOf}
 use Rattle.fc_core.specs.Ends.{refused}
 use Rattle.fc_core.specs.Fits.{IsSafe}
 use Rattle.fc_core.specs.Stages.{asked_stage, image_of, snapshots}
-use Rattle.fc_core.specs.Steps.{Call, Matches, Lists, Takes, Commits, Installs, Rejects, Refuses, Removes, Describes, Raises, called_at, next_stage}
+use Rattle.fc_core.specs.Steps.{Call, Matches, Lists, Takes, Commits, Installs, Rejects, Refuses, RefusesChange, Removes, Describes, Raises, called_at, next_stage}
 use Rattle.fc_workers.specs.Answers.{IsSnapshotWith, IsSomeCommit, IsSomeInstall, IsSomeReceipt, IsSomeRemoval, AreTallied, HasRisen, commit_overtakings, snapshot_refusals}
 use Rattle.fc_calls.specs.Kept.{commit_changes, install_changes, removal_changes}
 use Rattle.fc_workers.specs.Logs.{TrackedLog}
 use Rattle.fc_calls.specs.Logged.{CommitsRun, InstallsProgram, LooksAt, RaisesWord, RemovesProgram, TellsReceipt}
-use Rattle.fc_linear.specs.Operations.{LacksMemory, RejectsImage}
-use Rattle.fc_workers.specs.Called.{EndsJob, WorkerView}
+use Rattle.fc_linear.specs.Operations.{FailsToSave, RefusesInstall, RejectsImage}
+use Rattle.fc_workers.specs.Called.{EndsJob, RefusesSave, WorkerView}
 use Rattle.fc_workers.specs.Filed.{HasFiled}
 use Rattle.fc_workers.specs.Outgoing.{GivesAnswer, IsSent, IsTurnReply}
 use Rattle.fc_workers.specs.Workers.{Share}
@@ -44,10 +46,11 @@ change_by (Installs p initial answer) = install_changes answer
 change_by (Removes removal) = removal_changes removal
 change_by other = 0
 
--- the number of allocations that are refused to a call.
+-- the number of refused allocations, and of changes that can't be saved, in a call.
 abbrev pub refusal_by : Call → ℕ
 refusal_by (Takes count taken) = snapshot_refusals taken
 refusal_by Refuses = 1
+refusal_by (RefusesChange at) = 1
 refusal_by other = 0
 
 abbrev pub overtaking_by : Call → ℕ
@@ -78,12 +81,36 @@ module _ {T : Type 0} (s : WorkerView T) where
     pub commits : s.logged (CommitsRun now (run_of t) t committed) asked after
     pub commit : IsSomeCommit (run_of t) t committed
 
+  -- the run of a ticket wants to write. The gate let the job with this number through, and then the
+  -- time was requested. The commit can't be saved, and this is filed.
+  pub record IsCommitRefused (number : ℕ) (job : Job) (t : Ticket) (before after : TrackedLog) : Type 0 where
+    pub passed : TrackedLog
+    pub gate : s.gate number before passed
+    pub now : ℕ
+    pub asked : TrackedLog
+    pub time : s.time now passed asked
+    pub wants : wants t ≡ true
+    pub refuses : s.bench (RefusesSave t.origin.slot (Wrote (commit_of t)))
+    pub filed : HasFiled (FailsToSave job) asked after
+
+  -- the change that the job would make at this stage can't be saved. This is filed.
+  abbrev pub IsChangeRefused : ℕ → Job → Stage → TrackedLog → TrackedLog → Type 0
+  IsChangeRefused number job (ToCommit count t) before after = IsCommitRefused number job t before after
+  IsChangeRefused number job ToRemove before after = s.bench (RefusesSave job.origin.slot Removed) × HasFiled (FailsToSave job) before after
+  IsChangeRefused number job other before after = ⊥
+
+  -- the program of the job's image isn't installed: memory is refused, or the install can't be
+  -- saved.
+  abbrev pub IsInstallRefused : Job → Type 0
+  IsInstallRefused job = IsRefusal (image_of job.ask) NoMemory
+      ⊎ ((p : Program) × (judged (image_of job.ask) ≡ Accepts p) × s.bench (RefusesSave job.origin.slot (Installed p (initial_vars_of job.ask))))
+
   -- a call for the job with this number leads from the log `before` to the log `after`. A match
   -- reads the head word of the job's slot, for the request's ETags. A list reads the head word of
   -- the next slot. A raise publishes the head word of the job's slot. An installed program is safe.
-  -- A rejection and a refused allocation are those of the job's image, and are filed. The result of
-  -- any other call is that of some slot. Answers, losses and the calls of a lease are no such
-  -- calls.
+  -- A rejection and a refused install are those of the job's image, and are filed. So is the
+  -- refusal of any other change. The result of any other call is that of some slot. Answers, losses
+  -- and the calls of a lease are no such calls.
   abbrev pub IsCallOf : ℕ → Job → Call → TrackedLog → TrackedLog → Type 0
   IsCallOf number job (Matches serials word) before after = (serials ≡ job.etags.items) × s.logged (LooksAt job.origin.slot word) before after
   IsCallOf number job (Lists seen word) before after = s.logged (LooksAt (length seen.items) word) before after
@@ -93,7 +120,8 @@ module _ {T : Type 0} (s : WorkerView T) where
       (judged (image_of job.ask) ≡ Accepts p) × IsSafe p × (initial ≡ initial_vars_of job.ask) × s.logged (InstallsProgram job p answer) before after × IsSomeInstall initial p answer
   IsCallOf number job (Rejects content) before after =
       ((f : Fault) × IsRefusal (image_of job.ask) (Broken f) × (content ≡ refused (Broken f))) × HasFiled (RejectsImage job content) before after
-  IsCallOf number job Refuses before after = IsRefusal (image_of job.ask) NoMemory × HasFiled (LacksMemory job) before after
+  IsCallOf number job Refuses before after = IsInstallRefused job × HasFiled (RefusesInstall job) before after
+  IsCallOf number job (RefusesChange at) before after = IsChangeRefused number job at before after
   IsCallOf number job (Removes removal) before after = s.logged (RemovesProgram job removal) before after × IsSomeRemoval removal
   IsCallOf number job (Describes receipt) before after = s.logged (TellsReceipt job receipt) before after × IsSomeReceipt receipt
   IsCallOf number job (Raises word content) before after = s.logged (RaisesWord job.origin.slot word) before after

@@ -1,26 +1,27 @@
 //! The backend: a server's shared parts, as workers call them.
-ghost use Rattle.std.specs.Prelude.{◌≡◌, ℕ, ◌+◌, ◌<◌, ◌≤◌, max, true, ⊤, None, Some, IfErr, IfOk, MatchBool};
+ghost use Rattle.std.specs.Prelude.{◌≡◌, ℕ, ◌+◌, ◌<◌, ◌≤◌, max, true, ⊤, None, Some, IfErr, IfOk, IfSome, MatchBool};
 ghost use Rattle.fc_core.specs.Timers.{timer_job};
 ghost use Rattle.fc_core.specs.Contents.{IsOf};
 ghost use Rattle.fc_core.specs.Receiving.{emission_if, handled};
-ghost use Rattle.fc_registry.specs.Calls.{initial_vars_of};
+ghost use Rattle.fc_registry.specs.Calls.{commit_of, initial_vars_of, wants};
+ghost use Rattle.fc_registry.specs.Changes.{Committed as Wrote, Installed, Removed};
 ghost use Rattle.fc_registry.specs.Notes.{noted_as};
 ghost use Rattle.fc_registry.specs.Turns.{written_if};
 ghost use Rattle.fc_registry.specs.Views.{HasSize, taken_with};
 ghost use Rattle.fc_filed.specs.Parts.{IsCheap};
 ghost use Rattle.fc_filed.specs.Threads.{known_word};
-ghost use Rattle.fc_workers.specs.Called.{BenchCall, CountsObservers, LeavesUnquiet, LooksAhead, ReadsGauges};
+ghost use Rattle.fc_workers.specs.Called.{BenchCall, CountsObservers, FindsSaving, LeavesUnquiet, LooksAhead, ReadsGauges, RefusesSave};
 ghost use Rattle.fc_calls.specs.Logged.{AdvancesFront, AdvancesIdle, FiresTimer, GivesReadings, HandsSignal, LooksAt};
 ghost use Rattle.fc_calls.specs.Logged.{AdvancesShard, AnswersRequest, CommitsRun, DrawsId, GivesTurn, GivesUpTurn, HandlesDatagram};
 ghost use Rattle.fc_calls.specs.Logged.{InstallsProgram};
 ghost use Rattle.fc_calls.specs.Logged.{LoggedCall, NotesTurn, RaisesWord, ReadsCost, RemovesProgram, SkipsIdle, TakesForJob, TellsReceipt};
-ghost use Rattle.fc_linear.specs.Operations.{LacksMemory, RejectsImage};
+ghost use Rattle.fc_linear.specs.Operations.{FailsToSave, RefusesInstall, RejectsImage};
 ghost use Rattle.fc_workers.specs.Filed.{FilesEach, HasFiled};
 ghost use Rattle.fc_workers.specs.Logs.{TrackedLog as Log};
 ghost use Rattle.fc_workers.specs.Answers.{AreTallied, IsSomeAnswer, IsSomeCommit, IsSomeDelivery, IsSomeDraw, IsSomeInstall, IsSomeNote};
 ghost use Rattle.fc_workers.specs.Answers.{IsSomeIdle, IsSomeReceipt, IsSomeRemoval, IsSomeSnapshot, IsSomeTick, IsSomeTurn};
 ghost use Rattle.fc_calls.specs.Kept.{commit_changes, install_changes, removal_changes};
-ghost use Rattle.fc_workers.specs.Answers.{ended_by, saturated};
+ghost use Rattle.fc_workers.specs.Answers.{changes_if, ended_by, saturated};
 
 use crate::track_log::TrackLog;
 use coap_msg::{Emission, Endpoint};
@@ -174,7 +175,8 @@ pub trait Bench {
 
     /// Commits the run of `ticket` with this outcome, at a time in milliseconds.
     ///
-    /// See [`Shard::commit`](fc_registry::Shard::commit).
+    /// Returns `None` if the commit can't be saved: then the run wants to write, no slot changes,
+    /// and the log doesn't have the call. See [`Shard::commit`](fc_registry::Shard::commit).
     fn commit<R: Wait>(
         &self,
         rt: &R,
@@ -183,16 +185,19 @@ pub trait Bench {
         ticket: &Ticket<'_>,
         tallies: &mut Self::Tallies,
         log: &mut TrackLog<Self::Book>,
-    ) -> Committed
-        ensures committed { IsSomeCommit outcome.now ticket.now result }
-        ensures logged { logged (CommitsRun now outcome.now ticket.now result) log.old log.new }
+    ) -> Option<Committed>
+        ensures committed { IfSome result (IsSomeCommit outcome.now ticket.now) }
+        ensures logged { IfSome result (λ committed. logged (CommitsRun now outcome.now ticket.now committed) log.old log.new) }
+        ensures refused { result ≡ None → called (RefusesSave ticket.now.origin.slot (Wrote (commit_of ticket.now)))
+            × (wants ticket.now ≡ true) × (log.new ≡ log.old) }
         ensures changes { AreTallied (changes tallies.old) (changes tallies.new)
-            ticket.now.origin.slot (commit_changes result) }
+            ticket.now.origin.slot (changes_if commit_changes result) }
         ensures ended { ended tallies.new ≡ ended tallies.old };
 
     /// Installs a program in `job`'s slot.
     ///
-    /// See [`Shard::install`](fc_registry::Shard::install).
+    /// Returns `None` if the install can't be saved: then no slot changes, and the log doesn't have
+    /// the call. See [`Shard::install`](fc_registry::Shard::install).
     fn install<R: Wait>(
         &self,
         rt: &R,
@@ -200,27 +205,31 @@ pub trait Bench {
         program: Arc<Verified>,
         tallies: &mut Self::Tallies,
         log: &mut TrackLog<Self::Book>,
-    ) -> Made
-        ensures made { IsSomeInstall (initial_vars_of job.now.ask) program.value result }
-        ensures logged { logged (InstallsProgram job.now program.value result) log.old log.new }
+    ) -> Option<Made>
+        ensures made { IfSome result (IsSomeInstall (initial_vars_of job.now.ask) program.value) }
+        ensures logged { IfSome result (λ made. logged (InstallsProgram job.now program.value made) log.old log.new) }
+        ensures refused { result ≡ None → called (RefusesSave job.now.origin.slot (Installed program.value (initial_vars_of job.now.ask)))
+            × (log.new ≡ log.old) }
         ensures changes { AreTallied (changes tallies.old) (changes tallies.new)
-            job.now.origin.slot (install_changes result) }
+            job.now.origin.slot (changes_if install_changes result) }
         ensures ended { ended tallies.new ≡ ended tallies.old };
 
     /// Removes the program in `job`'s slot.
     ///
-    /// See [`Shard::remove`](fc_registry::Shard::remove).
+    /// Returns `None` if the removal can't be saved: then no slot changes, and the log doesn't have
+    /// the call. See [`Shard::remove`](fc_registry::Shard::remove).
     fn remove<R: Wait>(
         &self,
         rt: &R,
         job: &Job,
         tallies: &mut Self::Tallies,
         log: &mut TrackLog<Self::Book>,
-    ) -> Removal
-        ensures removal { IsSomeRemoval result }
-        ensures logged { logged (RemovesProgram job.now result) log.old log.new }
+    ) -> Option<Removal>
+        ensures removal { IfSome result IsSomeRemoval }
+        ensures logged { IfSome result (λ removal. logged (RemovesProgram job.now removal) log.old log.new) }
+        ensures refused { result ≡ None → called (RefusesSave job.now.origin.slot Removed) × (log.new ≡ log.old) }
         ensures changes { AreTallied (changes tallies.old) (changes tallies.new)
-            job.now.origin.slot (removal_changes result) }
+            job.now.origin.slot (changes_if removal_changes result) }
         ensures ended { ended tallies.new ≡ ended tallies.old };
 
     /// Passes an Acknowledgement, or a Reset message if `reset`, to a shard, 0 to 7.
@@ -297,6 +306,13 @@ pub trait Bench {
     /// time. See [`Shard::observer_counts`](fc_registry::Shard::observer_counts).
     fn observer_counts<R: Wait>(&self, rt: &R, shard: u8) -> [u8; PLACES]
         ensures { called (CountsObservers shard result) };
+
+    /// Returns whether a change of the shard that owns `slot` is being saved, without a lock.
+    ///
+    /// A call of the shard would wait for the save. Another thread may begin or end a save at any
+    /// time. So the clause says only that the bench returned `true`. The log doesn't have the call.
+    fn is_saving(&self, slot: SlotNumber) -> bool
+        ensures { result ≡ true → called (FindsSaving slot) };
 
     /// Asks a shard, 0 to 7, for its next lease, at a time in milliseconds.
     ///
@@ -403,11 +419,17 @@ pub trait Bench {
     fn reject_image(&self, job: &Job, answer: &Answer, log: &mut TrackLog<Self::Book>)
         ensures { HasFiled (RejectsImage job.now answer.now) log.old log.new };
 
-    /// Files that memory for the program of `job`, an install, can't be allocated.
+    /// Files that the program of `job`, an install, isn't installed.
+    ///
+    /// Memory can't be allocated, or the install can't be saved. No part of the server is called.
+    fn refuse_install(&self, job: &Job, log: &mut TrackLog<Self::Book>)
+        ensures { HasFiled (RefusesInstall job.now) log.old log.new };
+
+    /// Files that the change of `job`'s slot, a commit or a removal, can't be saved.
     ///
     /// No part of the server is called.
-    fn lack_memory(&self, job: &Job, log: &mut TrackLog<Self::Book>)
-        ensures { HasFiled (LacksMemory job.now) log.old log.new };
+    fn fail_to_save(&self, job: &Job, log: &mut TrackLog<Self::Book>)
+        ensures { HasFiled (FailsToSave job.now) log.old log.new };
 
     /// Answers a job, at a time in milliseconds, and ends it.
     ///

@@ -1,26 +1,31 @@
 //! Filed shards whose changes are counted.
 //!
 //! A server with locks has one under each shard's lock.
-ghost use Rattle.std.specs.Prelude.{◌≡◌, ℕ, ◌+◌, ◌<◌, [], replicate};
+ghost use Rattle.std.specs.Prelude.{◌≡◌, ℕ, ◌+◌, ◌<◌, [], ◌∷◌, true, false, MatchOption, replicate};
 ghost use Rattle.fc_registry.specs.Shards.{shard_at};
-ghost use Rattle.fc_registry.specs.Slots.{Shard as Called};
+ghost use Rattle.fc_registry.specs.Slots.{Shard as Called, slot_in};
 ghost use Rattle.fc_server.specs.States.{confirm_after_of};
 ghost use Rattle.fc_calls.specs.Kept.{HasEightSlots, confirm_times, serials};
 ghost use Rattle.fc_calls.specs.Doings.{PassesIfIdle};
 ghost use Rattle.fc_calls.specs.Logged.{AdvancesIdle};
 ghost use Rattle.fc_linear.specs.Operations.{Logged, ShardDoes};
 ghost use Rattle.fc_filed.specs.Tracked.{IsPartClosed};
+ghost use Rattle.fc_workers.specs.Answers.{changes_if};
 ghost use Rattle.fc_workers.specs.Counts.{counts};
 ghost use Rattle.fc_workers.specs.Logs.{with_filed_if};
+ghost use Rattle.fc_workers.specs.SharedStores.{HasSaved, LeavesUnsaved, WithSave};
 
 use crate::books::{Books, ServerOf};
+use crate::shared_store::SharedStore;
 use crate::tally::Tally;
 use crate::track_log::TrackLog;
 use fc_book::Part;
 use fc_calls::{Change, ShardCall};
 use fc_filed::{FiledCall, FiledShard, FiledTrack, ServerBook, ServerTracks};
 use fc_registry::Shard;
+use fc_store::Store;
 use std::marker::Model;
+use std::sync::Wait;
 use std::sync::ledger::{Blank, Book, Ledger};
 
 /// A filed shard, and the ledger of its changes.
@@ -132,32 +137,79 @@ impl<B: Books, P: Part, L: Ledger> Counted<B, P, L> {
         self.filed.advance_if_idle(book, tracks, log.who, now)
     }
 
-    /// Runs a call that may change a slot, and files it if its answer says so.
-    ///
-    /// The tally counts the changes that the result reports.
-    pub(crate) fn change<C: Change + FiledCall>(
+    // Does nothing. The contract says when the shard's notifications are confirmable again.
+    fn keeps_confirm_times(&self)
+        ensures { confirm_times self.now.shard ≡ replicate 8 (confirm_after_of B.first) }
+    {
+        let _shard = self.filed.shard();
+    }
+
+    // Saves the update of the change that `call` makes in the shard, if there is one. Returns
+    // whether the call may be made. If the store isn't persistent, no update is planned. Before the
+    // save it notes in the book until when the shard is idle: other threads can skip the shard
+    // meanwhile.
+    fn save<C: Change, K: Store, R: Wait>(
         &mut self,
+        rt: &R,
+        store: &SharedStore<K>,
+        book: &ServerBook<ServerOf<B>>,
+        call: &C,
+    ) -> bool
+        requires same { P.table ≡ B.table }
+        requires may { C.may_ask call.now self.old.shard }
+        ensures unchanged { self.new ≡ self.old }
+        ensures saved { result ≡ true → (answer : C.Answer) (room : C.Room) (after : Called) → C.does call.now self.old.shard answer room after
+            → HasSaved K.Store (C.is_verified call.now) (slot_in self.old.shard (C.slot call.now)) (C.slot call.now) (C.made call.now answer) true }
+        ensures refused { result ≡ false → HasSaved K.Store ⊥ (slot_in self.old.shard (C.slot call.now)) (C.slot call.now) (C.change call.now ∷ []) false }
+        ensures may_change { result ≡ false → C.may_change call.now }
+    {
+        if !store.is_persistent() {
+            return true;
+        }
+        if call.plan(self.filed.shard()).is_some() {
+            self.filed.note_if_idle(book);
+        }
+        match call.plan(self.filed.shard()) {
+            Some(update) => store.save(rt, &update),
+            None => true,
+        }
+    }
+
+    /// Saves the change that a call makes, runs the call, and files it if its answer says so.
+    ///
+    /// Returns `None` if the change can't be saved: then the shard is unchanged. The tally counts
+    /// the changes that the result reports.
+    pub(crate) fn change<C: Change + FiledCall + Drop, K: Store, R: Wait>(
+        &mut self,
+        rt: &R,
+        store: &SharedStore<K>,
         book: &ServerBook<ServerOf<B>>,
         log: &mut TrackLog<ServerOf<B>>,
         call: C,
         room: &mut C::Room,
         tally: &mut Tally<L>,
-    ) -> C::Answer
+    ) -> Option<C::Answer>
         requires same { P.table ≡ B.table }
         requires is_of { C.is_of call self.old.shard }
         requires may { C.may_ask call self.old.shard }
-        ensures does { C.does call self.old.shard result room.new self.new.shard }
+        ensures changed { MatchOption result
+            (LeavesUnsaved (HasSaved K.Store) (C.slot call) (C.change call) self.old.shard self.new.shard × C.may_change call × (log.new ≡ log.old))
+            (λ answer. WithSave (HasSaved K.Store) (C.is_verified call) (C.slot call) (C.made call answer) (λ before after. C.does call before answer room.new after) self.old.shard self.new.shard
+            × (log.new ≡ with_filed_if (C.files answer) (C.operation self.old.shard.index call answer room.new) log.old)) }
         ensures index { self.new.shard.index ≡ self.old.shard.index }
         ensures confirms { confirm_times self.old.shard ≡ replicate 8 (confirm_after_of B.first) }
-        ensures filed { log.new ≡ with_filed_if (C.files result) (C.operation self.old.shard.index call result room.new) log.old }
-        ensures tally { tally.new ≡ counts tally.old (C.changes result) }
+        ensures tally { tally.new ≡ counts tally.old (changes_if C.changes result) }
     {
+        self.keeps_confirm_times();
+        if !self.save(rt, store, book, &call) {
+            return None;
+        }
         let tracks = &mut log.tracks;
         let answer = self.filed.ask(book, tracks, log.who, call, room);
         if C::has_changed(&answer) {
             tally.count(&mut self.ledger);
         }
-        answer
+        Some(answer)
     }
 
     /// Closes the shard and its ledger, with the tally `all` of all the ledger's parts.

@@ -45,6 +45,19 @@ pub enum Offload {
     /// A program is expensive if its cost is this number of steps or more. It is the program that
     /// the job's slot has when the job arrives.
     Expensive(u32),
+    /// Jobs that may change a slot, jobs of expensive programs, and jobs that a save would hold up,
+    /// once a worker has asked for a job.
+    ///
+    /// A job may change a slot if it installs or removes a program, or if it runs one for a POST,
+    /// as a timer's job does. Such a job is sent whatever its program costs: a change may wait
+    /// until it is saved, and only a worker is to wait for that. The dispatcher runs such a job
+    /// itself while no worker has asked for a job, or if the channel returns the job.
+    ///
+    /// A save would hold up a job that runs or describes a program if a change of the slot's shard
+    /// is being saved when the job is dispatched ([`Bench::is_saving`]). Such a job is sent too,
+    /// whatever its program costs, unless the slot has the state of one of its ETags. Any other job
+    /// is sent as with `Expensive`.
+    ChangesAndExpensive(u32),
     /// No jobs.
     Never,
 }
@@ -66,7 +79,8 @@ pub type DispatchedOf<T, J> = Dispatched<T, TrackLog<J>, JobMessage<J>>;
 ///
 /// Each resulting job is sent to the workers, or the dispatcher runs it itself, as a worker does.
 /// The dispatcher runs every job itself while no worker has asked for one: the memory to start the
-/// workers may have been refused.
+/// workers may have been refused. With `Offload::Every` it first waits until a worker asks, or
+/// until it is known that none will.
 ///
 /// Its log has the tracks of the jobs that it ran, each right for its job. A job that is sent takes
 /// its track along. Contracts see the dispatcher's policy and its record.
@@ -126,8 +140,9 @@ impl<'a, B: Bench, G: Gate, W: Wire, M: TimeSource> Dispatcher<'a, B, G, W, M> {
 
     /// Handles a datagram, at a time in milliseconds.
     ///
-    /// A response is written over `reply`, a job is dispatched, and a signal goes to each shard.
-    /// Returns which of these the datagram led to, if any.
+    /// A response is written over `reply`, and a job is dispatched. A signal, which is an
+    /// Acknowledgement or a Reset message, goes to each shard. Returns which of these the datagram
+    /// led to, if any.
     pub fn handle<R: Wait>(
         &mut self,
         rt: &R,

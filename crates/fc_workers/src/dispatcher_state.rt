@@ -1,16 +1,15 @@
 //! The state of a dispatcher, and how it dispatches a job.
-ghost use Rattle.std.specs.Prelude.{◌≡◌, ◌≢◌, ◌+◌, ◌<◌, [], true, false, length, MatchBool};
+ghost use Rattle.std.specs.Prelude.{◌≡◌, ◌≢◌, ◌+◌, ◌<◌, [], true, false, length, MatchBool, None, Some};
 ghost use Rattle.fc_book.specs.Tracks.{first_own};
 ghost use Rattle.fc_workers.specs.Answers.{IsSomeIdle, IsSomeTick, saturated};
 ghost use Rattle.fc_calls.specs.Logged.{AdvancesFront, AdvancesShard};
 ghost use Rattle.fc_workers.specs.Called.{CountsObservers, LeavesUnquiet, LooksAhead, ReadsGauges, worker_view};
-ghost use Rattle.fc_workers.specs.Dispatch.{AreSignalled, HasBegunNext, HasCalled, IsAdvancedOrSkipped, IsDispatched, IsFoundCheap, IsSentOrWorked, IsTakenIn, IsTimerFired, IsTurnAsked, MayGo, MayHaveReadCost, job_sent, logged_at, unsent};
+ghost use Rattle.fc_workers.specs.Dispatch.{AreSignalled, HasBegunNext, HasCalled, HasLeastCost, IsAdvancedOrSkipped, IsDispatched, IsFoundCheap, IsHeldUp, IsSentOrWorked, IsTakenIn, IsTimerFired, IsTurnAsked, MayGo, MayHaveReadCost, job_sent, least_cost, logged_at, may_change_slot, requests_change, unsent};
 ghost use Rattle.fc_workers.specs.Logs.{TrackedLog as Log};
 ghost use Rattle.fc_workers.specs.Messages.{first_brought};
 ghost use Rattle.fc_filed.specs.Threads.{HasOwnTrack};
 ghost use Rattle.fc_workers.specs.OneOrder.{IsNewLog};
 ghost use Rattle.fc_workers.specs.Producing.{HasDispatched, HasProduced, MayProduce, with_new_track};
-ghost use Rattle.fc_workers.specs.declared.dispatcher.Offload.TheVariants.{Expensive};
 ghost use Rattle.fc_workers.specs.Shares.{new_share};
 ghost use Rattle.fc_workers.specs.Steps.{IsPlainRun};
 ghost use Rattle.fc_workers.specs.Work.{IsReplied};
@@ -28,6 +27,7 @@ use coap_msg::{Emission, Endpoint};
 use fc_core::front::blank_job;
 use fc_core::heads::{is_present, serial_in};
 use fc_core::{FrontGauges, Handled};
+use fc_help::Method;
 use fc_jobs::{Jobs, Sent};
 use fc_observe::Ticked;
 use fc_registry::{Ask, Job, PLACES, SHARDS, SlotNumber};
@@ -101,8 +101,9 @@ impl<'a, B: Bench, G: Gate, W: Wire, M: TimeSource> DispatcherState<'a, B, G, W,
 
     // Handles a datagram, at a time in milliseconds.
     //
-    // A response is written over `reply`, a job is dispatched, and a signal goes to each shard.
-    // Returns which of these the datagram led to, if any.
+    // A response is written over `reply`, and a job is dispatched. A signal, which is an
+    // Acknowledgement or a Reset message, goes to each shard. Returns which of these the datagram
+    // led to, if any.
     pub(crate) fn handle<R: Wait>(
         &mut self,
         rt: &R,
@@ -256,9 +257,10 @@ impl<'a, B: Bench, G: Gate, W: Wire, M: TimeSource> DispatcherState<'a, B, G, W,
     }
 
     // Sends the dispatcher's job to the workers, if the policy allows that, or runs the job here.
-    // The policy may depend on the cost of a run. Then a request for a run without ETags is priced
-    // by its first snapshot, and any other run by the cost that is read in its slot. The track of
-    // the next job begins last.
+    // If the policy sends changes, a job that a save would hold up here is sent first of all. The
+    // policy may depend on the cost of a run. Then a request for a run without ETags is priced by
+    // its first snapshot, and any other run by the cost that is read in its slot. The track of the
+    // next job begins last.
     fn dispatch<R: Wait>(&mut self, rt: &R)
         requires produced { HasProduced B.Book.first_job self.old.keys self.old.job self.old.done.share.log }
         ensures dispatched { IsDispatched (worker_view B.changes B.ended B.called B.logged M.is_time M.is_random G.passed W.called)
@@ -290,16 +292,50 @@ impl<'a, B: Bench, G: Gate, W: Wire, M: TimeSource> DispatcherState<'a, B, G, W,
         ensures offload { self.new.offload ≡ self.old.offload }
         ensures right { HasDispatched B.Book.first_job self.new.keys self.new.done.share.log }
     {
+        if self.is_held_up() {
+            self.send_or_work(rt);
+        } else {
+            self.dispatch_by_cost(rt);
+        }
+    }
+
+    // Returns whether the job may go to the workers since a save would hold it up here. Returns
+    // `false` if no worker has asked for a job yet.
+    fn is_held_up(&mut self) -> bool
+        ensures may { result ≡ true → MayGo (worker_view B.changes B.ended B.called B.logged M.is_time M.is_random G.passed W.called) self.old.offload self.old.job self.old.done.share.log self.old.done.share.log }
+        ensures kept { self.new.done ≡ self.old.done }
+        ensures job { self.new.job ≡ self.old.job }
+        ensures keys { self.new.keys ≡ self.old.keys }
+        ensures offload { self.new.offload ≡ self.old.offload }
+    {
         match self.offload {
-            Offload::Expensive(least) if is_plain_run(&self.job) && self.jobs.is_served() => {
+            Offload::ChangesAndExpensive(_) => {
+                let log = &mut self.done.share.log;
+                self.jobs.is_served() && self.context.is_held_up(&self.job, log)
+            }
+            Offload::Every | Offload::Expensive(_) | Offload::Never => false,
+        }
+    }
+
+    // Sends the job to the workers, if the policy allows that by the job's cost or whatever its
+    // cost is, or runs the job here.
+    fn dispatch_by_cost<R: Wait>(&mut self, rt: &R)
+        requires produced { HasProduced B.Book.first_job self.old.keys self.old.job self.old.done.share.log }
+        ensures dispatched { IsSentOrWorked (worker_view B.changes B.ended B.called B.logged M.is_time M.is_random G.passed W.called)
+            self.old.offload self.old.job self.old.done self.new.done }
+        ensures offload { self.new.offload ≡ self.old.offload }
+        ensures right { HasDispatched B.Book.first_job self.new.keys self.new.done.share.log }
+    {
+        match least_cost(self.offload, &self.job) {
+            Some(least) if is_plain_run(&self.job) && self.jobs.is_served() => {
                 self.dispatch_run(rt, least);
             }
             _ => self.dispatch_whole(rt),
         }
     }
 
-    // Sends the job to the workers, if the policy allows it and it can be sent; otherwise runs it
-    // here.
+    // Sends the job to the workers, if the policy allows it and it can be sent. Otherwise runs the
+    // job here, from its first stage to its answer.
     fn dispatch_whole<R: Wait>(&mut self, rt: &R)
         requires produced { HasProduced B.Book.first_job self.old.keys self.old.job self.old.done.share.log }
         ensures dispatched { IsSentOrWorked (worker_view B.changes B.ended B.called B.logged M.is_time M.is_random G.passed W.called)
@@ -319,10 +355,10 @@ impl<'a, B: Bench, G: Gate, W: Wire, M: TimeSource> DispatcherState<'a, B, G, W,
     // is sent to the workers. If it can't be sent, it is run here from its beginning.
     fn dispatch_run<R: Wait>(&mut self, rt: &R, least: u32)
         requires plain { IsPlainRun self.old.job }
-        requires least { self.old.offload ≡ Expensive least }
+        requires least { least_cost self.old.offload self.old.job ≡ Some least }
         requires produced { HasProduced B.Book.first_job self.old.keys self.old.job self.old.done.share.log }
         ensures dispatched { IsSentOrWorked (worker_view B.changes B.ended B.called B.logged M.is_time M.is_random G.passed W.called)
-            (Expensive least) self.old.job self.old.done self.new.done }
+            self.old.offload self.old.job self.old.done self.new.done }
         ensures offload { self.new.offload ≡ self.old.offload }
         ensures right { HasDispatched B.Book.first_job self.new.keys self.new.done.share.log }
     {
@@ -393,13 +429,13 @@ impl<'a, B: Bench, G: Gate, W: Wire, M: TimeSource> DispatcherState<'a, B, G, W,
             .work(rt, &mut self.scratch, UNSENT, &self.job, &mut done.share);
     }
 
-    // Returns whether the policy lets the job go to the workers. `Expensive` reads the cost in a
-    // run's slot for that. Returns `false` if no worker has asked for a job yet; with `Every` it
-    // first waits until one has, or none ever will.
+    // Returns whether the policy lets the job go to the workers. If there is a least cost, the cost
+    // in a run's slot is read for that. Returns `false` if no worker has asked for a job yet; with
+    // `Every` it first waits until one has, or none ever will.
     fn may_go<R: Wait>(&mut self, rt: &R) -> bool
         ensures may { MatchBool result
             (MayGo (worker_view B.changes B.ended B.called B.logged M.is_time M.is_random G.passed W.called) self.old.offload self.old.job self.old.done.share.log self.new.done.share.log)
-            (MayHaveReadCost (worker_view B.changes B.ended B.called B.logged M.is_time M.is_random G.passed W.called) self.old.offload self.old.job self.old.done.share.log self.new.done.share.log) }
+            (MayHaveReadCost (worker_view B.changes B.ended B.called B.logged M.is_time M.is_random G.passed W.called) (least_cost self.old.offload self.old.job) self.old.job self.old.done.share.log self.new.done.share.log) }
         ensures called { HasCalled self.old.done self.new.done }
         ensures job { self.new.job ≡ self.old.job }
         ensures keys { self.new.keys ≡ self.old.keys }
@@ -407,9 +443,10 @@ impl<'a, B: Bench, G: Gate, W: Wire, M: TimeSource> DispatcherState<'a, B, G, W,
     {
         match self.offload {
             Offload::Every => self.jobs.await_worker(rt),
-            Offload::Expensive(least) => {
+            Offload::Expensive(_) | Offload::ChangesAndExpensive(_) => {
+                let least = least_cost(self.offload, &self.job);
                 let log = &mut self.done.share.log;
-                self.jobs.is_served() && self.context.is_expensive(rt, least, &self.job, log)
+                self.jobs.is_served() && self.context.has_least_cost(rt, least, &self.job, log)
             }
             Offload::Never => false,
         }
@@ -430,6 +467,40 @@ impl<'a, B: Bench, G: Gate, W: Wire, M: TimeSource> DispatcherState<'a, B, G, W,
 }
 
 impl<'a, B: Bench, G: Gate, W: Wire, M: TimeSource> Context<'a, B, G, W, M> {
+    // Returns whether a job reads its slot, and a change of the slot's shard is being saved. If the
+    // slot has the state of one of a run's ETags, the run needs no lock. Nothing is filed.
+    fn is_held_up(&self, job: &Job, log: &mut TrackLog<B::Book>) -> bool
+        ensures held { result ≡ true → IsHeldUp (worker_view B.changes B.ended B.called B.logged M.is_time M.is_random G.passed W.called) job.now log.old log.new }
+        ensures kept { log.new ≡ log.old }
+    {
+        let slot = job.origin.slot;
+        match &job.ask {
+            Ask::Run(_) => self.bench.is_saving(slot) && !self.is_valid(job, log),
+            Ask::Describe => self.bench.is_saving(slot),
+            Ask::Install(..) | Ask::Remove | Ask::Discover => false,
+        }
+    }
+
+    // Returns whether a job has the least cost of an expensive one, if there is a least cost. See
+    // [`Context::is_expensive`]. If there is none, reads nothing, and returns `true`.
+    fn has_least_cost<R: Wait>(
+        &self,
+        rt: &R,
+        least: Option<u32>,
+        job: &Job,
+        log: &mut TrackLog<B::Book>,
+    ) -> bool
+        ensures cost { MatchBool result
+            (HasLeastCost (worker_view B.changes B.ended B.called B.logged M.is_time M.is_random G.passed W.called) least job.now log.old log.new)
+            (MayHaveReadCost (worker_view B.changes B.ended B.called B.logged M.is_time M.is_random G.passed W.called) least job.now log.old log.new) }
+        ensures whatever { least ≡ None → result ≡ true }
+    {
+        let Some(least) = least else {
+            return true;
+        };
+        self.is_expensive(rt, least, job, log)
+    }
+
     // Returns whether a job is a run without a valid ETag, and its slot's program has a cost of
     // `least` steps or more. Reads the cost in the slot if the job is such a run.
     fn is_expensive<R: Wait>(
@@ -440,7 +511,7 @@ impl<'a, B: Bench, G: Gate, W: Wire, M: TimeSource> Context<'a, B, G, W, M> {
         log: &mut TrackLog<B::Book>,
     ) -> bool
         ensures { MatchBool result
-            (MayGo (worker_view B.changes B.ended B.called B.logged M.is_time M.is_random G.passed W.called) (Expensive least) job.now log.old log.new)
+            (HasLeastCost (worker_view B.changes B.ended B.called B.logged M.is_time M.is_random G.passed W.called) (Some least) job.now log.old log.new)
             (IsFoundCheap (worker_view B.changes B.ended B.called B.logged M.is_time M.is_random G.passed W.called) least job.now log.old log.new) }
     {
         match &job.ask {
@@ -483,6 +554,36 @@ impl<'a, B: Bench, G: Gate, W: Wire, M: TimeSource> Context<'a, B, G, W, M> {
         'shards: for shard in 0..SHARDS {
             self.bench.signal(rt, shard, from, id, reset, log);
         }
+    }
+}
+
+// Returns the least cost of an expensive program, if the policy sends the job for no other program.
+fn least_cost(offload: Offload, job: &Job) -> Option<u32>
+    ensures { result ≡ least_cost offload job.now }
+{
+    match offload {
+        Offload::Expensive(least) => Some(least),
+        Offload::ChangesAndExpensive(_) if may_change_slot(job) => None,
+        Offload::ChangesAndExpensive(least) => Some(least),
+        Offload::Every | Offload::Never => None,
+    }
+}
+
+// Returns whether a job may change its slot. The job of a lease changes none.
+fn may_change_slot(job: &Job) -> bool
+    ensures { result ≡ may_change_slot job.now }
+{
+    job.turn.is_none() && requests_change(&job.ask)
+}
+
+// Returns whether an action may change the job's slot: an install, a removal, or a run for a POST.
+fn requests_change(ask: &Ask) -> bool
+    ensures { result ≡ requests_change ask.now }
+{
+    match ask {
+        Ask::Run(request) => request.method() == Method::Post,
+        Ask::Install(..) | Ask::Remove => true,
+        Ask::Describe | Ask::Discover => false,
     }
 }
 

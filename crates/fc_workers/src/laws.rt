@@ -1,7 +1,7 @@
 //! Laws about workers and their server.
 //!
 //! Each law is the contract of an empty function.
-ghost use Rattle.std.specs.Prelude.{◌≡◌, ◌<◌, ◌≤◌, ◌⊎◌, ℕ, Bool, false, None, Option, Some, List, [], ◌∷◌, ◌++◌, slice_index};
+ghost use Rattle.std.specs.Prelude.{◌≡◌, ◌<◌, ◌≤◌, ◌⊎◌, ⊤, ℕ, Bool, true, false, None, Option, Some, List, [], ◌∷◌, ◌++◌, slice_index};
 ghost use Rattle.coap_msg.specs.declared.types.Endpoint.{Endpoint};
 ghost use Rattle.fc_core.specs.declared.front.Delivered.TheVariants.{Signal};
 ghost use Rattle.fc_core.specs.Heads.{word_at};
@@ -17,15 +17,22 @@ ghost use Rattle.fc_core.specs.Policies.{default_policy};
 ghost use Rattle.fc_observe.specs.Observers.{ObserverList};
 ghost use Rattle.fc_observe.specs.declared.observers.Ticked.TheVariants.{Quiet};
 ghost use Rattle.fc_observe.specs.declared.entry.Turn.{Turn};
+ghost use Rattle.fc_registry.specs.Changes.{Change, Commit, Committed, Installed, Removed, installed};
 ghost use Rattle.fc_registry.specs.Notes.{IsNoted};
+ghost use Rattle.fc_registry.specs.Slots.{Slot};
 ghost use Rattle.fc_registry.specs.Turns.{due_job};
 ghost use Rattle.fc_registry.specs.Watches.{at_time, due_place, overdue_place, ticked_in};
+ghost use Rattle.arrayvec.specs.ArrayVec.{ArrayVec};
+ghost use Rattle.fc_help.specs.Request.{Request};
+ghost use Rattle.fc_help.specs.declared.request.Method.TheVariants.{Get};
+ghost use Rattle.fc_registry.specs.declared.job.Ask.TheVariants.{Describe, Install, Remove, Run};
+ghost use Rattle.fc_registry.specs.declared.job.InitialVars.{InitialVars};
 ghost use Rattle.fc_registry.specs.declared.job.Job.{Job};
 ghost use Rattle.fc_registry.specs.declared.shard.Made.TheVariants.{Raised};
 ghost use Rattle.fc_registry.specs.declared.note.Noted.{Noted};
 ghost use Rattle.fc_registry.specs.declared.note.Notification.{Notification};
 ghost use Rattle.fc_server.specs.declared.server.Begin.{Begin};
-ghost use Rattle.fc_workers.specs.Asked.{IsLoggedCall};
+ghost use Rattle.fc_workers.specs.Asked.{IsLoggedCall, peripherals};
 ghost use Rattle.fc_core.specs.Stage.{Gone};
 ghost use Rattle.fc_core.specs.Stages.{first_stage};
 ghost use Rattle.fc_core.specs.Timers.{timer_job};
@@ -37,19 +44,21 @@ ghost use Rattle.fc_filed.specs.declared.book_begin.BookBegin.{BookBegin};
 ghost use Rattle.fc_workers.specs.declared.call_log.CallLog.{CallLog};
 ghost use Rattle.fc_filed.specs.JobTracks.{HasJobAt};
 ghost use Rattle.fc_filed.specs.Threads.{HasOwnTrack, key_of_first};
-ghost use Rattle.fc_workers.specs.Called.{worker_view};
+ghost use Rattle.fc_workers.specs.Called.{FindsSaving, worker_view};
 ghost use Rattle.fc_workers.specs.Filed.{HasFiledFor, HasRightJobs};
 ghost use Rattle.fc_jobs.specs.declared.protocol.Numbered.{Numbered};
 ghost use Rattle.fc_workers.specs.Messages.{IsNewJob, TrackedJob, first_brought};
 ghost use Rattle.fc_workers.specs.Received.{KeepsRightJobs};
 ghost use Rattle.fc_workers.specs.Shares.{AreTurns};
 ghost use Rattle.fc_workers.specs.Work.{IsReplied};
-ghost use Rattle.fc_workers.specs.Dispatch.{IsDone};
+ghost use Rattle.fc_workers.specs.Dispatch.{HasReadCost, IsDone, IsHeldUp, IsWorkedHere, MayGo, may_change_slot, unsent};
 ghost use Rattle.fc_filed.specs.Entries.{log_of};
 ghost use Rattle.fc_linear.specs.Parts.{HaveNextNumbers, IsHistoryOf, RightByParts, bringing, history_on};
 ghost use Rattle.fc_server.specs.Serving.{Serves};
 ghost use Rattle.fc_server.specs.States.{ServerState, confirm_after_of, first_server, server_over};
 ghost use Rattle.fc_store.specs.Stored.{StoredProgram, StoredSlots};
+ghost use Rattle.fc_store.specs.Updates.{AreSameSlots, slots_after, with_stored_vars};
+ghost use Rattle.fc_workers.specs.SharedStores.{HasSaved, SavesChange};
 ghost use Rattle.fc_verify.specs.Accepted.{Accepts};
 ghost use Rattle.fc_verify.specs.Judged.{judged};
 ghost use Rattle.fc_workers.specs.LegalOrder.{HaveRightTracks, server_with, timer_entry};
@@ -58,12 +67,14 @@ ghost use Rattle.fc_workers.specs.OneOrder.{HaveOneOrder, filed_in};
 ghost use Rattle.fc_workers.specs.Workers.{Dispatched, Share as Done};
 ghost use Rattle.fc_workers.specs.declared.closed.ClosedServer.{ClosedServer};
 ghost use Rattle.fc_workers.specs.declared.dispatcher.Offload.{Offload};
+ghost use Rattle.fc_workers.specs.declared.dispatcher.Offload.TheVariants.{ChangesAndExpensive, Expensive};
 
 use crate::bench::Bench;
 use crate::books::Books;
 use crate::context::{Gate, TimeSource, Wire};
 use crate::device::Device;
 use fc_registry::laws::idle_shards_do_nothing;
+use fc_store::{MemoryStore, NoStore, Store};
 
 /// A dispatcher passes each signal to shards 0 to 7.
 ///
@@ -82,10 +93,10 @@ pub fn signals_reach_eight_shards<B: Bench, G: Gate, W: Wire, M: TimeSource>()
 /// A logged notification is that of some observers whose notifications are confirmable after this
 /// time in milliseconds. The notification is at the time of the call or a later one. By default the
 /// confirmation time is 86,400,000 ms, 24 hours (RFC 7641, section 4.5).
-pub fn locked_shards_confirm_in_time<B: Books, D: Device>()
+pub fn locked_shards_confirm_in_time<B: Books, D: Device, K: Store>()
     ensures default { (stored : StoredSlots) (id : ℕ) → confirm_after_of (server_over stored id default_policy) ≡ 86400000 }
     ensures noted { (turn : Turn) (id now random : ℕ) (told : Notification) (noted : Noted) (before after : Log)
-        → turn.slot < 64 → IsLoggedCall B.first D.are_readings (NotesTurn turn id now random told noted) before after
+        → turn.slot < 64 → IsLoggedCall B.first (peripherals D.are_readings K.Store) (NotesTurn turn id now random told noted) before after
         → (watch : ObserverList) × (serial : ℕ) × (at : ℕ) × (watch.confirm_after ≡ confirm_after_of B.first) × (now ≤ at) × IsNoted told turn id at serial watch noted }
 {}
 
@@ -278,4 +289,126 @@ pub fn new_tables_have_the_head_words_of_programs()
     ensures { (start : BookBegin) (words : List ℕ) (views : List (BookView FiledEntry)) (history : HaveServerHistory start words views) (stored : StoredSlots) (id : ℕ) (policy : Policy) (k : StoredProgram) (p : Program)
         → history.log ≡ [] → start.first ≡ server_over stored id policy → judged k.image ≡ Accepts p
         → stored 13 ≡ record { serial = 5; program = Some k } → slice_index words 29 ≡ 11 }
+{}
+
+/// With the policy of changes, jobs that may change a slot go to workers at any cost.
+///
+/// The policy is `ChangesAndExpensive(6000)`. The jobs are an install, a removal, and a run for a
+/// POST, as that of slot 5's timer. No cost is read for them. If such a job is run here, the
+/// dispatcher's log has the calls of the run and no other. A GET may go if a cost of 6,000 was read
+/// in its slot, or if a save of the slot's shard holds it up. Otherwise neither a GET nor a lease's
+/// job goes unless a cost of 6,000 or more was read. A job that describes a program goes only if a
+/// save holds it up. With the policy `Expensive(6000)` a save sends no job.
+pub fn changes_go_to_workers<B: Bench, G: Gate, W: Wire, M: TimeSource>()
+    ensures post { (log : Log) → MayGo (worker_view B.changes B.ended B.called B.logged M.is_time M.is_random G.passed W.called) (ChangesAndExpensive 6000) (timer_job 5) log log }
+    ensures install { (job : Job) (image : ArrayVec ℕ) (initial : InitialVars) (log : Log) → job.turn ≡ None → job.ask ≡ Install image initial
+        → MayGo (worker_view B.changes B.ended B.called B.logged M.is_time M.is_random G.passed W.called) (ChangesAndExpensive 6000) job log log }
+    ensures removal { (job : Job) (log : Log) → job.turn ≡ None → job.ask ≡ Remove
+        → MayGo (worker_view B.changes B.ended B.called B.logged M.is_time M.is_random G.passed W.called) (ChangesAndExpensive 6000) job log log }
+    ensures unread { (before after : Log)
+        → MayGo (worker_view B.changes B.ended B.called B.logged M.is_time M.is_random G.passed W.called) (ChangesAndExpensive 6000) (timer_job 5) before after → after ≡ before }
+    ensures here { (before after : Dispatched B.Tallies)
+        → IsWorkedHere (worker_view B.changes B.ended B.called B.logged M.is_time M.is_random G.passed W.called) (ChangesAndExpensive 6000) (timer_job 5) before after
+        → IsReplied (worker_view B.changes B.ended B.called B.logged M.is_time M.is_random G.passed W.called) unsent (timer_job 5) before.share after.share }
+    ensures expensive { (job : Job) (request : Request) (before after : Log) → job.ask ≡ Run request → request.method ≡ Get
+        → HasReadCost (worker_view B.changes B.ended B.called B.logged M.is_time M.is_random G.passed W.called) job (Some 6000) before after
+        → MayGo (worker_view B.changes B.ended B.called B.logged M.is_time M.is_random G.passed W.called) (ChangesAndExpensive 6000) job before after }
+    ensures held { (job : Job) (request : Request) (log : Log) → job.ask ≡ Run request → B.called (FindsSaving job.origin.slot)
+        → MayGo (worker_view B.changes B.ended B.called B.logged M.is_time M.is_random G.passed W.called) (ChangesAndExpensive 6000) job log log }
+    ensures cheap { (job : Job) (request : Request) (before after : Log) → job.ask ≡ Run request → request.method ≡ Get
+        → MayGo (worker_view B.changes B.ended B.called B.logged M.is_time M.is_random G.passed W.called) (ChangesAndExpensive 6000) job before after
+        → IsHeldUp (worker_view B.changes B.ended B.called B.logged M.is_time M.is_random G.passed W.called) job before after
+        ⊎ (cost : ℕ) × (6000 ≤ cost) × HasReadCost (worker_view B.changes B.ended B.called B.logged M.is_time M.is_random G.passed W.called) job (Some cost) before after }
+    ensures lease { (job : Job) (number : ℕ) (before after : Log) → job.turn ≡ Some number
+        → MayGo (worker_view B.changes B.ended B.called B.logged M.is_time M.is_random G.passed W.called) (ChangesAndExpensive 6000) job before after
+        → IsHeldUp (worker_view B.changes B.ended B.called B.logged M.is_time M.is_random G.passed W.called) job before after
+        ⊎ (cost : ℕ) × (6000 ≤ cost) × HasReadCost (worker_view B.changes B.ended B.called B.logged M.is_time M.is_random G.passed W.called) job (Some cost) before after }
+    ensures described { (job : Job) (before after : Log) → job.ask ≡ Describe
+        → MayGo (worker_view B.changes B.ended B.called B.logged M.is_time M.is_random G.passed W.called) (ChangesAndExpensive 6000) job before after
+        → B.called (FindsSaving job.origin.slot) × (after ≡ before) }
+    ensures others { (job : Job) (before after : Log)
+        → MayGo (worker_view B.changes B.ended B.called B.logged M.is_time M.is_random G.passed W.called) (Expensive 6000) job before after
+        → (cost : ℕ) × (6000 ≤ cost) × HasReadCost (worker_view B.changes B.ended B.called B.logged M.is_time M.is_random G.passed W.called) job (Some cost) before after }
+{}
+
+/// A job that may not change its slot changes no slot.
+///
+/// A job may change its slot if it installs or removes a program, or if it runs one for a POST, and
+/// if it isn't a lease's. Any other job leaves the worker's count of the changes of each shard as
+/// it was, whatever the calls of the job return.
+pub fn other_jobs_change_no_slot<B: Bench, G: Gate, W: Wire, M: TimeSource>()
+    ensures { (number : ℕ) (job : Job) (before after : Done B.Tallies) → may_change_slot job ≡ false
+        → IsReplied (worker_view B.changes B.ended B.called B.logged M.is_time M.is_random G.passed W.called) number job before after
+        → (shard : ℕ) → shard < 8 → B.changes after.tallies shard ≡ B.changes before.tallies shard }
+{}
+
+/// A store in memory has the changes that a server with locks has saved in it.
+///
+/// The law is about a change of slot 5, at serial 7. The saved update has serial 8. After a removal
+/// the store has no image, and an installed program has version 8 and an image of the program.
+/// After a refused save each stored slot is unchanged. A call that changes nothing can't be
+/// refused, and no save has two changes. A store that stores nothing refuses no change.
+pub fn changes_are_saved_in_memory()
+    ensures removal { (slot : Slot) (saved : HasSaved ⟦<MemoryStore as Store>⟧ ⊤ slot 5 (Removed ∷ []) true)
+        → slot.serial ≡ 7
+        → ⟦<MemoryStore as Store>⟧.stored saved.1.saves.new 5 ≡ record { serial = 8; program = None } }
+    ensures install { (slot : Slot) (p : Program) (initial : InitialVars)
+        (saved : HasSaved ⟦<MemoryStore as Store>⟧ ⊤ slot 5 (Installed p initial ∷ []) true) → slot.serial ≡ 7
+        → (image : List ℕ) × (judged image ≡ Accepts p) × (⟦<MemoryStore as Store>⟧.stored saved.1.saves.new 5
+        ≡ record { serial = 8; program = Some (record { version = 8; image = image; vars = (installed slot p initial).vars }) }) }
+    ensures commit { (slot : Slot) (c : Commit)
+        (saved : HasSaved ⟦<MemoryStore as Store>⟧ ⊤ slot 5 (Committed c ∷ []) true) → slot.serial ≡ 7
+        → ⟦<MemoryStore as Store>⟧.stored saved.1.saves.new 5 ≡ record {
+          serial = 8;
+          program = with_stored_vars c.after
+              (⟦<MemoryStore as Store>⟧.stored saved.1.saves.old 5).program;
+        } }
+    ensures refused { (slot : Slot) (change : Change) (saved : HasSaved ⟦<MemoryStore as Store>⟧ ⊤ slot 5 (change ∷ []) false)
+        → AreSameSlots (⟦<MemoryStore as Store>⟧.stored saved.1.saves.new) (⟦<MemoryStore as Store>⟧.stored saved.1.saves.old) }
+    ensures nothing { (slot : Slot) (n : ℕ) → HasSaved ⟦<MemoryStore as Store>⟧ ⊤ slot n [] false → ⊥ }
+    ensures one { (slot : Slot) (n : ℕ) (a b : Change) (more : List Change)
+        → HasSaved ⟦<MemoryStore as Store>⟧ ⊤ slot n (a ∷ b ∷ more) true → ⊥ }
+    ensures never { (slot : Slot) (n : ℕ) (change : Change)
+        → HasSaved ⟦<NoStore as Store>⟧ ⊤ slot n (change ∷ []) false → ⊥ }
+{}
+
+/// A start right after the save of a change finds the change, and no other.
+///
+/// The law is about a change of slot 5, at serial 7, that a server has saved in any persistent
+/// store. The medium has returned the data that was written to it. A start finds serial 8. After a
+/// removal it finds no image, and an installed program has version 8 and an image of the program.
+/// After a commit the stored program has the new variables; without a stored program they are lost.
+/// The other slots are those that were stored before. After a refused save a start finds slots that
+/// it could find before the save, or the stored slots with the update.
+pub fn saved_changes_are_found<K: Store>()
+    ensures saves { (slot : Slot) (n : ℕ) (change : Change) (made : Bool) → K.persistent ≡ true
+        → HasSaved K.Store ⊤ slot n (change ∷ []) made → SavesChange K.Store ⊤ slot n change made }
+    ensures removal { (slot : Slot) (w : SavesChange K.Store ⊤ slot 5 Removed true) (found : StoredSlots) → slot.serial ≡ 7
+        → K.is_clean w.saves.new → K.may_recover w.saves.new found → found 5 ≡ record { serial = 8; program = None } }
+    ensures install { (slot : Slot) (p : Program) (initial : InitialVars)
+        (w : SavesChange K.Store ⊤ slot 5 (Installed p initial) true) (found : StoredSlots) → slot.serial ≡ 7
+        → K.is_clean w.saves.new → K.may_recover w.saves.new found
+        → (image : List ℕ) × (judged image ≡ Accepts p)
+        × (found 5 ≡ record {
+          serial = 8;
+          program = Some (record {
+            version = 8;
+            image = image;
+            vars = (installed slot p initial).vars;
+          });
+        }) }
+    ensures commit { (slot : Slot) (c : Commit) (p : StoredProgram)
+        (w : SavesChange K.Store ⊤ slot 5 (Committed c) true) (found : StoredSlots) → slot.serial ≡ 7
+        → (K.stored w.saves.old 5).program ≡ Some p → K.is_clean w.saves.new → K.may_recover w.saves.new found
+        → found 5 ≡ record { serial = 8; program = Some (record { version = p.version; image = p.image; vars = c.after }) } }
+    ensures lost { (slot : Slot) (c : Commit) (w : SavesChange K.Store ⊤ slot 5 (Committed c) true) (found : StoredSlots)
+        → slot.serial ≡ 7
+        → (K.stored w.saves.old 5).program ≡ None → K.is_clean w.saves.new → K.may_recover w.saves.new found
+        → found 5 ≡ record { serial = 8; program = None } }
+    ensures others { (slot : Slot) (change : Change) (n : ℕ) (w : SavesChange K.Store ⊤ slot 5 change true) (found : StoredSlots)
+        → K.is_clean w.saves.new → K.may_recover w.saves.new found → n < 64 → (n ≡ 5 → ⊥)
+        → found n ≡ K.stored w.saves.old n }
+    ensures refused { (slot : Slot) (change : Change) (w : SavesChange K.Store ⊤ slot 5 change false) (found : StoredSlots)
+        → K.is_clean w.saves.new → K.may_recover w.saves.new found
+        → K.may_recover w.saves.old found ⊎ AreSameSlots found (slots_after w.update (K.stored w.saves.old)) }
 {}

@@ -1,11 +1,11 @@
 //! Workers that run jobs on a server with locks, and counts of their changes.
 //!
-//! The front has a lock, and so does each shard. A job is run by calls, each at the stage that
-//! needs it. A request's job takes a snapshot, runs, commits and raises a head word, or it
-//! installs, removes, describes, or reads head words. Many workers run jobs at the same time, and
-//! other workers change the slots between two calls of a job. So the contracts of a worker mention
-//! no shard: its [`Bench`] states for each call what a shard returns at some slot, and the result
-//! alone determines the next stage (`fc_core`'s `Stage`).
+//! The front has a lock, and so do each shard and the store. A job is run by calls, each at the
+//! stage that needs it. A request's job takes a snapshot, runs, commits and raises a head word, or
+//! it installs, removes, describes, or reads head words. Many workers run jobs at the same time,
+//! and other workers change the slots between two calls of a job. So the contracts of a worker
+//! mention no shard: its [`Bench`] states for each call what a shard returns at some slot, and the
+//! result alone determines the next stage (`fc_core`'s `Stage`).
 //!
 //! `specs/Work.antt` defines the calls that lead to a job's answer. `specs/Shares.antt` defines the
 //! statistics of a worker's jobs, its [`Share`]. The worker has run and ended exactly the jobs that
@@ -30,7 +30,8 @@
 //! use std::sync::Wait;
 //! use std::thread::Threads;
 //!
-//! /// Runs one job, with a worker for each of these tallies and logs, and returns their statistics.
+//! /// Runs one job, with a worker for each of these tallies and logs, and returns their
+//! /// statistics.
 //! fn work_one<B: Bench + Sync, G: Gate + Sync, W: Wire + Sync, M: TimeSource + Sync, R>(
 //!     rt: &R,
 //!     context: &Context<'_, B, G, W, M>,
@@ -65,7 +66,8 @@
 //!   server's book. The code shows that gates, transmitters and clocks get no other `CallLog`.
 //!   Calls without a log change nothing. One such call can stand for a later one with the same
 //!   result. They are the random words and the calls of `BenchCall`: the times until which shards
-//!   stay idle, the shards that aren't idle now, the gauges, and the numbers of observers.
+//!   stay idle, the shards that aren't idle now, the gauges, the numbers of observers, the refused
+//!   saves, and the slots whose shard is found being saved.
 //! - **A request's job** reaches its answer by a list of calls from its first stage. Each is the
 //!   call that its stage needs, with the result of its shard at some slot. At most eight take a
 //!   snapshot. A look reads the head word of the job's slot, or, for a list, of each slot in order.
@@ -97,16 +99,27 @@
 //!   given shard once, and advances the front to the given time once. Its calls are in the log of
 //!   its statistics, as a worker's are.
 //! - An expensive job is a run of at least a given cost. The cost is read in the job's slot, and
-//!   the read is a logged call. Before a dispatcher sends a job, it files nothing for it but the
-//!   call that produced it. Its log has at most two calls since then: for the readings of a
-//!   snapshot that wasn't taken, and for the cost. A job that isn't sent is run here, with at most
-//!   eight snapshots.
-//! - **A server with nine locks** calls a front that began as that of the server's first state, and
+//!   the read is a logged call. A policy may also send each job that may change its slot, without a
+//!   read of the cost. Any other job changes no slot (`laws`). Such a policy also sends a job that
+//!   runs or describes a program if the backend finds the slot's shard being saved
+//!   ([`Bench::is_saving`]). So the dispatcher doesn't wait for that save.
+//! - Before a dispatcher sends a job, it files nothing for it but the call that produced it. Its
+//!   log has at most two calls since then: for the readings of a snapshot that wasn't taken, and
+//!   for the cost. A job that isn't sent is run here, with at most eight snapshots.
+//! - **A server with ten locks** calls a front that began as that of the server's first state, and
 //!   only calls have changed it since. Each shard that a call meets has the first state's time for
 //!   confirmable notifications.
 //! - A snapshot, an install, a removal and a receipt have the results of a shard with the index of
 //!   the job's slot, in some state. A notification has the result of a shard with the index of the
 //!   lease's slot, for the given lease, message ID, time and content.
+//! - **Changes are saved**: a call changes a slot only if a save of just this change returned
+//!   `true`, by a ready store of the server's kind. If the server's store isn't persistent, no save
+//!   is required. The update has the slot's next serial, and the variables that the change leaves.
+//!   That of an install has an image of the program, if the program is that of the job's image.
+//!   While the medium returns the data that was written to it, a start right after the save finds
+//!   this change (`laws`). It finds a commit's variables only if this store had the slot's program.
+//!   If the update can't be saved, the shard is unchanged, nothing is filed for the shard, and the
+//!   job is answered with 5.03.
 //! - A delivery, a draw of a message ID, a lease, a tick, a notification and an answer have the
 //!   result of some front or shard. The time of the result is the given one or a later one. Each
 //!   change of a slot is counted on the worker's tally. Once the server is closed, the serials of
@@ -118,8 +131,8 @@
 //!   under the lock. So two calls of a part are of one part, the server's own, in one order. A skip
 //!   is filed on the caller's track.
 //! - Each look at a head word and each raise is filed too, by the step that reads or raises the
-//!   word. A worker also files that an image breaks a rule, or that memory for its program can't be
-//!   allocated. No other call is filed.
+//!   word. A worker also files that an image breaks a rule, that its program isn't installed, or
+//!   that another change can't be saved. No other call is filed.
 //! - **One order**: at the end of a server there is one list of all filed calls. Each thread has
 //!   filed exactly the calls in the list with its key, in that order, and no call is of another
 //!   thread. The calls of the front lead from the server's first front to its last, and those of
@@ -150,12 +163,16 @@
 //! - A look at a head word returns at least every word of the slot that the worker knows. A worker
 //!   knows the words that it read, and those to which it raised the word. Neither a look nor a
 //!   raise takes a lock.
-//! - Not claimed: that a call holds one lock; which readings a server returns; and that a call
-//!   returns.
+//! - Not claimed of saves: in which state a save finds the store, except that it is ready; that a
+//!   save comes before its change; that its store is the server's own; that nothing else is saved;
+//!   and that a refused change was offered to the store, or isn't stored. Tests show all but the
+//!   first.
+//! - Not claimed either: which locks a call holds; whether a shard that is found being saved is (a
+//!   test shows it); which readings a server returns; and that a call returns.
 //!
 //! By the contracts of `Context::work_off`, `Context::work`, `worker`, `run_workers`,
 //! `drive_workers`, `Dispatcher::handle`, `notify`, `offloaded`, `Dispatcher::close`, the clauses
-//! of `Bench`, `Locked::new`, `close`, `laws`.
+//! of `Bench`, `ReadyStore`, `Locked::new`, `close`, `laws`.
 #![tactic(auto)]
 
 mod begun_front;
@@ -176,9 +193,11 @@ mod locked_shard;
 mod new_server;
 pub mod notify;
 pub mod pool;
+pub mod ready_store;
 pub mod scratch;
 pub mod server;
 pub mod share;
+mod shared_store;
 pub mod tallies;
 pub mod tally;
 pub mod track_log;
@@ -197,6 +216,7 @@ pub use dispatcher::{Dispatched, DispatchedOf, Dispatcher, Offload};
 pub use job_keys::JobKeys;
 pub use job_message::JobMessage;
 pub use pool::{drive_workers, make_seats, run_workers};
+pub use ready_store::ReadyStore;
 pub use scratch::Scratch;
 pub use server::Locked;
 pub use share::{Share, ShareOf};

@@ -1,5 +1,5 @@
 //! A shard guarded by a lock, as [`Locked`](crate::server::Locked) has eight.
-ghost use Rattle.std.specs.Prelude.{◌≡◌, ℕ, ◌+◌, ◌<◌, [], true};
+ghost use Rattle.std.specs.Prelude.{◌≡◌, ℕ, ◌+◌, ◌<◌, [], true, MatchOption};
 ghost use Rattle.fc_book.specs.Tracks.{with_next};
 ghost use Rattle.fc_registry.specs.Shards.{shard_at};
 ghost use Rattle.fc_registry.specs.Slots.{Shard as Seen};
@@ -9,18 +9,22 @@ ghost use Rattle.fc_calls.specs.Doings.{PassesIfIdle};
 ghost use Rattle.fc_calls.specs.Logged.{AdvancesIdle};
 ghost use Rattle.fc_linear.specs.Operations.{Logged, ShardDoes};
 ghost use Rattle.fc_filed.specs.Tracked.{IsPartClosed};
+ghost use Rattle.fc_workers.specs.Answers.{changes_if};
 ghost use Rattle.fc_workers.specs.Asked.{IsAsked};
 ghost use Rattle.fc_workers.specs.Counts.{counts};
 ghost use Rattle.fc_workers.specs.Logs.{with_filed_if};
+ghost use Rattle.fc_workers.specs.SharedStores.{HasSaved, LeavesUnsaved, WithSave};
 
 use crate::books::{BookOf, Books, ServerOf};
 use crate::counted_shard::Counted;
 use crate::new_server::NewServer;
+use crate::shared_store::SharedStore;
 use crate::tally::Tally;
 use crate::track_log::TrackLog;
 use fc_calls::{Change, ShardCall};
 use fc_filed::{FiledCall, ServerBook, ServerTracks, ShardOf};
 use fc_registry::Shard;
+use fc_store::Store;
 use std::sync::ledger::Blank;
 use std::sync::{Mutex, Wait};
 
@@ -115,26 +119,32 @@ impl<const INDEX: u8, B: Books> LockedShard<INDEX, B> {
         self.state.lock(rt).counted.advance_if_idle(book, log, now)
     }
 
-    /// Runs a call that may change a slot, under the shard's lock, and files it.
+    /// Saves the change that a call makes, runs the call, and files it, under the shard's lock.
     ///
-    /// The tally counts the changes that the result reports. The call may write to `room`.
-    pub(crate) fn change<C: Change + FiledCall, R: Wait>(
+    /// Returns `None` if the change can't be saved: then the shard is unchanged. The tally counts
+    /// the changes that the result reports. The call may write to `room`.
+    pub(crate) fn change<C: Change + FiledCall + Drop, K: Store, R: Wait>(
         &self,
         rt: &R,
+        store: &SharedStore<K>,
         book: &ServerBook<ServerOf<B>>,
         log: &mut TrackLog<ServerOf<B>>,
         call: C,
         room: &mut C::Room,
         tally: &mut Tally<BookOf<B, INDEX>>,
-    ) -> C::Answer
+    ) -> Option<C::Answer>
         requires may { (shard : Seen) → shard.index ≡ INDEX → C.may_ask call shard }
         requires is_of { (shard : Seen) → shard.index ≡ INDEX → C.is_of call shard }
-        ensures does { IsAsked B.first INDEX (λ before after. C.does call before result room.new after) }
-        ensures filed { log.new ≡ with_filed_if (C.files result) (C.operation INDEX call result room.new) log.old }
-        ensures tally { tally.new ≡ counts tally.old (C.changes result) }
+        ensures changed { MatchOption result
+            (IsAsked B.first INDEX (LeavesUnsaved (HasSaved K.Store) (C.slot call) (C.change call)) × C.may_change call × (log.new ≡ log.old))
+            (λ answer. IsAsked B.first INDEX (WithSave (HasSaved K.Store) (C.is_verified call) (C.slot call) (C.made call answer) (λ before after. C.does call before answer room.new after))
+            × (log.new ≡ with_filed_if (C.files answer) (C.operation INDEX call answer room.new) log.old)) }
+        ensures tally { tally.new ≡ counts tally.old (changes_if C.changes result) }
     {
         let mut state = self.state.lock(rt);
-        state.counted.change(book, log, call, room, tally)
+        state
+            .counted
+            .change(rt, store, book, log, call, room, tally)
     }
 
     /// Closes the shard and its ledger, with the tally `all` of all the ledger's parts.

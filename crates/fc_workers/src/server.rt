@@ -1,4 +1,4 @@
-//! A server with nine locks: one for the front, and one for each shard.
+//! A server with ten locks: one for the front, one for each shard, and one for the store.
 //!
 //! Its calls are those of [`Bench`](crate::bench::Bench). No lock guards its head words.
 //!
@@ -18,7 +18,7 @@
 //! No type in that function's signature may name a ledger. The function opens the server, splits
 //! the unassigned shares into the tallies of its workers, and runs them. Then it merges their
 //! tallies and the tracks of their logs, and closes the server.
-ghost use Rattle.std.specs.Prelude.{◌≡◌, ◌+◌, ◌*◌, ◌-◌, ◌<◌, ◌≤◌, ◌%◌, true, List, length, map, slice_index, take, vec_len, IfOk};
+ghost use Rattle.std.specs.Prelude.{◌≡◌, ◌+◌, ◌*◌, ◌-◌, ◌<◌, ◌≤◌, ◌%◌, true, List, length, map, slice_index, take, vec_len, IfOk, MatchOption};
 ghost use Rattle.std.specs.List.{All};
 ghost use Rattle.coap_msg.specs.declared.types.Emission.{Emission as Emitted};
 ghost use Rattle.fc_core.specs.Answering.{emission_of, responded};
@@ -32,7 +32,8 @@ ghost use Rattle.fc_registry.specs.Shards.{shard_at};
 ghost use Rattle.fc_registry.specs.Slots.{IsOwned, Shard as Seen};
 ghost use Rattle.fc_registry.specs.Turns.{written_if};
 ghost use Rattle.fc_registry.specs.Views.{HasSize, taken_with};
-ghost use Rattle.fc_workers.specs.Asked.{IsAsked, IsLoggedCall, IsServerCall, shard_called};
+ghost use Rattle.fc_workers.specs.Asked.{IsAsked, IsLoggedCall, IsServerCall, peripherals, shard_called};
+ghost use Rattle.fc_workers.specs.SharedStores.{HasSaved, LeavesUnsaved, WithSave};
 ghost use Rattle.fc_workers.specs.Filed.{locked_files};
 ghost use Rattle.fc_server.specs.States.{CanBeginWith};
 ghost use Rattle.fc_workers.specs.Closing.{each_shard};
@@ -43,7 +44,7 @@ ghost use Rattle.fc_workers.specs.OneOrder.{HasTracksOf, HaveOneOrder, IsNewLog,
 ghost use Rattle.fc_workers.specs.Counts.{no_changes, sums};
 ghost use Rattle.fc_calls.specs.Kept.{commit_changes, install_changes, removal_changes, serials};
 ghost use Rattle.fc_workers.specs.Answers.{AreTallied, IsSomeCommit, IsSomeInstall, IsSomeNote, IsSomeReceipt, IsSomeRemoval, IsSomeSnapshot};
-ghost use Rattle.fc_workers.specs.Answers.{IsSomeTick, IsSomeTurn, saturated};
+ghost use Rattle.fc_workers.specs.Answers.{IsSomeTick, IsSomeTurn, changes_if, saturated};
 
 use crate::begun_front::BegunFront;
 use crate::bench::Bench;
@@ -54,7 +55,9 @@ use crate::device::Device;
 use crate::job_keys::JobKeys;
 use crate::locked_shard::LockedShard;
 use crate::new_server::NewServer;
+use crate::ready_store::ReadyStore;
 use crate::share::ShareOf;
+use crate::shared_store::SharedStore;
 use crate::tallies::Tallies;
 use crate::tally::Tally;
 use crate::track_log::{TrackLog, begin_logs};
@@ -75,6 +78,7 @@ use fc_registry::{
     Committed, Job, Made, NoteOutcome, Notification, PLACES, Receipt, Removal, SHARDS, Shard,
     SlotNumber, SlotSnapshot, Taken, Ticket,
 };
+use fc_store::Store;
 use fc_verify::Verified;
 use std::alloc::{AllocError, Global};
 use std::sync::{Arc, Mutex, Wait};
@@ -149,13 +153,16 @@ fn shard_of(slot: SlotNumber) -> u8
     slot.number() % SHARDS
 }
 
-/// A server with a lock for its front and a lock for each shard.
+/// A server with a lock for its front, a lock for each shard, and a lock for its store.
 ///
-/// A call holds one lock, and never two. No lock guards its head words or its device. No lock is
-/// held while a program runs or an image is verified.
+/// A call holds the lock of the front or of one shard. A call that changes a slot saves the change
+/// first: it takes the store's lock inside the shard's, and no lock inside the store's. If the
+/// store isn't persistent, nothing is saved, and the store's lock isn't taken. No lock guards the
+/// head words or the device. No lock is held while a program runs or an image is verified.
 #[derive(Drop)]
-pub struct Locked<'a, B: Books, D: Device> {
+pub struct Locked<'a, B: Books, D: Device, K: Store> {
     device: &'a D,
+    store: SharedStore<K>,
     book: ServerBook<ServerOf<B>>,
     front: Mutex<BegunFront<B>>,
     shard0: LockedShard<0, B>,
@@ -169,24 +176,26 @@ pub struct Locked<'a, B: Books, D: Device> {
     ghost eight: { length B.first.shards ≡ 8 },
 }
 
-impl<'a, B: Books, D: Device> Locked<'a, B, D> {
+impl<'a, B: Books, D: Device, K: Store + Drop> Locked<'a, B, D, K> {
     /// Makes a server that begins as the first server of `book`.
     ///
-    /// Its programs get the readings of `device`. It opens the ledgers, and the unassigned shares
-    /// are all their parts. The calls of its front, shards and head words are filed in `book`.
-    /// Returns the server, the unassigned shares, a log for each thread of the book, and the right
-    /// to begin the tracks of jobs. Nothing is filed in the logs yet.
+    /// Its programs get the readings of `device`, and changes of its slots are saved in `store`. It
+    /// opens the ledgers, and the unassigned shares are all their parts. The calls of its front,
+    /// shards and head words are filed in `book`. Returns the server, the unassigned shares, a log
+    /// for each thread of the book, and the right to begin the tracks of jobs. Nothing is filed in
+    /// the logs yet.
     ///
     /// # Errors
     /// Returns `AllocError` if memory for the server can't be allocated.
     pub fn new(
         alloc: Global,
         device: &'a D,
+        store: ReadyStore<K>,
         blanks: Blanks,
         book: NewServerBook,
     ) -> Result<
         (
-            Locked<'a, B, D>,
+            Locked<'a, B, D, K>,
             Unassigned<B>,
             Vec<TrackLog<ServerOf<B>>>,
             JobKeys<ServerOf<B>>,
@@ -225,6 +234,7 @@ impl<'a, B: Books, D: Device> Locked<'a, B, D> {
         let logs = begin_logs(alloc, &book, &mut first, threads)?;
         let server = Locked {
             device,
+            store: SharedStore::new(store),
             book,
             front: Mutex::new(front),
             shard0,
@@ -325,9 +335,10 @@ impl<'a, B: Books, D: Device> Locked<'a, B, D> {
         }
     }
 
-    // Runs a call that may change `slot`, at the shard that owns it, and files it in `log`. It
-    // holds that shard's lock, and no other. The tallies count the change.
-    fn change<C: Change + FiledCall, R: Wait>(
+    // Saves the change that a call makes in `slot`, runs the call at the shard that owns the slot,
+    // and files it in `log`. It holds that shard's lock, and inside it the store's for the save.
+    // Returns `None` if the change can't be saved. The tallies count the change.
+    fn change<C: Change + FiledCall + Drop, R: Wait>(
         &self,
         rt: &R,
         slot: SlotNumber,
@@ -335,41 +346,99 @@ impl<'a, B: Books, D: Device> Locked<'a, B, D> {
         room: &mut C::Room,
         tallies: &mut Tallies<B>,
         log: &mut TrackLog<ServerOf<B>>,
-    ) -> C::Answer
+    ) -> Option<C::Answer>
         requires may { (shard : Seen) → IsOwned shard slot → C.may_ask call shard }
         requires is_of { (shard : Seen) → IsOwned shard slot → C.is_of call shard }
-        ensures does { IsAsked B.first (slot % 8) (λ before after. C.does call before result room.new after) }
-        ensures filed { log.new ≡ with_filed_if (C.files result) (C.operation (slot % 8) call result room.new) log.old }
+        ensures changed { MatchOption result
+            (IsAsked B.first (slot % 8) (LeavesUnsaved (HasSaved K.Store) (C.slot call) (C.change call)) × C.may_change call × (log.new ≡ log.old))
+            (λ answer. IsAsked B.first (slot % 8) (WithSave (HasSaved K.Store) (C.is_verified call) (C.slot call) (C.made call answer) (λ before after. C.does call before answer room.new after))
+            × (log.new ≡ with_filed_if (C.files answer) (C.operation (slot % 8) call answer room.new) log.old)) }
         ensures changes { AreTallied (slice_index tallies.old.changes) (slice_index tallies.new.changes)
-            slot (C.changes result) }
+            slot (changes_if C.changes result) }
+        ensures ended { tallies.new.ended ≡ tallies.old.ended }
+    {
+        if shard_of(slot) < 4 {
+            self.change_low(rt, slot, call, room, tallies, log)
+        } else {
+            self.change_high(rt, slot, call, room, tallies, log)
+        }
+    }
+
+    // Does what `change` does, in a slot of one of the shards 0 to 3.
+    fn change_low<C: Change + FiledCall + Drop, R: Wait>(
+        &self,
+        rt: &R,
+        slot: SlotNumber,
+        call: C,
+        room: &mut C::Room,
+        tallies: &mut Tallies<B>,
+        log: &mut TrackLog<ServerOf<B>>,
+    ) -> Option<C::Answer>
+        requires may { (shard : Seen) → IsOwned shard slot → C.may_ask call shard }
+        requires is_of { (shard : Seen) → IsOwned shard slot → C.is_of call shard }
+        requires low { slot % 8 < 4 }
+        ensures changed { MatchOption result
+            (IsAsked B.first (slot % 8) (LeavesUnsaved (HasSaved K.Store) (C.slot call) (C.change call)) × C.may_change call × (log.new ≡ log.old))
+            (λ answer. IsAsked B.first (slot % 8) (WithSave (HasSaved K.Store) (C.is_verified call) (C.slot call) (C.made call answer) (λ before after. C.does call before answer room.new after))
+            × (log.new ≡ with_filed_if (C.files answer) (C.operation (slot % 8) call answer room.new) log.old)) }
+        ensures changes { AreTallied (slice_index tallies.old.changes) (slice_index tallies.new.changes)
+            slot (changes_if C.changes result) }
         ensures ended { tallies.new.ended ≡ tallies.old.ended }
     {
         let book = &self.book;
+        let store = &self.store;
         match shard_of(slot) {
             0 => self
                 .shard0
-                .change(rt, book, log, call, room, &mut tallies.tally0),
+                .change(rt, store, book, log, call, room, &mut tallies.tally0),
             1 => self
                 .shard1
-                .change(rt, book, log, call, room, &mut tallies.tally1),
+                .change(rt, store, book, log, call, room, &mut tallies.tally1),
             2 => self
                 .shard2
-                .change(rt, book, log, call, room, &mut tallies.tally2),
-            3 => self
+                .change(rt, store, book, log, call, room, &mut tallies.tally2),
+            _ => self
                 .shard3
-                .change(rt, book, log, call, room, &mut tallies.tally3),
+                .change(rt, store, book, log, call, room, &mut tallies.tally3),
+        }
+    }
+
+    // Does what `change` does, in a slot of one of the shards 4 to 7.
+    fn change_high<C: Change + FiledCall + Drop, R: Wait>(
+        &self,
+        rt: &R,
+        slot: SlotNumber,
+        call: C,
+        room: &mut C::Room,
+        tallies: &mut Tallies<B>,
+        log: &mut TrackLog<ServerOf<B>>,
+    ) -> Option<C::Answer>
+        requires may { (shard : Seen) → IsOwned shard slot → C.may_ask call shard }
+        requires is_of { (shard : Seen) → IsOwned shard slot → C.is_of call shard }
+        requires high { 4 ≤ slot % 8 }
+        ensures changed { MatchOption result
+            (IsAsked B.first (slot % 8) (LeavesUnsaved (HasSaved K.Store) (C.slot call) (C.change call)) × C.may_change call × (log.new ≡ log.old))
+            (λ answer. IsAsked B.first (slot % 8) (WithSave (HasSaved K.Store) (C.is_verified call) (C.slot call) (C.made call answer) (λ before after. C.does call before answer room.new after))
+            × (log.new ≡ with_filed_if (C.files answer) (C.operation (slot % 8) call answer room.new) log.old)) }
+        ensures changes { AreTallied (slice_index tallies.old.changes) (slice_index tallies.new.changes)
+            slot (changes_if C.changes result) }
+        ensures ended { tallies.new.ended ≡ tallies.old.ended }
+    {
+        let book = &self.book;
+        let store = &self.store;
+        match shard_of(slot) {
             4 => self
                 .shard4
-                .change(rt, book, log, call, room, &mut tallies.tally4),
+                .change(rt, store, book, log, call, room, &mut tallies.tally4),
             5 => self
                 .shard5
-                .change(rt, book, log, call, room, &mut tallies.tally5),
+                .change(rt, store, book, log, call, room, &mut tallies.tally5),
             6 => self
                 .shard6
-                .change(rt, book, log, call, room, &mut tallies.tally6),
+                .change(rt, store, book, log, call, room, &mut tallies.tally6),
             _ => self
                 .shard7
-                .change(rt, book, log, call, room, &mut tallies.tally7),
+                .change(rt, store, book, log, call, room, &mut tallies.tally7),
         }
     }
 
@@ -394,7 +463,7 @@ impl<'a, B: Books, D: Device> Locked<'a, B, D> {
         tracks
     }
 
-    /// Closes the server. All parts must be unassigned again.
+    /// Closes the server, and drops its store. All parts must be unassigned again.
     ///
     /// The serials of each shard have risen by the changes that were counted. The result has these
     /// counts. If `tracks` has the tracks of all threads' logs, the filed calls have one order.
@@ -446,16 +515,17 @@ impl<'a, B: Books, D: Device> Locked<'a, B, D> {
     }
 }
 
-/// A call of the front or of a shard locks that part, and no other, and calls it.
+/// A call of the front or of a shard locks that part and calls it.
 ///
-/// Reads and raises of head words and skips of idle shards take no lock. Neither do the filing of
-/// an image that isn't installed and a call of the device.
-impl<'a, B: Books, D: Device> Bench for Locked<'a, B, D> {
-    ghost called = { IsServerCall B.first };
+/// A change of a slot is saved before the call, under the shard's lock. Reads and raises of head
+/// words and skips of idle shards take no lock. Neither do a call of the device, the filing of a
+/// change that isn't made, and the question whether a shard is being saved.
+impl<'a, B: Books, D: Device, K: Store + Drop> Bench for Locked<'a, B, D, K> {
+    ghost called = { IsServerCall B.first (peripherals D.are_readings K.Store) };
 
-    ghost logged = { IsLoggedCall B.first D.are_readings };
+    ghost logged = { IsLoggedCall B.first (peripherals D.are_readings K.Store) };
 
-    ghost files = { locked_files B.first D.are_readings };
+    ghost files = { locked_files B.first (peripherals D.are_readings K.Store) };
 
     type Tallies = Tallies<B>;
 
@@ -596,6 +666,10 @@ impl<'a, B: Books, D: Device> Bench for Locked<'a, B, D> {
         self.inspect(rt, shard, CountObservers, &mut ())
     }
 
+    fn is_saving(&self, slot: SlotNumber) -> bool {
+        self.store.is_saving(slot)
+    }
+
     fn next_due<R: Wait>(
         &self,
         rt: &R,
@@ -650,7 +724,7 @@ impl<'a, B: Books, D: Device> Bench for Locked<'a, B, D> {
         ticket: &Ticket<'_>,
         tallies: &mut Tallies<B>,
         log: &mut TrackLog<ServerOf<B>>,
-    ) -> Committed {
+    ) -> Option<Committed> {
         let commit = Commit {
             now,
             outcome,
@@ -666,7 +740,7 @@ impl<'a, B: Books, D: Device> Bench for Locked<'a, B, D> {
         program: Arc<Verified>,
         tallies: &mut Tallies<B>,
         log: &mut TrackLog<ServerOf<B>>,
-    ) -> Made {
+    ) -> Option<Made> {
         let install = Install { job, program };
         self.change(rt, job.origin.slot, install, &mut (), tallies, log)
     }
@@ -677,7 +751,7 @@ impl<'a, B: Books, D: Device> Bench for Locked<'a, B, D> {
         job: &Job,
         tallies: &mut Tallies<B>,
         log: &mut TrackLog<ServerOf<B>>,
-    ) -> Removal {
+    ) -> Option<Removal> {
         self.change(rt, job.origin.slot, Remove { job }, &mut (), tallies, log)
     }
 
@@ -716,8 +790,12 @@ impl<'a, B: Books, D: Device> Bench for Locked<'a, B, D> {
         log.tracks.reject_image(&self.book, log.who, job, answer);
     }
 
-    fn lack_memory(&self, job: &Job, log: &mut TrackLog<ServerOf<B>>) {
-        log.tracks.lack_memory(&self.book, log.who, job);
+    fn refuse_install(&self, job: &Job, log: &mut TrackLog<ServerOf<B>>) {
+        log.tracks.refuse_install(&self.book, log.who, job);
+    }
+
+    fn fail_to_save(&self, job: &Job, log: &mut TrackLog<ServerOf<B>>) {
+        log.tracks.fail_to_save(&self.book, log.who, job);
     }
 
     fn respond<R: Wait>(

@@ -68,7 +68,7 @@ impl<T: Drop, J: ServerName> Share<T, TrackLog<J>, JobMessage<J>> {
         self.overtakings = self.overtakings.saturating_add(u64::from(overtaken));
     }
 
-    // Counts an install whose allocation was refused.
+    // Counts a refused allocation, or a change that can't be saved.
     pub(crate) fn count_refusal(&mut self)
         ensures { self.new ≡ record self.old { refusals = saturated (self.old.refusals + 1) } }
     {

@@ -8,7 +8,7 @@ ghost use Rattle.fc_core.specs.Contents.{Unavailable};
 ghost use Rattle.fc_core.specs.Ends.{refused};
 ghost use Rattle.fc_core.specs.Stages.{image_of};
 ghost use Rattle.fc_core.specs.Stage.{ToAnswer, ToInstall, ToRemove};
-ghost use Rattle.fc_linear.specs.Operations.{LacksMemory, RejectsImage};
+ghost use Rattle.fc_linear.specs.Operations.{FailsToSave, RefusesInstall, RejectsImage};
 ghost use Rattle.fc_workers.specs.Answers.{saturated};
 ghost use Rattle.fc_workers.specs.Dispatch.{MayGo};
 ghost use Rattle.fc_workers.specs.declared.dispatcher.Offload.TheVariants.{Expensive};
@@ -48,8 +48,8 @@ impl<'a, B: Bench, G: Gate, W: Wire, M: TimeSource> Context<'a, B, G, W, M> {
     /// - The next stage follows from the call's result.
     /// - At most eight calls take a snapshot.
     ///
-    /// The statistics count the calls that changed the job's slot, the refused allocations, and the
-    /// conflicts.
+    /// The statistics count the calls that changed the job's slot, the refused allocations and
+    /// changes, and the conflicts.
     pub fn work_off<R: Wait>(
         &self,
         rt: &R,
@@ -176,7 +176,8 @@ impl<'a, B: Bench, G: Gate, W: Wire, M: TimeSource> Context<'a, B, G, W, M> {
         }
     }
 
-    // Removes the program of the job's slot, and sets the next stage.
+    // Removes the program of the job's slot, and sets the next stage. It is the answer
+    // `Unavailable` if the removal can't be saved.
     #[inline(never)]
     fn remove<R: Wait>(
         &self,
@@ -190,8 +191,10 @@ impl<'a, B: Bench, G: Gate, W: Wire, M: TimeSource> Context<'a, B, G, W, M> {
         ensures ended { B.ended share.new.tallies ≡ B.ended share.old.tallies }
     {
         let log = &mut share.log;
-        let removal = self.bench.remove(rt, job, &mut share.tallies, log);
-        stage.removed(removal);
+        match self.bench.remove(rt, job, &mut share.tallies, log) {
+            Some(removal) => stage.removed(removal),
+            None => self.answer_unsaved(job, stage, share),
+        }
     }
 
     // Requests readings, takes a snapshot of the job's slot with them, and sets the next stage.
@@ -223,7 +226,7 @@ impl<'a, B: Bench, G: Gate, W: Wire, M: TimeSource> Context<'a, B, G, W, M> {
 
     // Runs the ticket's program once the gate lets the job through, commits the run, and sets the
     // next stage. After a conflict the next stage is another snapshot, if the job may take one
-    // more; otherwise it is the answer `Unavailable`.
+    // more; otherwise it is the answer `Unavailable`. So it is if the commit can't be saved.
     fn commit<R: Wait>(
         &self,
         rt: &R,
@@ -253,16 +256,19 @@ impl<'a, B: Bench, G: Gate, W: Wire, M: TimeSource> Context<'a, B, G, W, M> {
             ticket.readings(),
         );
         let now = self.now(rt, log);
-        let committed = self
-            .bench
-            .commit(rt, now, &outcome, &ticket, &mut share.tallies, log);
-        share.count_commit(&committed);
-        stage.step = Step::committed(*count, &outcome, &ticket, committed, &mut stage.answer);
+        let tallies = &mut share.tallies;
+        match self.bench.commit(rt, now, &outcome, &ticket, tallies, log) {
+            Some(committed) => {
+                share.count_commit(&committed);
+                let answer = &mut stage.answer;
+                stage.step = Step::committed(*count, &outcome, &ticket, committed, answer);
+            }
+            None => self.answer_unsaved(job, stage, share),
+        }
     }
 
     // Verifies the job's image, installs the program, and sets the next stage. If the image breaks
-    // a rule, or if memory is refused, the next stage is an answer with this reason. Then no shard
-    // is called.
+    // a rule, or if the program isn't installed, the next stage is an answer with this reason.
     #[inline(never)]
     fn install<R: Wait>(
         &self,
@@ -283,13 +289,13 @@ impl<'a, B: Bench, G: Gate, W: Wire, M: TimeSource> Context<'a, B, G, W, M> {
                 stage,
                 &mut share.log,
             ),
-            Err(Refusal::NoMemory) => self.answer_without_memory(job, stage, share),
+            Err(Refusal::NoMemory) => self.answer_uninstalled(job, stage, share),
         }
     }
 
     // Installs `program`, the verified program of the job's image, and sets the next stage. If
-    // memory for the program's handle is refused, the next stage is the answer `Unavailable`, and
-    // no shard is called.
+    // memory for the program's handle is refused, or the install can't be saved, the next stage is
+    // the answer `Unavailable`.
     fn install_program<R: Wait>(
         &self,
         rt: &R,
@@ -309,12 +315,15 @@ impl<'a, B: Bench, G: Gate, W: Wire, M: TimeSource> Context<'a, B, G, W, M> {
         match Arc::new(self.alloc, program) {
             Ok(program) => {
                 let log = &mut share.log;
-                let made = self
+                match self
                     .bench
-                    .install(rt, job, program, &mut share.tallies, log);
-                stage.made(receipt, made);
+                    .install(rt, job, program, &mut share.tallies, log)
+                {
+                    Some(made) => stage.made(receipt, made),
+                    None => self.answer_uninstalled(job, stage, share),
+                }
             }
-            Err(_) => self.answer_without_memory(job, stage, share),
+            Err(_) => self.answer_uninstalled(job, stage, share),
         }
     }
 
@@ -337,19 +346,31 @@ impl<'a, B: Bench, G: Gate, W: Wire, M: TimeSource> Context<'a, B, G, W, M> {
         self.bench.reject_image(job, answer, log);
     }
 
-    // Sets the answer of an install to `Unavailable`, since memory for the program can't be
-    // allocated. Counts and files the refusal.
-    fn answer_without_memory(
+    // Sets the answer of an install to `Unavailable`, since the program isn't installed. Counts and
+    // files the refusal.
+    fn answer_uninstalled(
         &self,
         job: &Job,
         stage: &mut Stage,
         share: &mut ShareOf<B::Tallies, B::Book>,
     )
         ensures answer { stage.new ≡ ToAnswer Unavailable }
-        ensures filed { HasFiled (LacksMemory job.now) share.old.log share.new.log }
+        ensures filed { HasFiled (RefusesInstall job.now) share.old.log share.new.log }
         ensures counted { share.new ≡ record share.old { log = share.new.log; refusals = saturated (share.old.refusals + 1) } }
     {
-        self.bench.lack_memory(job, &mut share.log);
+        self.bench.refuse_install(job, &mut share.log);
+        share.count_refusal();
+        stage.unavailable();
+    }
+
+    // Sets the job's answer to `Unavailable`, since the change of its slot, a commit or a removal,
+    // can't be saved. Counts and files the refusal.
+    fn answer_unsaved(&self, job: &Job, stage: &mut Stage, share: &mut ShareOf<B::Tallies, B::Book>)
+        ensures answer { stage.new ≡ ToAnswer Unavailable }
+        ensures filed { HasFiled (FailsToSave job.now) share.old.log share.new.log }
+        ensures counted { share.new ≡ record share.old { log = share.new.log; refusals = saturated (share.old.refusals + 1) } }
+    {
+        self.bench.fail_to_save(job, &mut share.log);
         share.count_refusal();
         stage.unavailable();
     }

@@ -1,28 +1,47 @@
-use Rattle.std.proofs.Common.{◌∙◌, ap, subst}
+use Rattle.std.proofs.Common.{◌∙◌, ap, inl, inr, refl, subst}
 use Rattle.fc_kinds.specs.Meaning.{Program}
 use Rattle.fc_registry.specs.Calls.{initial_vars_of}
+use Rattle.fc_registry.specs.Changes.{Installed}
 use Rattle.fc_registry.specs.declared.receipt.Receipt.{Receipt}
 use Rattle.fc_core.specs.Fits.{IsSafe}
 use Rattle.fc_core.specs.Stages.{made}
+use Rattle.fc_linear.specs.Operations.{RefusesInstall}
 use Rattle.fc_workers.specs.Answers.{IsSomeInstall}
 use Rattle.fc_calls.specs.Logged.{InstallsProgram}
-use Rattle.fc_workers.specs.Called.{worker_view}
-use Rattle.fc_workers.proofs.Steps.{install_step, refuse_step}
+use Rattle.fc_workers.specs.Called.{RefusesSave, worker_view}
+use Rattle.fc_workers.specs.Filed.{HasFiled}
+use Rattle.fc_workers.specs.Logs.{TrackedLog}
+use Rattle.fc_workers.proofs.Steps.{install_step, refuse_step, same_tallies}
 use Rattle.fc_workers.proofs.context.Context.install_program.Goals as goal
 
-pub returns-in-Ok-clause-step : goal.returns-in-Ok-clause-step
-returns-in-Ok-clause-step g c number =
-    let next = c.made.ensures ∙ ap (λ (r : Receipt). made r c.install-made.result) c.of-receipt.ensures in
-    let is = subst (λ (p : Program). IsSomeInstall (initial_vars_of c.args.job.now.ask) p c.install-made.result) c.in-Ok.ensures.ok c.install-made.ensures.made in
-    let installs = subst (λ (p : Program). g.B.Bench.logged (InstallsProgram c.args.job.now p c.install-made.result) c.args.share.now.log c.install-made.new.log)
-    c.in-Ok.ensures.ok c.install-made.ensures.logged in
+pub returns-in-Some-clause-step : goal.returns-in-Some-clause-step
+returns-in-Some-clause-step g c number =
+    let answer = c.in-Some.made in
+    let next = c.made.ensures ∙ ap (λ (r : Receipt). made r answer) c.of-receipt.ensures in
+    let is = subst (λ (p : Program). IsSomeInstall (initial_vars_of c.args.job.now.ask) p answer) c.in-Ok.ensures.ok c.in-Some.ensures.made in
+    let installs = subst (λ (p : Program). g.B.Bench.logged (InstallsProgram c.args.job.now p answer) c.args.share.now.log c.install.new.log)
+    c.in-Ok.ensures.ok c.in-Some.ensures.logged in
     let safe : IsSafe c.args.program = record { runs = c.requires.runs; longest = c.requires.accepted.shapely.cost } in
     install_step (worker_view g.B.Bench.changes g.B.Bench.ended g.B.Bench.called g.B.Bench.logged
     g.M.TimeSource.is_time g.M.TimeSource.is_random g.G.Gate.passed g.W.Wire.called) number c.args.job.now
-    c.args.program c.install-made.result c.args.share.now c.install-made.new.tallies c.install-made.new.log c.requires.judged safe installs is
-    c.install-made.ensures.changes next
+    c.args.program answer c.args.share.now c.install.new.tallies c.install.new.log c.requires.judged safe installs is
+    c.in-Some.ensures.changes next
+
+pub returns-in-Ok-clause-step : goal.returns-in-Ok-clause-step
+returns-in-Ok-clause-step g c number =
+    let job = c.args.job.now in
+    let after = c.answer_uninstalled.new.share.log in
+    let refused = c.in-None.ensures.refused refl in
+    let refuses = subst (λ (p : Program). g.B.Bench.called (RefusesSave job.origin.slot (Installed p (initial_vars_of job.ask)))) c.in-Ok.ensures.ok refused.0 in
+    let filed = subst (λ (l : TrackedLog). HasFiled (RefusesInstall job) l after) refused.1 c.answer_uninstalled.ensures.filed in
+    refuse_step (worker_view g.B.Bench.changes g.B.Bench.ended g.B.Bench.called g.B.Bench.logged
+    g.M.TimeSource.is_time g.M.TimeSource.is_random g.G.Gate.passed g.W.Wire.called) number job
+    c.args.share.now c.install.new.tallies after (inr (c.args.program, c.requires.judged, refuses)) filed c.in-None.ensures.changes c.answer_uninstalled.ensures.answer c.answer_uninstalled.ensures.counted
 
 pub returns-clause-step : goal.returns-clause-step
-returns-clause-step g c number = refuse_step (worker_view g.B.Bench.changes g.B.Bench.ended g.B.Bench.called g.B.Bench.logged
-    g.M.TimeSource.is_time g.M.TimeSource.is_random g.G.Gate.passed g.W.Wire.called)
-    number c.args.job.now c.args.share.now c.answer_without_memory.new.share.log c.requires.accepted.shapely.program.head c.answer_without_memory.ensures.filed c.answer_without_memory.ensures.answer c.answer_without_memory.ensures.counted
+returns-clause-step g c number =
+    let share = c.args.share.now in
+    let refused = c.answer_uninstalled-in-Err in
+    refuse_step (worker_view g.B.Bench.changes g.B.Bench.ended g.B.Bench.called g.B.Bench.logged
+    g.M.TimeSource.is_time g.M.TimeSource.is_random g.G.Gate.passed g.W.Wire.called) number c.args.job.now
+    share share.tallies refused.new.share.log (inl c.requires.accepted.shapely.program.head) refused.ensures.filed (same_tallies (g.B.Bench.changes share.tallies) c.args.job.now.origin.slot) refused.ensures.answer refused.ensures.counted

@@ -1,10 +1,24 @@
+use Rattle.std.proofs.Common.{refl, subst}
+use Rattle.fc_core.specs.Stage.{ToRemove}
+use Rattle.fc_linear.specs.Operations.{FailsToSave}
 use Rattle.fc_workers.specs.Called.{worker_view}
-use Rattle.fc_workers.proofs.Steps.{remove_step}
+use Rattle.fc_workers.specs.Filed.{HasFiled}
+use Rattle.fc_workers.specs.Logs.{TrackedLog}
+use Rattle.fc_workers.proofs.Steps.{remove_step, unsaved_step}
 use Rattle.fc_workers.proofs.context.Context.remove.Goals as goal
 
-pub returns-clause-step : goal.returns-clause-step
-returns-clause-step g c number =
+pub returns-in-Some-clause-step : goal.returns-in-Some-clause-step
+returns-in-Some-clause-step g c number =
     let s = (worker_view g.B.Bench.changes g.B.Bench.ended g.B.Bench.called g.B.Bench.logged
     g.M.TimeSource.is_time g.M.TimeSource.is_random g.G.Gate.passed g.W.Wire.called) in
-    remove_step s number c.args.job.now c.remove-removal.result c.args.share.now c.remove-removal.new.tallies c.remove-removal.new.log
-    c.remove-removal.ensures.logged c.remove-removal.ensures.removal c.remove-removal.ensures.changes c.removed.ensures
+    remove_step s number c.args.job.now c.in-Some.removal c.args.share.now c.remove.new.tallies c.remove.new.log
+    c.in-Some.ensures.logged c.in-Some.ensures.removal c.in-Some.ensures.changes c.removed.ensures
+
+pub returns-in-None-clause-step : goal.returns-in-None-clause-step
+returns-in-None-clause-step g c number =
+    let s = (worker_view g.B.Bench.changes g.B.Bench.ended g.B.Bench.called g.B.Bench.logged
+    g.M.TimeSource.is_time g.M.TimeSource.is_random g.G.Gate.passed g.W.Wire.called) in
+    let refused = c.in-None.ensures.refused refl in
+    let after = c.answer_unsaved.new.share.log in
+    let filed = subst (λ (l : TrackedLog). HasFiled (FailsToSave c.args.job.now) l after) refused.1 c.answer_unsaved.ensures.filed in
+    unsaved_step s number c.args.job.now ToRemove c.args.share.now c.remove.new.tallies after tt (refused.0, filed) c.in-None.ensures.changes c.answer_unsaved.ensures.answer c.answer_unsaved.ensures.counted

@@ -3,7 +3,7 @@ use Rattle.std.specs.Prelude.{MatchBool}
 use Rattle.fc_registry.specs.declared.job.Job.{Job}
 use Rattle.fc_workers.specs.Answers.{saturated}
 use Rattle.fc_workers.specs.Called.{worker_view}
-use Rattle.fc_workers.specs.Dispatch.{IsSentOrWorked, MayGo, MayHaveReadCost, logged_at, unsent}
+use Rattle.fc_workers.specs.Dispatch.{IsSentOrWorked, MayGo, MayHaveReadCost, least_cost, logged_at, unsent}
 use Rattle.fc_workers.specs.Logs.{TrackedLog}
 use Rattle.fc_workers.specs.Producing.{HasProduced}
 use Rattle.fc_workers.specs.Work.{IsReplied}
@@ -42,7 +42,7 @@ returns-then-may_go-clause-dispatched g c =
     let before = self.done.share.log in
     let after = gone.done.share.log in
     let still = still_produced_if g.B.Book.ServerName.first_job self.keys s g.B.Bench.files c.may_go.result self.offload self.job before after c.may_go.ensures.may c.requires.produced in
-    let may : MayGo s self.offload self.job before after = subst (λ (b : Bool). MatchBool b (MayGo s self.offload self.job before after) (MayHaveReadCost s self.offload self.job before after)) c.if-may_go.true c.may_go.ensures.may in
+    let may : MayGo s self.offload self.job before after = subst (λ (b : Bool). MatchBool b (MayGo s self.offload self.job before after) (MayHaveReadCost s (least_cost self.offload self.job) self.job before after)) c.if-may_go.true c.may_go.ensures.may in
     let may_so : MayGo s gone.offload gone.job before after = subst (λ (o : Offload). MayGo s o gone.job before after) (sym c.may_go.ensures.offload) (subst (λ (j : Job). MayGo s self.offload j before after) (sym c.may_go.ensures.job) may) in
     let dispatched = c.send_or_work.ensures.dispatched before may_so still.1 in
     subst (λ (d : Dispatched _). IsSentOrWorked s self.offload self.job (logged_at before d) new) c.may_go.ensures.called
@@ -63,7 +63,7 @@ returns-else-may_go-clause-dispatched g c =
     inr (record {
       sent = c.work.ensures.sent ∙ ap (λ (d : Dispatched _). d.sent) c.may_go.ensures.called;
       log = after;
-      stays = subst (λ (b : Bool). MatchBool b (MayGo s self.offload self.job before after) (MayHaveReadCost s self.offload self.job before after)) c.if-may_go.false c.may_go.ensures.may;
+      stays = subst (λ (b : Bool). MatchBool b (MayGo s self.offload self.job before after) (MayHaveReadCost s (least_cost self.offload self.job) self.job before after)) c.if-may_go.false c.may_go.ensures.may;
       track = still.1;
       worked = subst (λ (p : Share _). IsReplied s unsent self.job p new.share) share (subst (λ (j : Job). IsReplied s unsent j stayed.done.share new.share) c.may_go.ensures.job c.work.ensures.worked);
       ends = c.work.ensures.ends ∙ ap (λ (p : Share _). saturated (g.B.Bench.ended p.tallies + 1)) share;
