@@ -12,7 +12,8 @@ no_counts = record { shards = replicate 8 (replicate 8 0) }
 abbrev pub observers_of : List (List ℕ) → ℕ → ℕ
 observers_of shards n = slice_index_or (slice_index_or shards (n % 8) []) (n / 8) 0
 
--- a slot and the number of its observers after a space, as ` observers/7=2`; nothing if it has none.
+-- a slot and the number of its observers after a space, as ` observers/7=2`. It is empty if the
+-- slot has none.
 abbrev pub slot_text : ℕ → ℕ → List ℕ
 slot_text n count = if count == 0 then [] else codes " observers/" ++ (decimal n ++ (codes "=" ++ decimal count))
 

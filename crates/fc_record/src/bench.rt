@@ -146,6 +146,10 @@ impl<'a, B: Bench, C: Recorder> Bench for RecordedBench<'a, B, C> {
         self.bench.idle_until(rt, shard)
     }
 
+    fn is_saving(&self, slot: SlotNumber) -> bool {
+        self.bench.is_saving(slot)
+    }
+
     fn gauges<R: Wait>(&self, rt: &R, now: u64) -> FrontGauges {
         self.bench.gauges(rt, now)
     }
@@ -200,7 +204,7 @@ impl<'a, B: Bench, C: Recorder> Bench for RecordedBench<'a, B, C> {
         ticket: &Ticket<'_>,
         tallies: &mut B::Tallies,
         log: &mut TrackLog<B::Book>,
-    ) -> Committed {
+    ) -> Option<Committed> {
         self.bench.commit(rt, now, outcome, ticket, tallies, log)
     }
 
@@ -211,7 +215,7 @@ impl<'a, B: Bench, C: Recorder> Bench for RecordedBench<'a, B, C> {
         program: Arc<Verified>,
         tallies: &mut B::Tallies,
         log: &mut TrackLog<B::Book>,
-    ) -> Made {
+    ) -> Option<Made> {
         self.bench.install(rt, job, program, tallies, log)
     }
 
@@ -221,7 +225,7 @@ impl<'a, B: Bench, C: Recorder> Bench for RecordedBench<'a, B, C> {
         job: &Job,
         tallies: &mut B::Tallies,
         log: &mut TrackLog<B::Book>,
-    ) -> Removal {
+    ) -> Option<Removal> {
         self.bench.remove(rt, job, tallies, log)
     }
 
@@ -254,8 +258,12 @@ impl<'a, B: Bench, C: Recorder> Bench for RecordedBench<'a, B, C> {
         self.bench.reject_image(job, answer, log);
     }
 
-    fn lack_memory(&self, job: &Job, log: &mut TrackLog<B::Book>) {
-        self.bench.lack_memory(job, log);
+    fn refuse_install(&self, job: &Job, log: &mut TrackLog<B::Book>) {
+        self.bench.refuse_install(job, log);
+    }
+
+    fn fail_to_save(&self, job: &Job, log: &mut TrackLog<B::Book>) {
+        self.bench.fail_to_save(job, log);
     }
 
     fn respond<R: Wait>(

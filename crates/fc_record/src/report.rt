@@ -82,8 +82,8 @@ impl Report {
 
     /// Counts the lease that a shard was asked for, if it granted one.
     ///
-    /// Only the contract reads `emission`, which is the lease's notification if `outcome` is `Sent`.
-    /// The notification isn't counted itself.
+    /// Only the contract reads `emission`, which is the lease's notification if `outcome` is
+    /// `Sent`. The notification isn't counted itself.
     pub fn count_lease(&mut self, outcome: NotifyOutcome, emission: &Emission)
         ensures { self.new ≡ lease_counted (notified_as outcome emission.now) self.old }
     {

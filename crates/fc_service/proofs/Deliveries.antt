@@ -20,9 +20,8 @@ use Rattle.fc_server.specs.Ingresses.{IngressCalls}
 use Rattle.fc_server.specs.Notified.{Notified, is_given}
 use Rattle.fc_server.specs.declared.engine.FireOutcome.{FireOutcome}
 use Rattle.fc_server.specs.declared.engine.FireOutcome.TheVariants as fired
-use Rattle.fc_server.specs.States.{ServerState, first_server}
-use Rattle.fc_server.specs.declared.server.Begin.{Begin}
-use Rattle.fc_workers.specs.Asked.{IsLoggedCall}
+use Rattle.fc_server.specs.States.{ServerState}
+use Rattle.fc_workers.specs.Asked.{IsLoggedCall, Peripherals}
 use Rattle.fc_workers.specs.Called.{WorkerView}
 use Rattle.fc_workers.specs.Counts.{Tallies}
 use Rattle.fc_workers.specs.Deliveries.{Delivery, deliveries_in}
@@ -34,8 +33,8 @@ use Rattle.fc_workers.specs.OneOrder.{filed_in, logs_of}
 use Rattle.fc_workers.specs.Workers.{Dispatched, Share}
 use Rattle.fc_workers.specs.declared.call_log.CallLog.{CallLog}
 use Rattle.fc_workers.specs.declared.closed.ClosedServer.{ClosedServer}
+use Rattle.fc_workers.specs.SharedStores.{Saving}
 use Rattle.fc_workers.specs.declared.dispatcher.Offload.{Offload}
-use Rattle.fc_workers.specs.declared.dispatcher.Offload.TheVariants.{Expensive}
 use Rattle.fc_workers.proofs.Deliveries.{Delivers, MayDeliver, both, filed_delivers, taken_in, timer_fired, turn_asked, unchanged}
 use Rattle.fc_workers.proofs.Filed.{bench_files}
 use Rattle.fc_workers.proofs.OneDispatcher.{dispatcher_delivers}
@@ -44,7 +43,7 @@ use Rattle.fc_service.proofs.Unreported.{reported_simulates, rounds_held}
 use Rattle.fc_service.specs.Firing.{AreFired, Firing, FiresOnce, SkipsBeat, fired_calls, firing_from, readies_firing}
 use Rattle.fc_service.specs.Pooled.{AreSharesAt, FiresPooled, IsNew, PassesOverPooled, PooledIngress, offload_where, pooled_calls}
 use Rattle.fc_service.specs.Reporting.{readies_through, reported_calls, reporting_from}
-use Rattle.fc_service.specs.Rounds.{HasServedPooled, IsReceivedBy, IsRoundBy, Round, RoundCalls, deliveries_of, delivery_at, served_view}
+use Rattle.fc_service.specs.Rounds.{HasServedPooled, IsReceivedBy, IsRoundBy, Round, RoundCalls, deliveries_of, delivery_at, offload_of, served_view}
 use Rattle.fc_service.specs.declared.replies.Replies.{Replies}
 
 -- ---- rounds of any server
@@ -260,14 +259,17 @@ abbrev Pool : Type 0
 Pool = PooledIngress Tallies
 
 module _ (sensors : List ℕ → Type 0) (e : RoundCalls)
-    (Recorded : Requested → CallLog → CallLog → Type 0) (began : ServerState) where
+    (Recorded : Requested → CallLog → CallLog → Type 0) (Saves : Saving) (began : ServerState) where
   abbrev view : WorkerView Tallies
-  view = served_view sensors e Recorded began
+  view = served_view sensors e Recorded Saves began
+
+  abbrev peripherals_of : Peripherals
+  peripherals_of = record { are_readings = AreReadAt e.time sensors; saves = Saves }
 
   files : FilesCalls view
   files = bench_files _ _ _ _ _ _ _ _
-      (recorded_files (IsLoggedCall began (AreReadAt e.time sensors)) Recorded
-      (locked_files began (AreReadAt e.time sensors)))
+      (recorded_files (IsLoggedCall began peripherals_of) Recorded
+      (locked_files began peripherals_of))
 
   abbrev calls : IngressCalls Pool
   calls = pooled_calls view
@@ -291,11 +293,11 @@ module _ (sensors : List ℕ → Type 0) (e : RoundCalls)
         (timed_counts (By who) calls (pooled_counts view files who)) (readies_firing Ready)
         (λ now old new w. ready now old.ingress new.ingress w.0)
 
-  module _ (Reported : Report → CallLog → CallLog → Type 0) (workers limit : ℕ) (begin : Begin)
+  module _ (Reported : Report → CallLog → CallLog → Type 0) (workers limit : ℕ) (persistent : Bool) (start : ServerState)
       (before after : Option (List Receive)) (replies : Replies) where
     abbrev Served : List Timer → Option ℕ → Type 0
     Served timers every =
-        HasServedPooled view timers every Reported e workers limit begin before after replies
+        HasServedPooled view timers every Reported e workers limit persistent start before after replies
 
     -- the deliveries of the rounds are those of the one order.
     in_order : (timers : List Timer) (every : Option ℕ) (w : Served timers every)
@@ -303,9 +305,9 @@ module _ (sensors : List ℕ → Type 0) (e : RoundCalls)
         → deliveries_in w.order.order.calls ≡ ds
     in_order timers every w ds last is by =
         delivered_in_order view files (9 + (workers + 1)) w.channel
-        (offload_where w.has_workers (Expensive 6000)) w.first w.last w.new ds
+        (offload_where w.has_workers (offload_of persistent)) w.first w.last w.new ds
         (subst (λ (d : Pool). By w.new.log.who ds w.first d) (sym is) by)
-        w.shares w.worked (first_server begin) w.closed w.order
+        w.shares w.worked start w.closed w.order
 
     pub untimed : (w : Served [] None)
         → deliveries_in w.order.order.calls ≡ deliveries_of w.run.rounds

@@ -8,6 +8,7 @@ use Rattle.fc_service.specs.Playing.{IsFedByLines, IsPlayedBeside}
 use Rattle.fc_service.specs.Pooled.{PooledIngress, IsFedBeside, offload_where, locked_view, pooled_calls}
 use Rattle.fc_service.specs.declared.replies.Replies.{Replies}
 use Rattle.fc_workers.specs.Called.{WorkerView}
+use Rattle.fc_workers.specs.SharedStores.{Saving}
 use Rattle.fc_workers.specs.declared.closed.ClosedServer.{ClosedServer}
 use Rattle.fc_workers.specs.declared.dispatcher.Offload.{Offload}
 use Rattle.fc_workers.specs.declared.dispatcher.Offload.TheVariants.{Every}
@@ -39,9 +40,9 @@ pub fed_over : {T : Type 0} {F X : Type 0} (view : ServerState → WorkerView T)
 fed_over view Drives first same offload workers driver given replies closed is w = subst (λ (s : ServerState). IsFedBeside (view s) Drives s offload workers driver given replies closed) is w
 
 -- lines that a driver played with workers, if it played them to the end.
-pub played_beside : {F E : Type 0} (begin : Begin) (workers : ℕ) (lines : F → Option (List ℕ)) (driver : F) (r : Result (Unit {0}) E) (has_workers : Bool) (replies : Replies) (closed : ClosedServer)
-    → IsFedBeside (locked_view (first_server begin) (λ readings before after. ⊤) (λ now before after. ⊤) (λ random. ⊤) (λ call before after. ⊤) (λ change before after. after ≡ before))
+pub played_beside : {F E : Type 0} (Saves : Saving) (begin : Begin) (workers : ℕ) (lines : F → Option (List ℕ)) (driver : F) (r : Result (Unit {0}) E) (has_workers : Bool) (replies : Replies) (closed : ClosedServer)
+    → IsFedBeside (locked_view (first_server begin) (λ readings before after. ⊤) Saves (λ now before after. ⊤) (λ random. ⊤) (λ call before after. ⊤) (λ change before after. after ≡ before))
     (λ calls f first last given. OnOk given (IsFedByLines calls (lines f) first last)) (first_server begin) (offload_where has_workers Every) workers driver r replies closed
-    → OnOk r ((workers_begun : Bool) × (counted : Replies) × IsPlayedBeside begin (offload_where workers_begun Every) workers (lines driver) counted)
-played_beside begin workers lines driver (Ok x) has_workers replies closed w = (has_workers, replies, (closed, fed_as _ _ _ (first_server begin) _ workers driver (Ok x) (lines driver) (tt {0}) replies closed (λ first last fed. fed) w))
-played_beside begin workers lines driver (Err e) has_workers replies closed w = tt
+    → OnOk r ((workers_begun : Bool) × (counted : Replies) × IsPlayedBeside Saves begin (offload_where workers_begun Every) workers (lines driver) counted)
+played_beside Saves begin workers lines driver (Ok x) has_workers replies closed w = (has_workers, replies, (closed, fed_as _ _ _ (first_server begin) _ workers driver (Ok x) (lines driver) (tt {0}) replies closed (λ first last fed. fed) w))
+played_beside Saves begin workers lines driver (Err e) has_workers replies closed w = tt

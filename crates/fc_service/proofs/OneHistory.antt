@@ -19,8 +19,9 @@ use Rattle.fc_core.specs.Stage.{Stage, ToDescribe, ToInstall, ToList, ToMatch, T
 use Rattle.fc_core.specs.Stages.{first_stage}
 use Rattle.fc_server.specs.Notified.{is_given, notification_in}
 use Rattle.fc_server.specs.Serving.{Handled, Serves, TurnGiven, next, peeked_below, run_through, signalled_below, turned, worked}
-use Rattle.fc_server.specs.States.{ServerState, begin_of}
+use Rattle.fc_server.specs.States.{ServerState, begin_of, first_server}
 use Rattle.fc_server.specs.declared.server.Begin.{Begin}
+use Rattle.fc_server.proofs.Beginning.{begins}
 use Rattle.fc_lines.specs.declared.line.Line.{Line}
 use Rattle.fc_lines.specs.declared.line.Line.TheVariants as lines
 use Rattle.fc_lines.specs.Emissions.{peer_endpoint, printed}
@@ -268,11 +269,11 @@ module _ (sensors : List ℕ → Type 0) where
       goes_on_as _ _ _ (map (λ s. s.emission) (sendings_in rounds ++ r.sendings)) refl (sym (map-append (λ (s : Sending). s.emission) (sendings_in rounds) r.sendings)) all
 
 -- it is one history.
-pub one_history : (begin : Begin) (ds : List Arrival) (es : List Emission) (s : ServerState) → GoesOn (begin_of begin) ds es s → IsOneHistory begin ds es s
-one_history begin ds es s w = record {
+pub one_history : (h : History) (ds : List Arrival) (es : List Emission) (s : ServerState) → GoesOn h ds es s → IsOneHistory h ds es s
+one_history h ds es s w = record {
   entries = w.follows.entries;
   tasks = w.tasks;
-  serves = subst (λ (h : History). Serves h s w.tasks) w.follows.is w.serves;
+  serves = subst (λ (later : History). Serves later s w.tasks) w.follows.is w.serves;
   arrives = w.follows.arrives_are;
   emits = w.follows.emits_are;
 }
@@ -314,13 +315,22 @@ module _ (sensors : List ℕ → Type 0) (Recorded : Requested → CallLog → C
       let before = recorded_go_on rounds old w.0 h tasks w.1 v in
       round_goes_after sensors r rounds w.0.alone new.alone h before (unrecorded_round r w.0 new w.2)
 
-pub rounds_are_one_history : (sensors : List ℕ → Type 0) (e : RoundCalls) (Recorded : Requested → CallLog → CallLog → Type 0) (limit : ℕ) (begin : Begin)
+-- the history that begins with empty slots leaves the first server without jobs.
+pub begins_empty : (begin : Begin) → Serves (begin_of begin) (first_server begin) []
+begins_empty begin = begins begin.serial begin.id begin.policy (first_server begin) refl refl refl
+
+-- a history that leaves the state in which a server started leaves the server.
+pub leaves_first : (h : History) (start : ServerState) (first : Recording) → first.alone.engine ≡ start → Serves h start [] → Leaves h first.alone []
+leaves_first h start first is serves = subst (λ (s : ServerState). Serves h s []) (sym is) serves
+
+pub rounds_are_one_history : (sensors : List ℕ → Type 0) (e : RoundCalls) (Recorded : Requested → CallLog → CallLog → Type 0) (limit : ℕ) (start : ServerState)
     (before after : Option (List Receive)) (replies : Replies)
-    (w : HasServed sensors e Recorded limit begin before after replies)
-    → IsOneHistory begin (arrivals_in w.run.rounds) (map (λ s. s.emission) (sendings_in w.run.rounds)) w.last.alone.engine
-rounds_are_one_history sensors e Recorded limit begin before after replies w =
-    one_history begin (arrivals_in w.run.rounds) (map (λ s. s.emission) (sendings_in w.run.rounds)) w.last.alone.engine
-    (recorded_go_on sensors Recorded w.run.rounds w.first w.last (begin_of begin) [] (any_wait _ _ w.run.rounds w.first w.last w.run.has.are_rounds) w.begins)
+    (w : HasServed sensors e Recorded limit start before after replies)
+    → (h : History) → Serves h start []
+    → IsOneHistory h (arrivals_in w.run.rounds) (map (λ s. s.emission) (sendings_in w.run.rounds)) w.last.alone.engine
+rounds_are_one_history sensors e Recorded limit start before after replies w h serves =
+    one_history h (arrivals_in w.run.rounds) (map (λ s. s.emission) (sendings_in w.run.rounds)) w.last.alone.engine
+    (recorded_go_on sensors Recorded w.run.rounds w.first w.last h [] (any_wait _ _ w.run.rounds w.first w.last w.run.has.are_rounds) (leaves_first h start w.first w.begins serves))
 
 -- ---- lines
 
@@ -358,9 +368,9 @@ lines_go_on (p ∷ played) old new h tasks w v =
     (line_goes_on p w.0 new before.later before.tasks w.2 before.serves)
 
 pub lines_are_one_history : (begin : Begin) (had before after : Option (List ℕ)) (w : IsPlayedOut begin had before after)
-    → IsOneHistory begin (arrivals_in_lines w.played.lines) (sent_in_lines w.played.lines) w.last.engine
+    → IsOneHistory (begin_of begin) (arrivals_in_lines w.played.lines) (sent_in_lines w.played.lines) w.last.engine
 lines_are_one_history begin had before after w =
-    one_history begin (arrivals_in_lines w.played.lines) (sent_in_lines w.played.lines) w.last.engine
+    one_history (begin_of begin) (arrivals_in_lines w.played.lines) (sent_in_lines w.played.lines) w.last.engine
     (lines_go_on w.played.lines w.first w.last (begin_of begin) [] w.played.played w.begins)
 
 -- the text printed for lines is that of the datagrams sent for them.

@@ -17,9 +17,7 @@ use Rattle.fc_record.specs.declared.report.Report.{Report}
 use Rattle.fc_registry.specs.Shards.{shard_at}
 use Rattle.fc_registry.specs.Watches.{observer_counts, watch_at}
 use Rattle.fc_server.specs.Ingresses.{IngressCalls}
-use Rattle.fc_server.specs.Serving.{Serves}
-use Rattle.fc_server.specs.States.{begin_of}
-use Rattle.fc_server.specs.declared.server.Begin.{Begin}
+use Rattle.fc_server.specs.States.{ServerState}
 use Rattle.fc_workers.specs.Answers.{saturated}
 use Rattle.fc_workers.specs.declared.call_log.CallLog.{CallLog}
 use Rattle.fc_service.specs.SingleThread.{ReadiesRecorded}
@@ -67,12 +65,12 @@ module _ {S : Type 0} (Reported : Report → CallLog → CallLog → Type 0) (ca
 
 -- a server on one thread has run, with timers or without, and with reports or without.
 pub served_by : (timers : List Timer) (every : Option ℕ) (Reported : Report → CallLog → CallLog → Type 0) (sensors : List ℕ → Type 0) (e : RoundCalls) (Recorded : Requested → CallLog → CallLog → Type 0)
-    (limit : ℕ) (begin : Begin) (before after : Option (List Receive)) (first last : Recording) (replies : Replies) → Serves (begin_of begin) first.alone.engine []
+    (limit : ℕ) (start : ServerState) (before after : Option (List Receive)) (first last : Recording) (replies : Replies) → first.alone.engine ≡ start
     → HasReceivedWith timers every Reported (ReadiesRecorded sensors) (recorded_calls Recorded) e limit before after first last replies
-    → HasServedBy timers every Reported sensors e Recorded limit begin before after replies
-served_by [] None Reported sensors e Recorded limit begin before after first last replies begins run = record { first = first; last = last; begins = begins; run = run }
-served_by [] (Some every) Reported sensors e Recorded limit begin before after first last replies begins run = record { first = first; last = last; begins = begins; run = run }
-served_by (t ∷ ts) every Reported sensors e Recorded limit begin before after first last replies begins run = record { first = first; last = last; begins = begins; run = run }
+    → HasServedBy timers every Reported sensors e Recorded limit start before after replies
+served_by [] None Reported sensors e Recorded limit start before after first last replies begins run = record { first = first; last = last; begins = begins; run = run }
+served_by [] (Some every) Reported sensors e Recorded limit start before after first last replies begins run = record { first = first; last = last; begins = begins; run = run }
+served_by (t ∷ ts) every Reported sensors e Recorded limit start before after first last replies begins run = record { first = first; last = last; begins = begins; run = run }
 
 -- a server has run with timers, if there are some.
 pub run_with : {S : Type 0} (timers : List Timer) (every : Option ℕ) (Reported : Report → CallLog → CallLog → Type 0) (Readies : ℕ → S → S → Type 0) (calls : IngressCalls S) (e : RoundCalls)

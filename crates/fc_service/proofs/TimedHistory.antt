@@ -9,10 +9,9 @@ use Rattle.fc_core.specs.declared.event.Event.TheVariants.{Fire}
 use Rattle.fc_core.specs.declared.stage.Task.{Task}
 use Rattle.fc_core.specs.History.{History}
 use Rattle.fc_server.specs.Serving.{FiresTimer, Serves, next, run_through}
-use Rattle.fc_server.specs.States.{ServerState, begin_of}
+use Rattle.fc_server.specs.States.{ServerState}
 use Rattle.fc_server.specs.declared.engine.FireOutcome.{FireOutcome}
 use Rattle.fc_server.specs.declared.engine.FireOutcome.TheVariants.{Ended, Refused, Sent}
-use Rattle.fc_server.specs.declared.server.Begin.{Begin}
 use Rattle.fc_server.specs.declared.alone.SingleThread.{SingleThread}
 use Rattle.fc_server.specs.Ingresses.{IngressCalls}
 use Rattle.fc_server.specs.Flushing.{AreStepsBy, Asked, FlushingStep, Passed, Resent, sent_in_steps}
@@ -30,7 +29,7 @@ use Rattle.fc_service.specs.Rounds.{HasServedTimed, IsReceivedBy, IsRoundBy, Rou
 use Rattle.fc_service.specs.SingleThread.{ReadiesRecorded}
 use Rattle.fc_service.specs.Traffic.{Sending}
 use Rattle.fc_service.specs.declared.replies.Replies.{Replies}
-use Rattle.fc_service.proofs.OneHistory.{AreChained, any_wait, GoesOn, Leaves, both_go_on, datagram_goes_on, goes_on_as, none_follows, one_follows, one_history, passed_goes_on, run_follows, steps_go_on}
+use Rattle.fc_service.proofs.OneHistory.{AreChained, any_wait, GoesOn, Leaves, both_go_on, datagram_goes_on, goes_on_as, leaves_first, none_follows, one_follows, one_history, passed_goes_on, run_follows, steps_go_on}
 
 -- no timer has a job at a worker.
 abbrev AreFree : List Timer → Type 0
@@ -169,13 +168,13 @@ module _ (Recorded : Requested → CallLog → CallLog → Type 0) where
           subst AreFree (sym round.1) (stay_free r.now w.0.timers before.2),
         )
 
-pub timed_rounds_are_one_history : (sensors : List ℕ → Type 0) (e : RoundCalls) (Reported : Report → CallLog → CallLog → Type 0) (Recorded : Requested → CallLog → CallLog → Type 0) (timers : List Timer) (limit : ℕ) (begin : Begin)
+pub timed_rounds_are_one_history : (sensors : List ℕ → Type 0) (e : RoundCalls) (Reported : Report → CallLog → CallLog → Type 0) (Recorded : Requested → CallLog → CallLog → Type 0) (timers : List Timer) (limit : ℕ) (start : ServerState)
     (before after : Option (List Receive)) (replies : Replies) → All (λ t. t.offloaded ≡ false) timers
-    → (w : HasServedTimed timers None Reported sensors e Recorded limit begin before after replies)
-    → IsOneHistory begin (timed_arrivals_in w.run.run.rounds timers) (map (λ s. s.emission) (sendings_in w.run.run.rounds)) w.last.alone.engine
-timed_rounds_are_one_history sensors e Reported Recorded timers limit begin before after replies free w =
+    → (w : HasServedTimed timers None Reported sensors e Recorded limit start before after replies)
+    → (h : History) → Serves h start [] → IsOneHistory h (timed_arrivals_in w.run.run.rounds timers) (map (λ s. s.emission) (sendings_in w.run.run.rounds)) w.last.alone.engine
+timed_rounds_are_one_history sensors e Reported Recorded timers limit start before after replies free w h serves =
     let arrived = timed_arrivals_in w.run.run.rounds timers in
     let emitted = map (λ s. s.emission) (sendings_in w.run.run.rounds) in
-    subst (λ (s : Recording). IsOneHistory begin arrived emitted s.alone.engine) (sym w.run.last_is)
-    (one_history begin arrived emitted w.run.firing.ingress.alone.engine
-    (rounds_go_on Recorded sensors w.run.run.rounds (record { ingress = w.first; timers = timers }) w.run.firing (begin_of begin) [] (each_free timers free) (any_wait _ _ w.run.run.rounds _ w.run.firing w.run.run.has.are_rounds) w.begins).0)
+    subst (λ (s : Recording). IsOneHistory h arrived emitted s.alone.engine) (sym w.run.last_is)
+    (one_history h arrived emitted w.run.firing.ingress.alone.engine
+    (rounds_go_on Recorded sensors w.run.run.rounds (record { ingress = w.first; timers = timers }) w.run.firing h [] (each_free timers free) (any_wait _ _ w.run.run.rounds _ w.run.firing w.run.run.has.are_rounds) (leaves_first h start w.first w.begins serves)).0)

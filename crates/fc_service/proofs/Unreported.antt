@@ -15,9 +15,10 @@ use Rattle.fc_server.specs.Flushing.{AreStepsBy, Asked, Passed, Resent, Flushing
 use Rattle.fc_server.specs.Ingresses.{IngressCalls}
 use Rattle.fc_server.specs.Notified.{Notified}
 use Rattle.fc_workers.specs.declared.call_log.CallLog.{CallLog}
-use Rattle.fc_server.specs.States.{begin_of}
-use Rattle.fc_server.specs.declared.server.Begin.{Begin}
-use Rattle.fc_service.proofs.OneHistory.{AreChained, one_history, recorded_go_on}
+use Rattle.fc_core.specs.History.{History}
+use Rattle.fc_server.specs.Serving.{Serves}
+use Rattle.fc_server.specs.States.{ServerState}
+use Rattle.fc_service.proofs.OneHistory.{AreChained, leaves_first, one_history, recorded_go_on}
 use Rattle.fc_service.proofs.TimedHistory.{each_free, rounds_go_on}
 use Rattle.fc_service.specs.Firing.{Firing, fired_calls, firing_from, readies_firing}
 use Rattle.fc_service.specs.Histories.{IsOneHistory, arrivals_in, timed_arrivals_in}
@@ -88,28 +89,28 @@ module _ {S : Type 0} (Reported : Report → CallLog → CallLog → Type 0) (ca
     notifies = λ shard now old new told w. w.0;
   }
 
-pub reported_rounds : (sensors : List ℕ → Type 0) (e : RoundCalls) (Reported : Report → CallLog → CallLog → Type 0) (Recorded : Requested → CallLog → CallLog → Type 0) (every limit : ℕ) (begin : Begin)
-    (before after : Option (List Receive)) (replies : Replies) (w : HasServedReported every Reported sensors e Recorded limit begin before after replies)
-    → IsOneHistory begin (arrivals_in w.run.run.rounds) (map (λ s. s.emission) (sendings_in w.run.run.rounds)) w.last.alone.engine
-reported_rounds sensors e Reported Recorded every limit begin before after replies w =
+pub reported_rounds : (sensors : List ℕ → Type 0) (e : RoundCalls) (Reported : Report → CallLog → CallLog → Type 0) (Recorded : Requested → CallLog → CallLog → Type 0) (every limit : ℕ) (start : ServerState)
+    (before after : Option (List Receive)) (replies : Replies) (w : HasServedReported every Reported sensors e Recorded limit start before after replies)
+    → (h : History) → Serves h start [] → IsOneHistory h (arrivals_in w.run.run.rounds) (map (λ s. s.emission) (sendings_in w.run.run.rounds)) w.last.alone.engine
+reported_rounds sensors e Reported Recorded every limit start before after replies w h serves =
     let rounds = w.run.run.rounds in
     let emitted = map (λ s. s.emission) (sendings_in rounds) in
     let last = w.run.reporting.ingress in
     let chained = rounds_held (λ r. r.ingress) (readies_through (ReadiesRecorded sensors)) (ReadiesRecorded sensors) (λ now old new w. w.0) _ (recorded_calls Recorded) (reported_simulates Reported (recorded_calls Recorded)) rounds (reporting_from every w.run.log w.first) w.run.reporting w.run.run.has.are_rounds in
-    subst (λ (s : Recording). IsOneHistory begin (arrivals_in rounds) emitted s.alone.engine) (sym w.run.last_is)
-    (one_history begin (arrivals_in rounds) emitted last.alone.engine (recorded_go_on sensors Recorded rounds w.first last (begin_of begin) [] chained w.begins))
+    subst (λ (s : Recording). IsOneHistory h (arrivals_in rounds) emitted s.alone.engine) (sym w.run.last_is)
+    (one_history h (arrivals_in rounds) emitted last.alone.engine (recorded_go_on sensors Recorded rounds w.first last h [] chained (leaves_first h start w.first w.begins serves)))
 
 -- the same with timers.
-pub timed_reported_rounds : (sensors : List ℕ → Type 0) (e : RoundCalls) (Reported : Report → CallLog → CallLog → Type 0) (Recorded : Requested → CallLog → CallLog → Type 0) (timers : List Timer) (every limit : ℕ) (begin : Begin)
+pub timed_reported_rounds : (sensors : List ℕ → Type 0) (e : RoundCalls) (Reported : Report → CallLog → CallLog → Type 0) (Recorded : Requested → CallLog → CallLog → Type 0) (timers : List Timer) (every limit : ℕ) (start : ServerState)
     (before after : Option (List Receive)) (replies : Replies) → All (λ t. t.offloaded ≡ false) timers
-    → (w : HasServedTimed timers (Some every) Reported sensors e Recorded limit begin before after replies)
-    → IsOneHistory begin (timed_arrivals_in w.run.run.run.rounds timers) (map (λ s. s.emission) (sendings_in w.run.run.run.rounds)) w.last.alone.engine
-timed_reported_rounds sensors e Reported Recorded timers every limit begin before after replies free w =
+    → (w : HasServedTimed timers (Some every) Reported sensors e Recorded limit start before after replies)
+    → (h : History) → Serves h start [] → IsOneHistory h (timed_arrivals_in w.run.run.run.rounds timers) (map (λ s. s.emission) (sendings_in w.run.run.run.rounds)) w.last.alone.engine
+timed_reported_rounds sensors e Reported Recorded timers every limit start before after replies free w h serves =
     let rounds = w.run.run.run.rounds in
     let arrived = timed_arrivals_in rounds timers in
     let emitted = map (λ s. s.emission) (sendings_in rounds) in
     let first = firing_from timers w.first in
     let last = w.run.run.reporting.ingress in
     let chained = rounds_held (λ r. r.ingress) (readies_through (readies_firing (ReadiesRecorded sensors))) (readies_firing (ReadiesRecorded sensors)) (λ now old new w. w.0) _ (fired_calls (recorded_calls Recorded)) (reported_simulates Reported (fired_calls (recorded_calls Recorded))) rounds (reporting_from every w.run.run.log first) w.run.run.reporting w.run.run.run.has.are_rounds in
-    subst (λ (s : Recording). IsOneHistory begin arrived emitted s.alone.engine) (sym (w.run.last_is ∙ ap (λ (f : Firing Recording). f.ingress) w.run.run.last_is))
-    (one_history begin arrived emitted last.ingress.alone.engine (rounds_go_on Recorded sensors rounds first last (begin_of begin) [] (each_free timers free) chained w.begins).0)
+    subst (λ (s : Recording). IsOneHistory h arrived emitted s.alone.engine) (sym (w.run.last_is ∙ ap (λ (f : Firing Recording). f.ingress) w.run.run.last_is))
+    (one_history h arrived emitted last.ingress.alone.engine (rounds_go_on Recorded sensors rounds first last h [] (each_free timers free) chained (leaves_first h start w.first w.begins serves)).0)

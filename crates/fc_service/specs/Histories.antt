@@ -5,11 +5,10 @@ use Rattle.coap_msg.specs.declared.types.Emission.{Emission}
 use Rattle.fc_core.specs.declared.event.Event.{Event}
 use Rattle.fc_core.specs.declared.event.Event.TheVariants.{Deliver, Fire, Tick}
 use Rattle.fc_core.specs.declared.stage.Task.{Task}
-use Rattle.fc_core.specs.History.{Entry}
-use Rattle.fc_server.specs.declared.server.Begin.{Begin}
+use Rattle.fc_core.specs.History.{Entry, History}
 use Rattle.fc_core.specs.Laws.{followed_by}
 use Rattle.fc_server.specs.Serving.{Serves}
-use Rattle.fc_server.specs.States.{ServerState, begin_of}
+use Rattle.fc_server.specs.States.{ServerState}
 use Rattle.fc_lines.specs.declared.line.Line.{Line}
 use Rattle.fc_lines.specs.declared.line.Line.TheVariants as lines
 use Rattle.fc_lines.specs.Emissions.{peer_endpoint}
@@ -38,13 +37,13 @@ arrived_by (Tick now) = Silence now ∷ []
 arrived_by (Fire slot now) = Beat now slot ∷ []
 arrived_by other = []
 
--- there are events of a server from its initial state, each with a permitted emission. They leave
--- this server. Exactly these datagrams were delivered, time passed if none came, and exactly these
+-- there are events of a server after this history, each with a permitted emission. They leave this
+-- server. Exactly these datagrams were delivered, time passed if none came, and exactly these
 -- timers fired, each at its time, in this order. These are the emissions, the oldest first.
-pub record IsOneHistory (begin : Begin) (arrived : List Arrival) (emitted : List Emission) (s : ServerState) : Type 0 where
+pub record IsOneHistory (before : History) (arrived : List Arrival) (emitted : List Emission) (s : ServerState) : Type 0 where
   pub entries : List Entry
   pub tasks : List Task
-  pub serves : Serves (followed_by (begin_of begin) entries) s tasks
+  pub serves : Serves (followed_by before entries) s tasks
   pub arrives : flat_map (λ r. arrived_by r.event) entries ≡ arrived
   pub emits : flat_map (λ r. option_to_list r.emitted) entries ≡ emitted
 

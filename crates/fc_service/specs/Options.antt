@@ -16,8 +16,8 @@ HasNumber (Some text) n = IsNumber text n
 
 -- `o` has the values of the options that a command line gives. The listening address is that of
 -- `--bind` with the port of `--port`. It is reported if a value of `--log` is `info`. The numbers
--- of workers and of datagrams are those of `--workers` and `--limit`. The path of the sensor file
--- is that of `--readings`, if the option is given.
+-- of workers and of datagrams are those of `--workers` and `--limit`. The paths of the sensor file
+-- and of the store are those of `--readings` and `--store`, if these options are given.
 pub record AreServeOptions (f : Found) (o : ServeOptions) : Type 0 where
   pub bind : List ℕ
   pub bind_is : first_value f (codes "bind") ≡ Some bind
@@ -29,3 +29,4 @@ pub record AreServeOptions (f : Found) (o : ServeOptions) : Type 0 where
   pub limit : HasNumber (first_value f (codes "limit")) o.limit
   pub policy : IsPolicyIn f o.policy
   pub readings : option_map (λ s. s.now) o.readings ≡ first_value f (codes "readings")
+  pub store : option_map (λ s. s.now) o.store ≡ first_value f (codes "store")

@@ -22,6 +22,7 @@ use Rattle.fc_server.specs.Flushing.{AreFlushed, AreStepsBy, FlushingStep, sent_
 use Rattle.fc_server.specs.declared.alone.SingleThread.{SingleThread}
 use Rattle.fc_service.specs.declared.replies.Replies.{Replies}
 use Rattle.fc_workers.specs.declared.dispatcher.Offload.{Offload}
+use Rattle.fc_workers.specs.SharedStores.{Saving}
 
 -- the text printed for a sent datagram.
 abbrev pub output_of : Option Emission → List ℕ
@@ -142,10 +143,11 @@ pub record IsFedByLines {S : Type 0} (calls : IngressCalls S) (had : Option (Lis
   pub played : HasPlayed (λ readings old new. new ≡ old) (waited_calls calls) first last had left before after
   pub end : IsAtEnd left
 
--- all lines of a reader were played in this way by a new dispatcher with this number of workers;
--- the dispatcher's server has this initial state. It has sent the emissions of its jobs, and the
--- readings of its device are those of the lines; nothing is known of either. No change is recorded.
-abbrev pub IsPlayedBeside : Begin → Offload → ℕ → Option (List ℕ) → Replies → Type 0
-IsPlayedBeside begin offload workers had replies =
-    (closed : ClosedServer) × IsFedBeside (locked_view (first_server begin) (λ readings before after. ⊤) (λ now before after. ⊤) (λ random. ⊤) (λ call before after. ⊤) (λ change before after. after ≡ before))
+-- all lines of a reader were played in this way by a new dispatcher with this number of workers.
+-- The dispatcher's server has this initial state, and a store with these saves. It has sent the
+-- emissions of its jobs, and the readings of its device are those of the lines; nothing is known of
+-- either. No change is recorded.
+abbrev pub IsPlayedBeside : Saving → Begin → Offload → ℕ → Option (List ℕ) → Replies → Type 0
+IsPlayedBeside Saves begin offload workers had replies =
+    (closed : ClosedServer) × IsFedBeside (locked_view (first_server begin) (λ readings before after. ⊤) Saves (λ now before after. ⊤) (λ random. ⊤) (λ call before after. ⊤) (λ change before after. after ≡ before))
     (λ calls lines first last given. IsFedByLines calls lines first last) (first_server begin) offload workers had (tt {0}) replies closed

@@ -8,7 +8,8 @@ use Rattle.fc_core.specs.declared.front.Handled.{Handled}
 use Rattle.fc_observe.specs.declared.observers.Ticked.{Ticked}
 use Rattle.fc_server.specs.Notified.{Notified, is_given, notification_in}
 use Rattle.fc_workers.specs.Answers.{IsSomeTick}
-use Rattle.fc_workers.specs.Asked.{IsLoggedCall, IsServerCall}
+use Rattle.fc_workers.specs.Asked.{IsLoggedCall, IsServerCall, Peripherals}
+use Rattle.fc_workers.specs.SharedStores.{Saving}
 use Rattle.fc_calls.specs.Logged.{AdvancesFront, AdvancesShard, LoggedCall}
 use Rattle.fc_workers.specs.Called.{BenchCall, CountsObservers, LooksAhead, ReadsGauges, WorkerView, WireCall, worker_view}
 use Rattle.fc_workers.specs.Counts.{Tallies}
@@ -143,8 +144,10 @@ abbrev pub open_view : {T : Type 0} → (T → ℕ → ℕ) → (T → ℕ) → 
 open_view changes ended bench logged time random wire = worker_view changes ended bench logged time random (λ number before after. ⊤) wire
 
 -- the context of a server with locks that began in this way. Its parameters are the readings of its
--- device, its times and random words, and the calls of its transmitter and its recorder of changes.
-abbrev pub locked_view : ServerState → (AreReadings : List ℕ → CallLog → CallLog → Type 0) → (IsTime : ℕ → CallLog → CallLog → Type 0) → (IsRandom : ℕ → Type 0)
+-- device, the saves of its store, its times and random words, and the calls of its transmitter and
+-- its recorder of changes.
+abbrev pub locked_view : ServerState → (AreReadings : List ℕ → CallLog → CallLog → Type 0) → Saving → (IsTime : ℕ → CallLog → CallLog → Type 0) → (IsRandom : ℕ → Type 0)
     → (WireCall → CallLog → CallLog → Type 0) → (Requested → CallLog → CallLog → Type 0) → WorkerView Tallies
-locked_view first AreReadings IsTime IsRandom Wired Recorded = open_view (λ t. slice_index t.changes) (λ t. t.ended) (IsServerCall first)
-    (IsRecordedCall (IsLoggedCall first AreReadings) Recorded) IsTime IsRandom Wired
+locked_view first AreReadings Saves IsTime IsRandom Wired Recorded =
+    let io : Peripherals = record { are_readings = AreReadings; saves = Saves } in
+    open_view (λ t. slice_index t.changes) (λ t. t.ended) (IsServerCall first io) (IsRecordedCall (IsLoggedCall first io) Recorded) IsTime IsRandom Wired

@@ -31,11 +31,15 @@ programs and remove them.
 whose response nobody gets: it can look at the readings and notify its observers. A beat that was
 missed isn't made up for, and one at which the last run is still at a worker is skipped.
 
-One thread receives datagrams, and runs the programs that take less than 6,000 instructions;
-W others run those that may take more. With `--workers 1` there are no others: the one thread
-runs all. After each datagram observers are notified. Programs of the second version read the
-milliseconds since the start, in eight bytes, the least first, and behind these 56 bytes of FILE,
-which is read again before a run; zeros where there are none.
+One thread receives datagrams, and runs the programs that take less than 6,000 steps; W others
+run those that may take more. With `--workers 1` and without `--store` there are no others: the
+one thread runs all. After each datagram observers are notified. Programs of the second version
+read the milliseconds since the start, in eight bytes, the least first, and behind these 56 bytes
+of the file of `--readings`, which is read again before a run; zeros where there are none.
+
+With `--store FILE` the server saves each change of a slot to FILE, an SQLite database, before
+the change is made and answered; the next start restores programs and variables from FILE. If a
+save is refused, its change is refused too, with 5.03.
 
 After N datagrams the server ends, where N isn't 0. With `--log info` standard error gets
 `listening on ADDRESS:PORT` once it receives, and at its end `sent S failed F`, how many replies
@@ -47,9 +51,10 @@ sent again, the observers removed for silence, and the datagrams that couldn't b
 
   fcd serve --port 5683
   fcd serve --port 5683 --bind 0.0.0.0 --log info
+  fcd serve --port 5683 --store slots.db
 
 Exit status: 0 after N datagrams; 2 where the command line is bad; 3 where the port couldn't
-be had, or memory was refused at the start.";
+be had, FILE isn't a store that can be opened, or memory was refused at the start.";
 
 /// Describes the command line of `fcd`.
 ///
@@ -115,6 +120,7 @@ fn serve_command<'a>(alloc: Global) -> Result<Command<'a>, Error> {
             .arg(share(alloc))?
             .arg(confirm_after(alloc))?
             .arg(readings(alloc))?
+            .arg(store(alloc))?
             .arg(every(alloc))?
             .arg(limit(alloc))?
             .arg(log(alloc))?,
@@ -143,6 +149,15 @@ fn readings<'a>(alloc: Global) -> Arg<'a> {
         "readings",
         "FILE",
         "What programs read behind the clock: the file's first 56 bytes",
+    )
+}
+
+fn store<'a>(alloc: Global) -> Arg<'a> {
+    option(
+        alloc,
+        "store",
+        "FILE",
+        "Where changes of slots are saved; without it they are lost when the server ends",
     )
 }
 
@@ -226,7 +241,7 @@ fn expensive_workers<'a>(alloc: Global) -> Arg<'a> {
         alloc,
         "workers",
         "W",
-        "How many threads run long programs, 1 to 16; with 1 the receiving thread does",
+        "How many threads run long programs, and save changes with `--store`: 1 to 16",
     )
     .value_parser(value_parser!(u8).range(1..17))
     .default_value("2")

@@ -4,11 +4,13 @@ ghost use Rattle.coap_msg.specs.declared.types.Emission.{Emission};
 ghost use Rattle.fc_calls.specs.Doings.{AnswersAt};
 ghost use Rattle.fc_core.specs.Contents.{Content};
 ghost use Rattle.fc_core.specs.Exchanges.{FrontState, advanced};
+ghost use Rattle.fc_core.specs.History.{History};
 ghost use Rattle.fc_core.specs.Timers.{timer_job};
 ghost use Rattle.fc_core.specs.declared.front.Handled.TheVariants.{Job, Nothing, Reply, Signal};
 ghost use Rattle.fc_observe.specs.declared.observers.Ticked.{Ticked};
 ghost use Rattle.fc_observe.specs.declared.observers.Ticked.TheVariants.{Quiet};
 ghost use Rattle.fc_registry.specs.Shards.{shard_at};
+ghost use Rattle.fc_registry.specs.Slots.{last_serial};
 ghost use Rattle.fc_registry.specs.Watches.{at_time, overdue_place, watch_at};
 ghost use Rattle.fc_server.specs.Notified.{Nobody, Notified};
 ghost use Rattle.fc_server.specs.Steps.{shard_turn};
@@ -33,16 +35,23 @@ ghost use Rattle.fc_record.specs.declared.gauges.Gauges.{Gauges};
 ghost use Rattle.fc_service.specs.Logs.{ArePeriods, IsReportText};
 ghost use Rattle.fc_service.specs.Reporting.{AreGaugesOf, Reporting, ReportsIfDue, reported_calls, reporting_from};
 ghost use Rattle.fc_workers.specs.Counts.{Tallies};
-ghost use Rattle.fc_server.specs.States.{ServerState, first_server};
+ghost use Rattle.fc_server.specs.Serving.{Serves};
+ghost use Rattle.fc_server.specs.States.{ServerState, begin_of, first_server};
 ghost use Rattle.fc_workers.specs.Deliveries.{deliveries_in};
 ghost use Rattle.fc_workers.specs.LegalOrder.{HaveLegalOrder};
 ghost use Rattle.fc_workers.specs.OneOrder.{logs_of};
+ghost use Rattle.fc_workers.specs.SharedStores.{HasSaved};
 ghost use Rattle.fc_workers.specs.Workers.{Share};
 ghost use Rattle.fc_workers.specs.declared.call_log.CallLog.{CallLog};
+ghost use Rattle.fc_workers.specs.declared.dispatcher.Offload.TheVariants.{ChangesAndExpensive, Expensive};
 ghost use Rattle.fc_service.specs.Pooled.{PooledIngress, pooled_calls};
-ghost use Rattle.fc_service.specs.Rounds.{EndsInTime, HasServed, HasServedPooled, HasServedReported, HasServedTimed, Round, WaitsAfter, deliveries_of, round_calls, sendings_in, served_view, until_due};
+ghost use Rattle.fc_service.specs.Rounds.{EndsInTime, HasServed, HasServedPooled, HasServedReported, HasServedTimed, IsOneThread, Round, WaitsAfter, deliveries_of, offload_of, round_calls, sendings_in, served_view, until_due};
 ghost use Rattle.fc_server.specs.Flushing.{most_steps};
-ghost use Rattle.fc_service.specs.Serials.{IsNewerNumber, serial_of_start};
+ghost use Rattle.fc_service.specs.Serials.{IsNewerNumber, raised_at, serial_of_start, serial_over};
+ghost use Rattle.fc_service.specs.Starting.{AreRising, SavesSerial};
+ghost use Rattle.fc_durable.specs.Recovery.{Save, SavesAll};
+ghost use Rattle.fc_store.specs.Stored.{StoredProgram, StoredSlot, StoredSlots, stored_in};
+ghost use Rattle.fc_store.specs.Updates.{AreSameSlots};
 ghost use Rattle.fc_server.specs.declared.alone.SingleThread.{SingleThread};
 ghost use Rattle.fc_service.specs.declared.replies.Replies.{Replies};
 
@@ -53,6 +62,7 @@ use fc_host::socket::{Sink, Source};
 use fc_record::{Recorder, Reporter};
 use fc_server::Ingress;
 use fc_server::flush::STEPS;
+use fc_store::Store;
 use fc_workers::TimeSource;
 
 /// The work at one time has more steps than all shards and observers need.
@@ -125,6 +135,7 @@ pub fn first_wait_is_100_ms<
     K: Sink,
     C: Recorder,
     Q: Reporter,
+    P: Store,
 >()
     ensures without { (left : N) (wait : Option ℕ) → ((due : ℕ) → N.calls.is_first_due left due → due ≡ 18446744073709551615) → WaitsAfter N.calls [] left wait → wait ≡ Some 100 }
     ensures timer { (left : N) (wait : Option ℕ) → ((due : ℕ) → N.calls.is_first_due left due → due ≡ 20) → WaitsAfter N.calls [] left wait → wait ≡ Some 20 }
@@ -132,9 +143,9 @@ pub fn first_wait_is_100_ms<
     ensures alone { (left : Recording) (wait : Option ℕ) → WaitsAfter (recorded_calls C.recorded) [] left wait → wait ≡ Some 100 }
     ensures alone_reported { (left : Reporting Recording) (wait : Option ℕ) → WaitsAfter (reported_calls Q.reported (recorded_calls C.recorded)) [] left wait → wait ≡ Some 100 }
     ensures pooled { (first : ServerState) (left : PooledIngress Tallies) (wait : Option ℕ)
-        → WaitsAfter (pooled_calls (served_view Z.are_sensed (round_calls S.received M.is_time K.went) C.recorded first)) [] left wait → wait ≡ Some 100 }
+        → WaitsAfter (pooled_calls (served_view Z.are_sensed (round_calls S.received M.is_time K.went) C.recorded (HasSaved P.Store) first)) [] left wait → wait ≡ Some 100 }
     ensures pooled_reported { (first : ServerState) (left : Reporting (PooledIngress Tallies)) (wait : Option ℕ)
-        → WaitsAfter (reported_calls Q.reported (pooled_calls (served_view Z.are_sensed (round_calls S.received M.is_time K.went) C.recorded first))) [] left wait → wait ≡ Some 100 }
+        → WaitsAfter (reported_calls Q.reported (pooled_calls (served_view Z.are_sensed (round_calls S.received M.is_time K.went) C.recorded (HasSaved P.Store) first))) [] left wait → wait ≡ Some 100 }
 {}
 
 /// A played line ends before a line feed, the byte 10.
@@ -160,26 +171,30 @@ pub fn waits_end_in_time()
         → EndsInTime (λ shard until. until ≡ told shard) now true wait → wait ≡ None }
 {}
 
-/// All rounds of a server on one thread are one history of events.
+/// All rounds of a server on one thread continue one history of events.
 ///
-/// It begins with the server's initial serial and message ID, and each event emits a permitted
-/// emission. Exactly the received datagrams are delivered, in order, each at its round's time. Time
-/// passes at the times of the other rounds. The emissions of the events, in that order, are those
-/// that the rounds passed to the sink, once each. The log of these calls has nothing else
-/// (`HasServed`).
+/// They continue each history that leaves the first state without jobs (`any`). Empty slots
+/// continue the history that begins at their serial and the first message ID (`empty`). Each event
+/// emits a permitted emission. Exactly the received datagrams are delivered, in order, each at its
+/// round's time. Time passes at the times of the other rounds. The emissions of the events, in that
+/// order, are those that the rounds passed to the sink, once each. The log of these calls has
+/// nothing else (`HasServed`).
 pub fn served_rounds_are_one_history<Z: Sensors, S: Source, M: TimeSource, K: Sink, C: Recorder>()
-    ensures { (limit : ℕ) (begin : Begin) (before after : Option (List Receive)) (replies : Replies)
-        (w : HasServed Z.are_sensed (round_calls S.received M.is_time K.went) C.recorded limit begin before after replies)
-        → IsOneHistory begin (arrivals_in w.run.rounds) (map (λ s. s.emission) (sendings_in w.run.rounds)) w.last.alone.engine }
+    ensures any { (limit : ℕ) (start : ServerState) (before after : Option (List Receive)) (replies : Replies)
+        (w : HasServed Z.are_sensed (round_calls S.received M.is_time K.went) C.recorded limit start before after replies)
+        → (h : History) → Serves h start [] → IsOneHistory h (arrivals_in w.run.rounds) (map (λ s. s.emission) (sendings_in w.run.rounds)) w.last.alone.engine }
+    ensures empty { (limit : ℕ) (begin : Begin) (before after : Option (List Receive)) (replies : Replies)
+        (w : HasServed Z.are_sensed (round_calls S.received M.is_time K.went) C.recorded limit (first_server begin) before after replies)
+        → IsOneHistory (begin_of begin) (arrivals_in w.run.rounds) (map (λ s. s.emission) (sendings_in w.run.rounds)) w.last.alone.engine }
 {}
 
-/// All rounds of a server on one thread with timers are one history of events.
+/// All rounds of a server on one thread with timers continue one history of events.
 ///
-/// Exactly the received datagrams are delivered, as without timers. In each round the timers that
-/// are due fire first: each of them once, for its own slot, at the round's time, and no other. It
-/// is due at its next beat after that, so a round fires no timer early, and none twice for one
-/// beat. The emissions of the events are those that the rounds passed to the sink. At its start no
-/// timer has a job at a worker.
+/// The histories are those of `served_rounds_are_one_history`. Exactly the received datagrams are
+/// delivered, as without timers. In each round the timers that are due fire first: each of them
+/// once, for its own slot, at the round's time, and no other. It is due at its next beat after
+/// that, so a round fires no timer early, and none twice for one beat. The emissions of the events
+/// are those that the rounds passed to the sink. At its start no timer has a job at a worker.
 pub fn timed_rounds_are_one_history<
     Z: Sensors,
     S: Source,
@@ -188,15 +203,19 @@ pub fn timed_rounds_are_one_history<
     C: Recorder,
     Q: Reporter,
 >()
-    ensures { (timers : List Timer) (limit : ℕ) (begin : Begin) (before after : Option (List Receive)) (replies : Replies) → All (λ t. t.offloaded ≡ false) timers
-        → (w : HasServedTimed timers None Q.reported Z.are_sensed (round_calls S.received M.is_time K.went) C.recorded limit begin before after replies)
-        → IsOneHistory begin (timed_arrivals_in w.run.run.rounds timers) (map (λ s. s.emission) (sendings_in w.run.run.rounds)) w.last.alone.engine }
+    ensures any { (timers : List Timer) (limit : ℕ) (start : ServerState) (before after : Option (List Receive)) (replies : Replies) → All (λ t. t.offloaded ≡ false) timers
+        → (w : HasServedTimed timers None Q.reported Z.are_sensed (round_calls S.received M.is_time K.went) C.recorded limit start before after replies)
+        → (h : History) → Serves h start [] → IsOneHistory h (timed_arrivals_in w.run.run.rounds timers) (map (λ s. s.emission) (sendings_in w.run.run.rounds)) w.last.alone.engine }
+    ensures empty { (timers : List Timer) (limit : ℕ) (begin : Begin) (before after : Option (List Receive)) (replies : Replies) → All (λ t. t.offloaded ≡ false) timers
+        → (w : HasServedTimed timers None Q.reported Z.are_sensed (round_calls S.received M.is_time K.went) C.recorded limit (first_server begin) before after replies)
+        → IsOneHistory (begin_of begin) (timed_arrivals_in w.run.run.rounds timers) (map (λ s. s.emission) (sendings_in w.run.run.rounds)) w.last.alone.engine }
 {}
 
-/// All rounds of a server on one thread with reports are one history of events.
+/// All rounds of a server on one thread with reports continue one history of events.
 ///
 /// A report isn't an event, so the history is as without reports. `untimed` is of a server without
-/// timers, `timed` of one with timers.
+/// timers, `timed` of one with timers. `empty_untimed` and `empty_timed` are of servers that start
+/// with empty slots.
 pub fn reported_rounds_are_one_history<
     Z: Sensors,
     S: Source,
@@ -205,12 +224,18 @@ pub fn reported_rounds_are_one_history<
     C: Recorder,
     Q: Reporter,
 >()
-    ensures untimed { (every limit : ℕ) (begin : Begin) (before after : Option (List Receive)) (replies : Replies)
-        (w : HasServedReported every Q.reported Z.are_sensed (round_calls S.received M.is_time K.went) C.recorded limit begin before after replies)
-        → IsOneHistory begin (arrivals_in w.run.run.rounds) (map (λ s. s.emission) (sendings_in w.run.run.rounds)) w.last.alone.engine }
-    ensures timed { (timers : List Timer) (every limit : ℕ) (begin : Begin) (before after : Option (List Receive)) (replies : Replies) → All (λ t. t.offloaded ≡ false) timers
-        → (w : HasServedTimed timers (Some every) Q.reported Z.are_sensed (round_calls S.received M.is_time K.went) C.recorded limit begin before after replies)
-        → IsOneHistory begin (timed_arrivals_in w.run.run.run.rounds timers) (map (λ s. s.emission) (sendings_in w.run.run.run.rounds)) w.last.alone.engine }
+    ensures untimed { (every limit : ℕ) (start : ServerState) (before after : Option (List Receive)) (replies : Replies)
+        (w : HasServedReported every Q.reported Z.are_sensed (round_calls S.received M.is_time K.went) C.recorded limit start before after replies)
+        → (h : History) → Serves h start [] → IsOneHistory h (arrivals_in w.run.run.rounds) (map (λ s. s.emission) (sendings_in w.run.run.rounds)) w.last.alone.engine }
+    ensures timed { (timers : List Timer) (every limit : ℕ) (start : ServerState) (before after : Option (List Receive)) (replies : Replies) → All (λ t. t.offloaded ≡ false) timers
+        → (w : HasServedTimed timers (Some every) Q.reported Z.are_sensed (round_calls S.received M.is_time K.went) C.recorded limit start before after replies)
+        → (h : History) → Serves h start [] → IsOneHistory h (timed_arrivals_in w.run.run.run.rounds timers) (map (λ s. s.emission) (sendings_in w.run.run.run.rounds)) w.last.alone.engine }
+    ensures empty_untimed { (every limit : ℕ) (begin : Begin) (before after : Option (List Receive)) (replies : Replies)
+        (w : HasServedReported every Q.reported Z.are_sensed (round_calls S.received M.is_time K.went) C.recorded limit (first_server begin) before after replies)
+        → IsOneHistory (begin_of begin) (arrivals_in w.run.run.rounds) (map (λ s. s.emission) (sendings_in w.run.run.rounds)) w.last.alone.engine }
+    ensures empty_timed { (timers : List Timer) (every limit : ℕ) (begin : Begin) (before after : Option (List Receive)) (replies : Replies) → All (λ t. t.offloaded ≡ false) timers
+        → (w : HasServedTimed timers (Some every) Q.reported Z.are_sensed (round_calls S.received M.is_time K.went) C.recorded limit (first_server begin) before after replies)
+        → IsOneHistory (begin_of begin) (timed_arrivals_in w.run.run.run.rounds timers) (map (λ s. s.emission) (sendings_in w.run.run.run.rounds)) w.last.alone.engine }
 {}
 
 /// A timer fires at its first round at or after a beat.
@@ -325,7 +350,7 @@ pub fn receives_end_when_a_timer_is_due<N: Ingress>()
 /// at the times of the other lines. Exactly the emissions of the events are printed.
 pub fn played_lines_are_one_history()
     ensures history { (begin : Begin) (had before after : Option (List ℕ)) (w : IsPlayedOut begin had before after)
-        → IsOneHistory begin (arrivals_in_lines w.played.lines) (sent_in_lines w.played.lines) w.last.engine }
+        → IsOneHistory (begin_of begin) (arrivals_in_lines w.played.lines) (sent_in_lines w.played.lines) w.last.engine }
     ensures printed { (lines : List PlayedLine) → printed_lines lines ≡ flat_map printed (sent_in_lines lines) }
 {}
 
@@ -376,9 +401,10 @@ pub fn replies_of_all_threads_are_counted<
     K: Sink,
     C: Recorder,
     Q: Reporter,
+    P: Store,
 >()
-    ensures { (first : ServerState) (timers : List Timer) (every : Option ℕ) (limit : ℕ) (begin : Begin) (before after : Option (List Receive)) (replies : Replies) (one : Share Tallies)
-        → (w : HasServedPooled (served_view Z.are_sensed (round_calls S.received M.is_time K.went) C.recorded first) timers every Q.reported (round_calls S.received M.is_time K.went) 1 limit begin before after replies)
+    ensures { (first : ServerState) (timers : List Timer) (every : Option ℕ) (limit : ℕ) (persistent : Bool) (start : ServerState) (before after : Option (List Receive)) (replies : Replies) (one : Share Tallies)
+        → (w : HasServedPooled (served_view Z.are_sensed (round_calls S.received M.is_time K.went) C.recorded (HasSaved P.Store) first) timers every Q.reported (round_calls S.received M.is_time K.went) 1 limit persistent start before after replies)
         → w.shares ≡ one ∷ [] → w.at_once ≡ record { sent = 1; failed = 0 } → one.sent ≡ 2 → one.failed ≡ 8
         → w.last.done.share.sent ≡ 4 → w.last.done.share.failed ≡ 16 → replies ≡ record { sent = 7; failed = 24 } }
 {}
@@ -386,6 +412,7 @@ pub fn replies_of_all_threads_are_counted<
 /// The one history of a server with workers has its dispatcher's calls, with timers and reports
 /// too.
 ///
+/// It begins in the first state of the server, of empty slots or of restored ones.
 /// The dispatcher's log is the one that the last round left. `reported` is of a server with
 /// reports, `timed` of one with timers, and `both` of one with both.
 pub fn the_order_has_the_dispatchers_calls<
@@ -395,16 +422,17 @@ pub fn the_order_has_the_dispatchers_calls<
     K: Sink,
     C: Recorder,
     Q: Reporter,
+    P: Store,
 >()
-    ensures reported { (first : ServerState) (every workers limit : ℕ) (begin : Begin) (before after : Option (List Receive)) (replies : Replies)
-        → (w : HasServedPooled (served_view Z.are_sensed (round_calls S.received M.is_time K.went) C.recorded first) [] (Some every) Q.reported (round_calls S.received M.is_time K.went) workers limit begin before after replies)
-        → HaveLegalOrder (first_server begin) (logs_of w.shares w.run.reporting.ingress.done.share) w.closed }
-    ensures timed { (first : ServerState) (t : Timer) (ts : List Timer) (workers limit : ℕ) (begin : Begin) (before after : Option (List Receive)) (replies : Replies)
-        → (w : HasServedPooled (served_view Z.are_sensed (round_calls S.received M.is_time K.went) C.recorded first) (t ∷ ts) None Q.reported (round_calls S.received M.is_time K.went) workers limit begin before after replies)
-        → HaveLegalOrder (first_server begin) (logs_of w.shares w.run.firing.ingress.done.share) w.closed }
-    ensures both { (first : ServerState) (t : Timer) (ts : List Timer) (every workers limit : ℕ) (begin : Begin) (before after : Option (List Receive)) (replies : Replies)
-        → (w : HasServedPooled (served_view Z.are_sensed (round_calls S.received M.is_time K.went) C.recorded first) (t ∷ ts) (Some every) Q.reported (round_calls S.received M.is_time K.went) workers limit begin before after replies)
-        → HaveLegalOrder (first_server begin) (logs_of w.shares w.run.run.reporting.ingress.ingress.done.share) w.closed }
+    ensures reported { (first : ServerState) (every workers limit : ℕ) (persistent : Bool) (start : ServerState) (before after : Option (List Receive)) (replies : Replies)
+        → (w : HasServedPooled (served_view Z.are_sensed (round_calls S.received M.is_time K.went) C.recorded (HasSaved P.Store) first) [] (Some every) Q.reported (round_calls S.received M.is_time K.went) workers limit persistent start before after replies)
+        → HaveLegalOrder start (logs_of w.shares w.run.reporting.ingress.done.share) w.closed }
+    ensures timed { (first : ServerState) (t : Timer) (ts : List Timer) (workers limit : ℕ) (persistent : Bool) (start : ServerState) (before after : Option (List Receive)) (replies : Replies)
+        → (w : HasServedPooled (served_view Z.are_sensed (round_calls S.received M.is_time K.went) C.recorded (HasSaved P.Store) first) (t ∷ ts) None Q.reported (round_calls S.received M.is_time K.went) workers limit persistent start before after replies)
+        → HaveLegalOrder start (logs_of w.shares w.run.firing.ingress.done.share) w.closed }
+    ensures both { (first : ServerState) (t : Timer) (ts : List Timer) (every workers limit : ℕ) (persistent : Bool) (start : ServerState) (before after : Option (List Receive)) (replies : Replies)
+        → (w : HasServedPooled (served_view Z.are_sensed (round_calls S.received M.is_time K.went) C.recorded (HasSaved P.Store) first) (t ∷ ts) (Some every) Q.reported (round_calls S.received M.is_time K.went) workers limit persistent start before after replies)
+        → HaveLegalOrder start (logs_of w.shares w.run.run.reporting.ingress.ingress.done.share) w.closed }
 {}
 
 /// Each datagram that a server with workers received is delivered in its one history, once.
@@ -420,19 +448,67 @@ pub fn received_datagrams_are_delivered<
     K: Sink,
     C: Recorder,
     Q: Reporter,
+    P: Store,
 >()
-    ensures untimed { (first : ServerState) (workers limit : ℕ) (begin : Begin) (before after : Option (List Receive)) (replies : Replies)
-        → (w : HasServedPooled (served_view Z.are_sensed (round_calls S.received M.is_time K.went) C.recorded first) [] None Q.reported (round_calls S.received M.is_time K.went) workers limit begin before after replies)
+    ensures untimed { (first : ServerState) (workers limit : ℕ) (persistent : Bool) (start : ServerState) (before after : Option (List Receive)) (replies : Replies)
+        → (w : HasServedPooled (served_view Z.are_sensed (round_calls S.received M.is_time K.went) C.recorded (HasSaved P.Store) first) [] None Q.reported (round_calls S.received M.is_time K.went) workers limit persistent start before after replies)
         → deliveries_in w.order.order.calls ≡ deliveries_of w.run.rounds }
-    ensures reported { (first : ServerState) (every : ℕ) (workers limit : ℕ) (begin : Begin) (before after : Option (List Receive)) (replies : Replies)
-        → (w : HasServedPooled (served_view Z.are_sensed (round_calls S.received M.is_time K.went) C.recorded first) [] (Some every) Q.reported (round_calls S.received M.is_time K.went) workers limit begin before after replies)
+    ensures reported { (first : ServerState) (every : ℕ) (workers limit : ℕ) (persistent : Bool) (start : ServerState) (before after : Option (List Receive)) (replies : Replies)
+        → (w : HasServedPooled (served_view Z.are_sensed (round_calls S.received M.is_time K.went) C.recorded (HasSaved P.Store) first) [] (Some every) Q.reported (round_calls S.received M.is_time K.went) workers limit persistent start before after replies)
         → deliveries_in w.order.order.calls ≡ deliveries_of w.run.run.rounds }
-    ensures timed { (first : ServerState) (t : Timer) (ts : List Timer) (workers limit : ℕ) (begin : Begin) (before after : Option (List Receive)) (replies : Replies)
-        → (w : HasServedPooled (served_view Z.are_sensed (round_calls S.received M.is_time K.went) C.recorded first) (t ∷ ts) None Q.reported (round_calls S.received M.is_time K.went) workers limit begin before after replies)
+    ensures timed { (first : ServerState) (t : Timer) (ts : List Timer) (workers limit : ℕ) (persistent : Bool) (start : ServerState) (before after : Option (List Receive)) (replies : Replies)
+        → (w : HasServedPooled (served_view Z.are_sensed (round_calls S.received M.is_time K.went) C.recorded (HasSaved P.Store) first) (t ∷ ts) None Q.reported (round_calls S.received M.is_time K.went) workers limit persistent start before after replies)
         → deliveries_in w.order.order.calls ≡ deliveries_of w.run.run.rounds }
-    ensures both { (first : ServerState) (t : Timer) (ts : List Timer) (every : ℕ) (workers limit : ℕ) (begin : Begin) (before after : Option (List Receive)) (replies : Replies)
-        → (w : HasServedPooled (served_view Z.are_sensed (round_calls S.received M.is_time K.went) C.recorded first) (t ∷ ts) (Some every) Q.reported (round_calls S.received M.is_time K.went) workers limit begin before after replies)
+    ensures both { (first : ServerState) (t : Timer) (ts : List Timer) (every : ℕ) (workers limit : ℕ) (persistent : Bool) (start : ServerState) (before after : Option (List Receive)) (replies : Replies)
+        → (w : HasServedPooled (served_view Z.are_sensed (round_calls S.received M.is_time K.went) C.recorded (HasSaved P.Store) first) (t ∷ ts) (Some every) Q.reported (round_calls S.received M.is_time K.went) workers limit persistent start before after replies)
         → deliveries_in w.order.order.calls ≡ deliveries_of w.run.run.run.rounds }
+{}
+
+/// A server runs all jobs on one thread only with one worker and without a persistent store.
+///
+/// With workers, programs of 6,000 steps and more are expensive. With a persistent store, jobs that
+/// may change a slot also go to the workers.
+pub fn persistent_stores_have_workers()
+    ensures one { IsOneThread 1 false }
+    ensures saved { IsOneThread 1 true → ⊥ }
+    ensures two { IsOneThread 2 false → ⊥ }
+    ensures changes { offload_of true ≡ ChangesAndExpensive 6000 }
+    ensures runs { offload_of false ≡ Expensive 6000 }
+{}
+
+/// A start raises stored serials to that of its time, or to one more than the greatest of them.
+///
+/// A server that starts one second after the beginning of 1970 raises the serial 5 to 16,809,216.
+/// Over the serials 5 and 9, a server that starts at the beginning of 1970 has each slot at 10.
+/// A start begins above each stored serial below the last, whatever its time. So it also begins
+/// above the serial that an earlier start saved with slot 0, even if its clock shows an earlier
+/// time.
+pub fn starts_raise_serials()
+    ensures time { raised_at 1000 (record { serial = 5; program = None } ∷ record { serial = 9; program = None } ∷ []) 0 ≡ record { serial = 16809216; program = None } }
+    ensures next { raised_at 0 (record { serial = 5; program = None } ∷ record { serial = 9; program = None } ∷ []) 0 ≡ record { serial = 10; program = None } }
+    ensures last { raised_at 0 (record { serial = 5; program = None } ∷ record { serial = 9; program = None } ∷ []) 1 ≡ record { serial = 10; program = None } }
+    ensures above { (ms n : ℕ) (stored : List StoredSlot) → (stored_in stored n).serial < last_serial → (stored_in stored n).serial < serial_over ms stored }
+    ensures again { (first second : ℕ) (k : StoredSlot) (ks : List StoredSlot) → serial_over first (k ∷ ks) < last_serial
+        → serial_over first (k ∷ ks) < serial_over second (record k { serial = serial_over first (k ∷ ks) } ∷ ks) }
+{}
+
+/// A start begins above each serial that was saved before, whatever its time.
+///
+/// An earlier start saved its serial. Then the store was asked for further saves, none of which
+/// lowers a serial, until the machine stopped. So far the medium had returned the data that was
+/// written to it. A start over the slots that are found begins above the serial of the earlier
+/// start, and above the last serial that was stored of each slot.
+pub fn starts_begin_above_saved_serials<S: Store>()
+    ensures start { (ms serial : ℕ) (program : Option StoredProgram) (old new last : S) (saves : List Save) (found : StoredSlots) (stored : List StoredSlot)
+        → S.Store.persistent ≡ true → S.Store.is_ready old → SavesSerial S.Store serial program true old new
+        → SavesAll S.Store saves new last → AreRising saves (S.Store.stored new) → S.Store.is_clean last
+        → S.Store.may_recover last found → AreSameSlots (stored_in stored) found
+        → serial < last_serial → serial < serial_over ms stored }
+    ensures changes { (ms serial : ℕ) (program : Option StoredProgram) (old new last : S) (saves : List Save) (found : StoredSlots) (stored : List StoredSlot)
+        → S.Store.persistent ≡ true → S.Store.is_ready old → SavesSerial S.Store serial program true old new
+        → SavesAll S.Store saves new last → AreRising saves (S.Store.stored new) → S.Store.is_clean last
+        → S.Store.may_recover last found → AreSameSlots (stored_in stored) found
+        → (n : ℕ) → n < 64 → (S.Store.stored last n).serial < last_serial → (S.Store.stored last n).serial < serial_over ms stored }
 {}
 
 /// The gauges of a server on one thread are its own.

@@ -32,10 +32,10 @@
 //! - **A server on a socket** receives in one loop, on one thread or as the dispatcher of workers
 //!   (`run_rounds`, by `HasRun`). Its rounds follow one another on one server. A round receives a
 //!   datagram or none, and then reads the time. At this time a received datagram is handled, once,
-//!   whole and from its endpoint. If none was received, time passes. Then the shards are
-//!   called one after the other, 0 to 7. Each is called until it returns that no notification has
-//!   timed out, and then until it returns that no observer has a pending one. The last is shard 7,
-//!   or one that returns that no message ID is available, or 8,192 steps were taken.
+//!   whole and from its endpoint. If none was received, time passes. Then the shards are called one
+//!   after the other, 0 to 7. Each is called until it returns that no notification has timed out,
+//!   and then until it returns that no observer has a pending one. The last is shard 7, or one that
+//!   returns that no message ID is available, or 8,192 steps were taken.
 //! - **Sending**: exactly the emissions of a round, the reply first, are passed to the sink, once
 //!   each, in that order. Each is counted once, by the sink's result. The log of the receive, the
 //!   time and these calls has no other call. Only reading the code shows that the receiver passes
@@ -56,29 +56,31 @@
 //!   Without timers the server is called directly.
 //! - **The options of `fcd serve`** are the values that the command line gives (`serve_options`, by
 //!   `AreServeOptions`). Their defaults are tested.
-//! - **A server that returns its source has run that loop**, with one worker or more. A limit was
-//!   set, and that number of datagrams was received (`serve_at`, by `IsServed`). The contract
-//!   doesn't say which times its clock gives. It says nothing about a server that returns no source
-//!   or doesn't end. Tests show that `serve` opens its socket at the given address and receives
-//!   from it.
-//! - **With one worker** the rounds are lists of events of one server, which begins at the serial
-//!   of the given start and at the given message ID. A round's list has its datagram, or its time,
-//!   and the calls of its shards. A shard's result is true: that no notification has timed out,
-//!   that an observer was removed, or that no observer has a pending notification (`laws`). The
-//!   readings are each round's time and the sensor readings. The contract doesn't say that these
-//!   are the file's with `--readings`. Without `--readings` they are zeros (`serve_alone`, by
-//!   `HasServed`).
+//! - **A server that returns its source has run that loop**, from the first state that its caller
+//!   passes: empty slots (`Slots::empty`), or restored slots (`Slots::restored`). It is one on one
+//!   thread exactly if it has one worker and its store isn't persistent. A limit was set, and that
+//!   number of datagrams was received (`serve_at`, by `IsServed`). The contract doesn't say which
+//!   times its clock gives. It says nothing about a server that returns no source or doesn't end.
+//!   Tests show that `serve` opens its socket at the given address and receives from it.
+//! - **On one thread** the rounds are lists of events of one server, which starts in that first
+//!   state. A round's list has its datagram, or its time, and the calls of its shards. A shard's
+//!   result is true: that no notification has timed out, that an observer was removed, or that no
+//!   observer has a pending notification (`laws`). The readings are each round's time and the
+//!   sensor readings. The contract doesn't say that these are the file's with `--readings`. Without
+//!   `--readings` they are zeros (`serve_alone`, by `HasServed`).
 //! - **One history**: all rounds of a server on one thread, or all lines that it plays, are one
-//!   history of events. Exactly the datagrams that came are delivered, in order. Exactly the
-//!   emissions of the history's events were passed to the sink, or are printed, in that order. Each
-//!   datagram is delivered at the time of its round or line. If none came, time passes at this
-//!   time. With timers the history also has exactly the events of the timers that were due, before
-//!   their round's datagram. The same holds with reports (`laws`).
-//! - **With more workers** a dispatcher handles each datagram, in order, and each lease that some
-//!   shard gave. Nothing else in a round changes the dispatched jobs (`serve_at`, by
-//!   `HasServedPooled`; `run_pool` passes on its driver's effects, by `IsFedBeside`). The
-//!   dispatcher is new: it has sent nothing, and its log is new and has its own track. It sends
-//!   runs of 6,000 steps and more to the workers, if it sends any.
+//!   history of events. The rounds continue each history that leaves the first state without jobs.
+//!   Exactly the datagrams that came are delivered, in order. Exactly the emissions of the
+//!   history's events were passed to the sink, or are printed, in that order. Each datagram is
+//!   delivered at the time of its round or line. If none came, time passes at this time. With
+//!   timers the history also has exactly the events of the timers that were due, before their
+//!   round's datagram. The same holds with reports (`laws`).
+//! - **With workers** a dispatcher handles each datagram, in order, and each lease that some shard
+//!   gave. Nothing else in a round changes the dispatched jobs (`serve_at`, by `HasServedPooled`;
+//!   `run_pool` passes on its driver's effects, by `IsFedBeside`). The dispatcher is new: it has
+//!   sent nothing, and its log is new and has its own track. It sends runs of 6,000 steps and more
+//!   to the workers, if it sends any. With a persistent store it also sends jobs that may change a
+//!   slot.
 //! - **Shares**: the contract names one share for each worker, of some handles at the dispatcher's
 //!   channel (`AreSharesAt`). It doesn't say that they are those of the started threads, nor that a
 //!   sent job is received. A worker's emission is passed to the sink once, by the worker's own log
@@ -104,6 +106,11 @@
 //! - **The first serial** of a server rises with the time of its start: by 32 for each millisecond,
 //!   and by 2^24 for each second. So the numbers of Observe keep their order if a server is started
 //!   again (`serials::serial_of_start`, `laws`). A test shows that the time is the system clock's.
+//! - **The serial of restored slots** is that first serial, or one more than the greatest stored
+//!   serial if that is greater. If a persistent store saves it, it is saved with slot 0, and no
+//!   program changes. A later start over what a crash leaves begins above it, and above all serials
+//!   that were stored since (`Slots::restored`, `laws`). This supposes that the medium returned the
+//!   data that was written to it.
 //! - **Reports**: with a period, a report is made at the first round at or after the report's due
 //!   time, before the round's datagram is handled. It is made once, of the counts up to then and
 //!   the gauges of the round's time, and the next is due one period later. The counts are those of
@@ -118,7 +125,8 @@
 //!
 //! By the contracts of `play::play`, `workers::play_by_workers`, `options::serve_options`,
 //! `lines::play_lines`, `rounds::run_rounds`, `serve::serve`, `serve::serve_at`,
-//! `serve::serve_timed`, `serve::serve_alone`, `serials::serial_of_start`, `pool::run_pool`,
+//! `serve::serve_timed`, `serve::serve_alone`, `Slots::empty`, `Slots::of`, `Slots::restored`,
+//! `restored_slots`, `serials::serial_of_start`, `serials::serial_over`, `pool::run_pool`,
 //! `reports::run_reported`, `Reporting`, `Firing`, `Replies`, `laws`.
 #![tactic(auto)]
 
@@ -139,6 +147,7 @@ pub mod reports;
 mod rounds;
 pub mod serials;
 pub mod serve;
+pub mod slots;
 mod timed;
 mod timer_jobs;
 mod waiting;

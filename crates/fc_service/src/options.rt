@@ -16,7 +16,8 @@ use thiserror::Error;
 /// The options of `fcd serve`.
 ///
 /// `limit` is the number of datagrams after which the server ends; 0 means unlimited. `readings` is
-/// the path of the sensor file. The server reports its listening address if `logs` has `info`.
+/// the path of the sensor file, and `store` that of the store of slots. The server reports its
+/// listening address if `logs` has `info`.
 #[derive(Clone, Copy)]
 pub struct ServeOptions<'a> {
     pub listening: Listening,
@@ -24,6 +25,7 @@ pub struct ServeOptions<'a> {
     pub limit: u32,
     pub policy: Policy,
     pub readings: Option<&'a str>,
+    pub store: Option<&'a str>,
     pub logs: LogOptions,
 }
 
@@ -75,6 +77,7 @@ pub fn serve_options<'a>(matches: &ArgMatches<'a>) -> Result<ServeOptions<'a>, B
         limit: limit_in(matches).ok_or(BadOption::Number("--limit"))?,
         policy: policy_in(matches).ok_or(BadOption::Managers)?,
         readings: matches.get_str("readings"),
+        store: matches.get_str("store"),
         logs,
     })
 }

@@ -1,7 +1,7 @@
 //! Pools: a new server with locks, its workers, and a driver of datagrams.
 //!
-//! `fcd play --workers` drives one with lines. `fcd serve` with two workers or more drives one with
-//! the datagrams of a socket.
+//! `fcd play --workers` drives one with lines. `fcd serve` drives one with the datagrams of a
+//! socket, unless it has one worker and no store.
 ghost use Rattle.std.specs.Prelude.{◌≡◌, ◌+◌, ◌<◌, ◌≤◌, ℕ, ⊤, List, vec_len, IfOk};
 ghost use Rattle.std.specs.List.{All};
 ghost use Rattle.fc_jobs.specs.Ends.{nothing_got, nothing_sent};
@@ -15,6 +15,7 @@ ghost use Rattle.fc_workers.specs.LegalOrder.{HaveLegalOrder};
 ghost use Rattle.fc_workers.specs.Messages.{first_brought};
 ghost use Rattle.fc_workers.specs.OneOrder.{IsNewLog, logs_of};
 ghost use Rattle.fc_workers.specs.Producing.{HasRightOrder, IsRightWorker};
+ghost use Rattle.fc_workers.specs.SharedStores.{HasSaved};
 
 use crate::replies::Replies;
 use coap_msg::{Emission, Endpoint};
@@ -26,10 +27,11 @@ use fc_registry::{PLACES, SlotNumber};
 use fc_server::FirstServer;
 pub use fc_server::Ingress;
 use fc_server::engine::{FireOutcome, NotifyOutcome};
+use fc_store::Store;
 use fc_workers::{
     Bench, Blanks, Books, CallLog, ClosedServer, Context, Device, Dispatcher, Gate, JobKeys,
-    JobMessage, Locked, Offload, ServerOf, Share, ShareOf, Tallies, TimeSource, TrackLog,
-    Unassigned, Wire, drive_workers, make_seats,
+    JobMessage, Locked, Offload, ReadyStore, ServerOf, Share, ShareOf, Tallies, TimeSource,
+    TrackLog, Unassigned, Wire, drive_workers, make_seats,
 };
 use std::alloc::{AllocError, Global};
 use std::io::Write;
@@ -202,8 +204,8 @@ pub struct Fed<X: Drop> {
 
 // A server whose workers haven't been started.
 #[derive(Drop)]
-struct Begun<'a, B: Books, D: Device> {
-    server: Locked<'a, B, D>,
+struct Begun<'a, B: Books, D: Device, K: Store> {
+    server: Locked<'a, B, D, K>,
     unassigned: Unassigned<B>,
     tallies: Vec<Tallies<B>>,
     logs: Vec<TrackLog<ServerOf<B>>>,
@@ -252,6 +254,8 @@ impl Gate for Open {
 
 /// Makes a server that begins as `first`, and runs its workers and a driver to their end.
 ///
+/// Each change of a slot is saved in `store` before it is made, if the store is persistent.
+///
 /// Each worker runs on its own thread, and the driver on the calling thread. Then the server is
 /// closed: the serials of each shard have risen by exactly the counted changes. The filed calls of
 /// the driver's dispatcher and of some shares of the workers have one order. If a history leaves
@@ -268,6 +272,7 @@ pub fn run_pool<
     M: TimeSource + Sync,
     D: Device + Sync,
     C: Recorder + Sync,
+    K: Store + Send + Drop,
     E: Write,
     X: Drop,
     F: Driver<X> + Drop,
@@ -277,15 +282,16 @@ pub fn run_pool<
     err: &mut E,
     pool: &Pool<'_, W, M, D, C>,
     first: FirstServer,
+    store: ReadyStore<K>,
     driver: F,
 ) -> Result<Fed<X>, AllocError>
     ensures counted { IfOk result (λ fed. HasCountedAll first.shards fed.closed) }
-    ensures fed { let worker_view = locked_view first D.are_readings M.is_time M.is_random W.called C.recorded in
+    ensures fed { let worker_view = locked_view first D.are_readings (HasSaved K.Store) M.is_time M.is_random W.called C.recorded in
         IfOk result (λ fed. IsFedBeside worker_view (F.drives _) first (offload_where fed.has_workers pool.now.offload) pool.now.workers driver fed.given fed.replies fed.closed) }
 {
     let blanks = Blanks::new(u64::from(pool.workers) + 2);
     let book = NewServerBook::new(alloc, u16::from(pool.workers) + 1, first)?;
-    run_named::<Brand, R, W, M, D, C, E, X, F>(rt, alloc, err, pool, driver, blanks, book)
+    run_named::<Brand, R, W, M, D, C, K, E, X, F>(rt, alloc, err, pool, store, driver, blanks, book)
 }
 
 // Runs a pool, with ledgers of the names `B`, and `book` for its calls. The errors are
@@ -297,6 +303,7 @@ fn run_named<
     M: TimeSource + Sync,
     D: Device + Sync,
     C: Recorder + Sync,
+    K: Store + Send + Drop,
     E: Write,
     X: Drop,
     F: Driver<X> + Drop,
@@ -305,6 +312,7 @@ fn run_named<
     alloc: Global,
     err: &mut E,
     pool: &Pool<'_, W, M, D, C>,
+    store: ReadyStore<K>,
     driver: F,
     blanks: Blanks,
     book: NewServerBook,
@@ -317,7 +325,7 @@ fn run_named<
     requires threads { book.first_job ≡ B.first_job }
     requires server { book.first ≡ B.first }
     ensures counted { IfOk result (λ fed. HasCountedAll B.first.shards fed.closed) }
-    ensures fed { let worker_view = locked_view B.first D.are_readings M.is_time M.is_random W.called C.recorded in
+    ensures fed { let worker_view = locked_view B.first D.are_readings (HasSaved K.Store) M.is_time M.is_random W.called C.recorded in
         IfOk result (λ fed. IsFedBeside worker_view (F.drives _) B.first (offload_where fed.has_workers pool.now.offload) pool.now.workers driver fed.given fed.replies fed.closed) }
 {
     let Begun {
@@ -326,7 +334,7 @@ fn run_named<
         tallies,
         logs,
         keys,
-    } = begin::<B, D>(alloc, pool.workers, pool.device, blanks, book)?;
+    } = begin::<B, D, K>(alloc, pool.workers, pool.device, store, blanks, book)?;
     let bench = RecordedBench {
         bench: &server,
         recorder: pool.recorder,
@@ -337,13 +345,14 @@ fn run_named<
 
 // Makes a server, the change counters and logs of its workers and driver, the keys of its jobs, and
 // the unassigned shares. Returns `AllocError` if memory for them can't be allocated.
-fn begin<'a, B: Books, D: Device>(
+fn begin<'a, B: Books, D: Device, K: Store + Drop>(
     alloc: Global,
     workers: u8,
     device: &'a D,
+    store: ReadyStore<K>,
     blanks: Blanks,
     book: NewServerBook,
-) -> Result<Begun<'a, B, D>, AllocError>
+) -> Result<Begun<'a, B, D, K>, AllocError>
     requires parts { blanks.parts ≡ workers + 2 }
     requires names { AreNamed blanks B.names }
     requires books { blanks.parts ≡ B.parts }
@@ -357,7 +366,9 @@ fn begin<'a, B: Books, D: Device>(
     ensures keys { IfOk result (λ b. b.keys ≡ first_brought B.first_job) }
     ensures parts { IfOk result (λ b. b.unassigned.parts + vec_len b.tallies ≡ B.parts) }
 {
-    let (server, mut unassigned, logs, keys) = Locked::<B, D>::new(alloc, device, blanks, book)?;
+    let (server, mut unassigned, logs, keys) = Locked::<B, D, K>::new(
+        alloc, device, store, blanks, book,
+    )?;
     let tallies = unassigned.split_each(alloc, usize::from(workers) + 1)?;
     Ok(Begun {
         server,
@@ -370,8 +381,8 @@ fn begin<'a, B: Books, D: Device>(
 
 // Closes a server whose workers have ended, and sums their replies. `unassigned` has the unassigned
 // shares that their change counters were split from.
-fn close<B: Books, D: Device, X: Drop>(
-    server: Locked<'_, B, D>,
+fn close<B: Books, D: Device, K: Store + Drop, X: Drop>(
+    server: Locked<'_, B, D, K>,
     mut unassigned: Unassigned<B>,
     ended: EndedOf<X, Tallies<B>, ServerOf<B>>,
 ) -> Fed<X>

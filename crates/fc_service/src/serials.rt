@@ -1,11 +1,14 @@
-//! The first serial of a server, from the time at which the server starts.
+//! The first serial of a server, from the time at which the server starts, and from stored slots.
 //!
-//! It has to be higher than any serial that an earlier server reached. See [`serial_of_start`].
+//! It has to be higher than any serial that an earlier server reached. See [`serial_of_start`] and
+//! [`serial_over`].
 ghost use Rattle.std.specs.Prelude.{◌≡◌, ◌≤◌, ◌/◌, min};
 ghost use Rattle.std.specs.Time.{system_time_nanos};
 ghost use Rattle.fc_registry.specs.Slots.{last_serial};
-ghost use Rattle.fc_service.specs.Serials.{serial_of_start};
+ghost use Rattle.fc_service.specs.Serials.{greatest_serial, serial_of_start, serial_over};
 
+use fc_registry::LAST_SERIAL;
+use fc_store::StoredSlot;
 use std::io;
 use std::time::{Clock, SystemTime, UNIX_EPOCH};
 
@@ -57,4 +60,26 @@ pub fn serial_of_start(milliseconds: u64) -> u64
 {
     let passed = milliseconds.min(LAST_START);
     OF_MILLISECOND * passed + OF_SECOND * (passed / 1_000)
+}
+
+/// Returns the first serial of a server that starts over stored slots at this time.
+///
+/// The time is in milliseconds since the beginning of 1970. The serial is that of
+/// [`serial_of_start`], or one more than the greatest stored serial if that is greater. So it is
+/// greater than each stored serial, unless some slot is stored at the last serial.
+pub fn serial_over(milliseconds: u64, stored: &[StoredSlot]) -> u64
+    ensures value { result ≡ serial_over milliseconds stored.now }
+    ensures bound { result ≤ last_serial }
+{
+    let next = greatest_serial(stored).saturating_add(1).min(LAST_SERIAL);
+    serial_of_start(milliseconds).max(next)
+}
+
+// Returns the greatest serial of stored slots, or 0 if there are none.
+fn greatest_serial(stored: &[StoredSlot]) -> u64
+    ensures { result ≡ greatest_serial stored.now }
+{
+    stored
+        .iter()
+        .fold(0, |greatest, slot| greatest.max(slot.serial))
 }

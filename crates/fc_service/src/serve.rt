@@ -1,31 +1,32 @@
 //! A server on a socket, with one thread or with workers.
 //!
 //! One thread receives the datagrams. Their jobs run on worker threads or on the receiving thread.
-ghost use Rattle.std.specs.Prelude.{◌≡◌, ◌≤◌, ◌⊎◌, ⊤, [], if◌then◌else◌, IfOk, IfSome, None};
+ghost use Rattle.std.specs.Prelude.{◌≡◌, ◌⊎◌, ⊤, [], false, if◌then◌else◌, true, IfOk, IfSome, None};
 ghost use Rattle.fc_host.specs.Clocks.{AreReadAt};
 ghost use Rattle.fc_service.specs.Pooled.{locked_view};
-ghost use Rattle.fc_service.specs.Rounds.{HasReceivedWith, HasServedBy, HasServedPooled, IsServed, begin_by, round_calls};
-ghost use Rattle.fc_server.specs.States.{CanBegin, first_server};
+ghost use Rattle.fc_service.specs.Rounds.{HasReceivedWith, HasServedBy, HasServedPooled, IsOneThread, IsServed, offload_of, round_calls};
 ghost use Rattle.fc_service.specs.declared.replies.Replies.{Replies as Counts};
 ghost use Rattle.fc_cli.specs.declared.status.Status.TheVariants.{Done, Failed};
+ghost use Rattle.fc_workers.specs.SharedStores.{HasSaved};
+ghost use Rattle.fc_service.specs.Starting.{IsRestoredFrom};
 
 use crate::alone::Sensed;
 use crate::pool::{Driven, Driver, Ingress, Pool, run_pool};
 use crate::replies::Replies;
 use crate::reports::{CountedSink, Reports};
 use crate::rounds::Unprepared;
-use crate::serials::serial_of_start;
+use crate::slots::Slots;
 use crate::timed::{TimersOf, run_timed};
 use crate::timer_jobs::{TimerJobs, TimerWire};
 use fc_cli::status::{Status, tell};
-use fc_core::Policy;
 use fc_host::clock::{Elapsed, SensingDevice};
 use fc_host::sensors::Sensors;
 use fc_host::socket::{Receiving, Replying, Sink, Source, open};
 use fc_host::timer::Timer;
 use fc_record::{RecordedAlone, Recorder, Reporter};
-use fc_server::{Begin, FirstServer, SingleThread};
-use fc_workers::{Offload, TimeSource, Wire};
+use fc_server::{FirstServer, SingleThread};
+use fc_store::Store;
+use fc_workers::{Offload, ReadyStore, TimeSource, Wire};
 use log::{Log, info};
 use std::alloc::{AllocError, Global};
 use std::io;
@@ -36,24 +37,20 @@ use std::thread::Threads;
 use std::time::Clock;
 use thiserror::Error;
 
-/// The least cost, in instructions, of a run that is dispatched to a worker.
+/// The least cost, in steps, of a run that is dispatched to a worker.
 ///
 /// Dispatching a job wakes a thread, which costs about 14 us of processor time. A program executes
-/// some thousand instructions in this time. A cheaper job runs on the thread that received it.
+/// some thousand steps in this time. A cheaper job runs on the thread that received it.
 const EXPENSIVE: u32 = 6_000;
 
 /// The extent of a server.
 ///
 /// It has the number of workers, 1 to 16, and the number of datagrams after which the server ends;
-/// 0 is never. It also has the time of its start, in milliseconds since 1970, which gives the first
-/// serial of its slots; the first message ID of the server's own; and its policy.
+/// 0 is never.
 #[derive(Clone, Copy)]
 pub struct Extent {
     pub workers: u8,
     pub limit: u32,
-    pub started: u64,
-    pub first_id: u16,
-    pub policy: Policy,
 }
 
 // The reason why a server doesn't start.
@@ -95,6 +92,7 @@ pub fn serve<
     Q: Reporter + Sync,
     E: Write,
     Z: Sensors + Sync,
+    P: Store + Send + Drop,
 >(
     rt: &R,
     alloc: Global,
@@ -103,11 +101,13 @@ pub fn serve<
     sensors: &Z,
     listening: Listening,
     timers: Vec<Timer>,
+    slots: Slots<P>,
     extent: Extent,
 ) -> Status
     ensures status { (result ≡ Done) ⊎ (result ≡ Failed) }
+    ensures starts { P.persistent ≡ true → IsRestoredFrom (P.stored slots.store) slots.first }
     ensures served { result ≡ Done → (replies : Counts) × IsServed timers.items Z.are_sensed
-        (round_calls (λ receive before after. after ≡ before) (λ now before after. after ≡ before) (λ emission out before after. ⊤)) C.recorded records.now.reports.every Q.reported extent None None replies }
+        (round_calls (λ receive before after. after ≡ before) (λ now before after. after ≡ before) (λ emission out before after. ⊤)) C.recorded records.now.reports.every Q.reported extent (HasSaved P.Store) P.persistent slots.first None None replies }
 {
     let address = listening.address;
     match open(rt, address) {
@@ -117,7 +117,7 @@ pub fn serve<
             }
             let source = Receiving::new(&socket);
             done_if(serve_timed(
-                rt, alloc, records, err, sensors, source, &socket, timers, extent,
+                rt, alloc, records, err, sensors, source, &socket, timers, slots, extent,
             )
             .is_some())
         }
@@ -132,13 +132,16 @@ fn done_if(done: bool) -> Status
     if done { Status::Done } else { Status::Failed }
 }
 
-/// Serves datagrams of a source on a new server with empty slots.
+/// Serves datagrams of a source on a server that starts with `slots`.
 ///
 /// The server ends once it has received `extent.limit` datagrams. Programs read the milliseconds
 /// since the start, and the sensor readings. This thread answers a datagram with a cheap job before
 /// it receives the next. Workers, each on its own thread, run the jobs whose programs may run long.
-/// If there is one worker, it is this thread, for all jobs. The same holds if no thread can be
-/// created for a worker, and this is written to `err`.
+/// If there is one worker and the store isn't persistent, this thread runs all jobs. The same holds
+/// if no thread can be created for a worker, and this is written to `err`.
+///
+/// If the store is persistent, each change of a slot is saved before it is made. Workers, or the
+/// one worker, run the jobs that may change a slot.
 ///
 /// After each datagram notifications that have timed out are retransmitted, and observers with
 /// pending notifications are notified. If no datagram comes in time, time passes. A receive waits
@@ -167,6 +170,7 @@ pub fn serve_at<
     Q: Reporter + Sync,
     E: Write,
     Z: Sensors + Sync,
+    P: Store + Send + Drop,
 >(
     rt: &R,
     alloc: Global,
@@ -175,14 +179,16 @@ pub fn serve_at<
     sensors: &Z,
     source: S,
     sink: &K,
+    slots: Slots<P>,
     extent: Extent,
 ) -> Option<S>
-    ensures { IfSome result (λ left. (replies : Counts)
-        × IsServed [] Z.are_sensed (round_calls S.received (λ now before after. after ≡ before) K.went) C.recorded records.now.reports.every Q.reported extent (S.came source) (S.came left) replies) }
+    ensures starts { P.persistent ≡ true → IsRestoredFrom (P.stored slots.store) slots.first }
+    ensures served { IfSome result (λ left. (replies : Counts)
+        × IsServed [] Z.are_sensed (round_calls S.received (λ now before after. after ≡ before) K.went) C.recorded records.now.reports.every Q.reported extent (HasSaved P.Store) P.persistent slots.first (S.came source) (S.came left) replies) }
 {
     let timers = Vec::new(alloc);
     serve_timed(
-        rt, alloc, records, err, sensors, source, sink, timers, extent,
+        rt, alloc, records, err, sensors, source, sink, timers, slots, extent,
     )
 }
 
@@ -200,6 +206,7 @@ pub fn serve_timed<
     Q: Reporter + Sync,
     E: Write,
     Z: Sensors + Sync,
+    P: Store + Send + Drop,
 >(
     rt: &R,
     alloc: Global,
@@ -209,13 +216,15 @@ pub fn serve_timed<
     source: S,
     sink: &K,
     timers: Vec<Timer>,
+    slots: Slots<P>,
     extent: Extent,
 ) -> Option<S>
-    ensures { IfSome result (λ left. (replies : Counts)
-        × IsServed timers.items Z.are_sensed (round_calls S.received (λ now before after. after ≡ before) K.went) C.recorded records.now.reports.every Q.reported extent (S.came source) (S.came left) replies) }
+    ensures starts { P.persistent ≡ true → IsRestoredFrom (P.stored slots.store) slots.first }
+    ensures served { IfSome result (λ left. (replies : Counts)
+        × IsServed timers.items Z.are_sensed (round_calls S.received (λ now before after. after ≡ before) K.went) C.recorded records.now.reports.every Q.reported extent (HasSaved P.Store) P.persistent slots.first (S.came source) (S.came left) replies) }
 {
     match serve_counted(
-        rt, alloc, records, err, sensors, source, sink, timers, extent,
+        rt, alloc, records, err, sensors, source, sink, timers, slots, extent,
     ) {
         Ok(Received { source, replies }) => {
             info!(records.end; "{replies}");
@@ -245,6 +254,7 @@ fn serve_counted<
     Z: Sensors + Sync,
     S: Source + Drop,
     K: Sink + Sync,
+    P: Store + Send + Drop,
 >(
     rt: &R,
     alloc: Global,
@@ -254,13 +264,14 @@ fn serve_counted<
     source: S,
     sink: &K,
     timers: Vec<Timer>,
+    slots: Slots<P>,
     extent: Extent,
 ) -> Result<Received<S>, ServeStop>
-    ensures { IfOk result (λ r. IsServed timers.items Z.are_sensed (round_calls S.received (λ now before after. after ≡ before) K.went) C.recorded records.now.reports.every Q.reported extent (S.came source) (S.came r.source) r.replies) }
+    ensures { IfOk result (λ r. IsServed timers.items Z.are_sensed (round_calls S.received (λ now before after. after ≡ before) K.went) C.recorded records.now.reports.every Q.reported extent (HasSaved P.Store) P.persistent slots.first (S.came source) (S.came r.source) r.replies) }
 {
     if records.reports.every.is_none() {
         return serve_to_end(
-            rt, alloc, records, err, sensors, source, sink, timers, extent,
+            rt, alloc, records, err, sensors, source, sink, timers, slots, extent,
         );
     }
     let counted = CountedSink {
@@ -268,7 +279,7 @@ fn serve_counted<
         reporter: records.reports.reporter,
     };
     serve_to_end(
-        rt, alloc, records, err, sensors, source, &counted, timers, extent,
+        rt, alloc, records, err, sensors, source, &counted, timers, slots, extent,
     )
 }
 
@@ -283,6 +294,7 @@ fn serve_to_end<
     Z: Sensors + Sync,
     S: Source + Drop,
     K: Sink + Sync,
+    P: Store + Send + Drop,
 >(
     rt: &R,
     alloc: Global,
@@ -292,9 +304,10 @@ fn serve_to_end<
     source: S,
     sink: &K,
     timers: Vec<Timer>,
+    slots: Slots<P>,
     extent: Extent,
 ) -> Result<Received<S>, ServeStop>
-    ensures { IfOk result (λ r. IsServed timers.items Z.are_sensed (round_calls S.received (λ now before after. after ≡ before) K.went) C.recorded records.now.reports.every Q.reported extent (S.came source) (S.came r.source) r.replies) }
+    ensures { IfOk result (λ r. IsServed timers.items Z.are_sensed (round_calls S.received (λ now before after. after ≡ before) K.went) C.recorded records.now.reports.every Q.reported extent (HasSaved P.Store) P.persistent slots.first (S.came source) (S.came r.source) r.replies) }
 {
     let times = Elapsed::start(rt).map_err(ServeStop::Clock)?;
     let has_timers = !timers.is_empty();
@@ -303,15 +316,20 @@ fn serve_to_end<
         timers,
         jobs: &jobs,
     };
-    if extent.workers == 1 {
+    if is_one_thread(extent.workers, &slots.store) {
+        let Slots {
+            first,
+            store: _unused,
+        } = slots;
         return Ok(serve_alone(
-            rt, alloc, records, sensors, source, sink, &times, timers, extent,
+            rt, alloc, records, sensors, source, sink, &times, timers, first, extent,
         )?);
     }
     let replying = Replying { sink };
     if !has_timers {
         return Ok(serve_pooled(
-            rt, alloc, records, err, sensors, source, sink, &replying, &times, timers, extent,
+            rt, alloc, records, err, sensors, source, sink, &replying, &times, timers, slots,
+            extent,
         )?);
     }
     let wire = TimerWire {
@@ -319,19 +337,27 @@ fn serve_to_end<
         jobs: &jobs,
     };
     Ok(serve_pooled(
-        rt, alloc, records, err, sensors, source, sink, &wire, &times, timers, extent,
+        rt, alloc, records, err, sensors, source, sink, &wire, &times, timers, slots, extent,
     )?)
 }
 
-// Returns the initial state of a server.
-fn begin_by(extent: Extent) -> Begin
-    ensures begin { result ≡ begin_by extent }
-    ensures serial { CanBegin result }
+// Returns whether a server runs all jobs on the receiving thread. With a persistent store it never
+// does, so that other jobs run while a change is saved.
+fn is_one_thread<P: Store>(workers: u8, store: &ReadyStore<P>) -> bool
+    ensures one { result ≡ true → IsOneThread workers P.persistent }
+    ensures more { result ≡ false → IsOneThread workers P.persistent → ⊥ }
 {
-    Begin {
-        serial: serial_of_start(extent.started),
-        id: extent.first_id,
-        policy: extent.policy,
+    workers == 1 && !store.is_persistent()
+}
+
+// Returns the dispatch policy of a server, by whether its store is persistent.
+fn offload_of<P: Store>(store: &ReadyStore<P>) -> Offload
+    ensures { result ≡ offload_of P.persistent }
+{
+    if store.is_persistent() {
+        Offload::ChangesAndExpensive(EXPENSIVE)
+    } else {
+        Offload::Expensive(EXPENSIVE)
     }
 }
 
@@ -381,7 +407,7 @@ impl<'a, 'b, S: Source + Drop, K: Sink, M: TimeSource, Q: Reporter> Driver<Recei
     }
 }
 
-// Serves with several workers, or with this thread alone if no thread can be created for a worker.
+// Serves with workers, or with this thread alone if no thread can be created for a worker.
 // The workers' replies are passed to `wire`. Returns the source, and the numbers of replies.
 // Returns `AllocError` if memory for the server can't be allocated.
 fn serve_pooled<
@@ -395,6 +421,7 @@ fn serve_pooled<
     K: Sink + Sync,
     W: Wire + Sync,
     M: TimeSource + Sync,
+    P: Store + Send + Drop,
 >(
     rt: &R,
     alloc: Global,
@@ -406,14 +433,16 @@ fn serve_pooled<
     wire: &W,
     times: &M,
     timers: TimersOf<'_>,
+    slots: Slots<P>,
     extent: Extent,
 ) -> Result<Received<S>, AllocError>
-    ensures { let view = locked_view (first_server (begin_by extent)) (AreReadAt M.is_time Z.are_sensed) M.is_time M.is_random W.called C.recorded in
-        IfOk result (λ r. HasServedPooled view timers.entry.timers.items records.now.reports.every Q.reported (round_calls S.received M.is_time K.went) extent.workers extent.limit (begin_by extent) (S.came source) (S.came r.source) r.replies) }
+    ensures { let view = locked_view slots.first (AreReadAt M.is_time Z.are_sensed) (HasSaved P.Store) M.is_time M.is_random W.called C.recorded in
+        IfOk result (λ r. HasServedPooled view timers.entry.timers.items records.now.reports.every Q.reported (round_calls S.received M.is_time K.went) extent.workers extent.limit P.persistent slots.first (S.came source) (S.came r.source) r.replies) }
 {
+    let Slots { first, store } = slots;
     let pool = Pool {
         workers: extent.workers,
-        offload: Offload::Expensive(EXPENSIVE),
+        offload: offload_of(&store),
         wire,
         times,
         device: &SensingDevice { times, sensors },
@@ -427,8 +456,7 @@ fn serve_pooled<
         reports: &records.reports,
         timers,
     };
-    let first = FirstServer::new(alloc, &begin_by(extent))?;
-    let fed = run_pool(rt, alloc, err, &pool, first, receiver)?;
+    let fed = run_pool(rt, alloc, err, &pool, first, store, receiver)?;
     let Received { source, replies } = fed.given;
     Ok(Received {
         source,
@@ -436,7 +464,7 @@ fn serve_pooled<
     })
 }
 
-// Serves with one worker: runs each datagram's job on this thread, before the next is received.
+// Serves on one thread: runs each datagram's job on this thread, before the next is received.
 // Returns the source, and the numbers of replies, each counted once. Returns `AllocError` if memory
 // for the server can't be allocated.
 fn serve_alone<
@@ -457,13 +485,13 @@ fn serve_alone<
     sink: &K,
     times: &M,
     timers: TimersOf<'_>,
+    first: FirstServer,
     extent: Extent,
 ) -> Result<Received<S>, AllocError>
-    ensures { IfOk result (λ r. HasServedBy timers.entry.timers.items records.now.reports.every Q.reported Z.are_sensed (round_calls S.received M.is_time K.went) C.recorded extent.limit (begin_by extent)
+    ensures { IfOk result (λ r. HasServedBy timers.entry.timers.items records.now.reports.every Q.reported Z.are_sensed (round_calls S.received M.is_time K.went) C.recorded extent.limit first
         (S.came source) (S.came r.source) r.replies) }
 {
-    let begin = begin_by(extent);
-    let alone = RecordedAlone::new(SingleThread::new(alloc, &begin)?, records.changes);
+    let alone = RecordedAlone::new(SingleThread::over(alloc, first)?, records.changes);
     let sensed = Sensed { sensors };
     let Driven {
         ingress: _last,

@@ -5,6 +5,7 @@ ghost use Rattle.fc_server.specs.States.{CanBegin};
 ghost use Rattle.fc_service.specs.Playing.{IsFedByLines, IsPlayedBeside};
 ghost use Rattle.fc_service.specs.Pooled.{offload_where};
 ghost use Rattle.fc_service.specs.declared.replies.Replies.{Replies as Counts};
+ghost use Rattle.fc_workers.specs.SharedStores.{HasSaved};
 ghost use Rattle.fc_workers.specs.declared.dispatcher.Offload.TheVariants.{Every};
 
 use crate::lines::play_lines;
@@ -15,7 +16,8 @@ use fc_cli::stop::Stop;
 use fc_host::scripted::ScriptedHost;
 use fc_record::NoChanges;
 use fc_server::{Begin, FirstServer};
-use fc_workers::Offload;
+use fc_store::{NoStore, Store};
+use fc_workers::{Offload, ReadyStore};
 use std::alloc::Global;
 use std::io::{BufRead, Write};
 use std::sync::Wait;
@@ -74,7 +76,7 @@ pub fn play_by_workers<R: Threads + Wait + Sync, I: BufRead + Drop, W: Write, E:
     begin: Begin,
 ) -> Status
     requires { CanBegin begin }
-    ensures { result ≡ Done → (has_workers : Bool) × (replies : Counts) × IsPlayedBeside begin (offload_where has_workers Every) workers (I.remaining input) replies }
+    ensures { result ≡ Done → (has_workers : Bool) × (replies : Counts) × IsPlayedBeside (HasSaved ⟦<NoStore as Store>⟧) begin (offload_where has_workers Every) workers (I.remaining input) replies }
 {
     match play_in_pool(rt, alloc, input, out, err, workers, begin) {
         Ok(()) => Status::Done,
@@ -94,7 +96,7 @@ fn play_in_pool<R: Threads + Wait + Sync, I: BufRead + Drop, W: Write, E: Write>
     begin: Begin,
 ) -> Result<(), Stop>
     requires { CanBegin begin }
-    ensures { OnOk result ((has_workers : Bool) × (replies : Counts) × IsPlayedBeside begin (offload_where has_workers Every) workers (I.remaining input) replies) }
+    ensures { OnOk result ((has_workers : Bool) × (replies : Counts) × IsPlayedBeside (HasSaved ⟦<NoStore as Store>⟧) begin (offload_where has_workers Every) workers (I.remaining input) replies) }
 {
     let scripted = ScriptedHost::new();
     let pool = Pool {
@@ -112,5 +114,6 @@ fn play_in_pool<R: Threads + Wait + Sync, I: BufRead + Drop, W: Write, E: Write>
         scripted: &scripted,
     };
     let first = FirstServer::new(alloc, &begin)?;
-    run_pool(rt, alloc, err, &pool, first, player)?.given
+    let store = ReadyStore::new(NoStore);
+    run_pool(rt, alloc, err, &pool, first, store, player)?.given
 }

@@ -1,11 +1,12 @@
 use Rattle.std.proofs.Common.{◌≡◌, ◌+◌, arith, subst, sym}
 use Rattle.std.specs.Prelude.{vec_len}
+use Rattle.fc_workers.specs.SharedStores.{HasSaved}
 use Rattle.fc_service.specs.Pooled.{IsFed, offload_where, locked_view}
 use Rattle.fc_service.proofs.pool.run_named.Goals as goal
 
 pub returns-clause-fed : goal.returns-clause-fed
 returns-clause-fed g c =
-    let worker_view = locked_view g.B.Books.first g.D.Device.are_readings g.M.TimeSource.is_time g.M.TimeSource.is_random g.W.Wire.called g.C.Recorder.recorded in
+    let worker_view = locked_view g.B.Books.first g.D.Device.are_readings (HasSaved g.K.Store) g.M.TimeSource.is_time g.M.TimeSource.is_random g.W.Wire.called g.C.Recorder.recorded in
     let Drives = g.F.Driver.drives _ in
     let ended = c.in_ok-ended.ended in
     let offload = offload_where c.close.result.has_workers c.args.pool.now.offload in
