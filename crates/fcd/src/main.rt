@@ -10,6 +10,7 @@ use fc_host::sensors::{FileSensors, NoSensors};
 use fc_host::timer::Timer;
 use fc_lines::LineLimit;
 use fc_record::{LoggedChanges, LoggedReports, Recorder, Reporter};
+use fc_registry::StartError;
 use fc_server::Begin;
 use fc_service::command::command;
 use fc_service::every::{BadTimer, timers_in};
@@ -19,9 +20,13 @@ use fc_service::policy::policy_in;
 use fc_service::reports::Reports;
 use fc_service::serials::unix_milliseconds;
 use fc_service::serve::{Extent, Records, serve};
+use fc_service::slots::Slots;
 use fc_service::workers::play_by_workers;
+use fc_sql::{FileOfSlots, OpenError, SqlStore, open};
+use fc_store::{Store, copy_slots};
 use log::sink::Console;
 use log::{LevelFilter, Log, Logged};
+use sqlite::Alter;
 use std::io;
 use std::io::{BufReader, BufWriter, Write};
 use std::net::Net;
@@ -30,12 +35,24 @@ use std::random::RandomSource;
 use std::rt::Runtime;
 use std::sync::Wait;
 use std::thread::Threads;
+use thiserror::Error;
 
 /// Serial of the empty slots at the start of `fcd play`.
 const FIRST_SERIAL: u64 = 0;
 
 /// Message ID that the server draws first in `fcd play`.
 const FIRST_ID: u16 = 0;
+
+/// The reason why a server can't use a store.
+#[derive(Debug, Drop, Error)]
+enum BadStore {
+    /// The store can't be opened.
+    #[error("{0}")]
+    Open(OpenError),
+    /// A slot can't be restored, or memory for the slots can't be allocated.
+    #[error("{0}")]
+    Start(StartError),
+}
 
 // Runs the command of the command line, and returns its status, or `Bad` if a word isn't UTF-8.
 fn run<R: Runtime + AllocGlobal + Threads + Wait + Net + RandomSource + Sync, E: Write>(
@@ -129,10 +146,11 @@ fn serve_socket<R: Runtime + AllocGlobal + Threads + Wait + Net + RandomSource +
     )
 }
 
-// Serves with these options and timers, and returns the status of `serve`. `files` opens the
-// sensors' file, if the options name one. `err` gets the listening address, or the reason of a
-// failure. `end` logs the end of the server, `changes` records the changes of programs, and
-// `reporter` reports the counts. Returns an error if the time or the random bytes can't be read.
+// Serves with these options and timers. Returns the status of `serve`, or `Failed` if the store
+// can't be used. `files` opens the files that the options name. `err` gets the listening address,
+// or the reason of a failure. `end` logs the end of the server, `changes` records the changes of
+// programs, and `reporter` reports the counts. Returns an error if the time or the random bytes
+// can't be read, or if memory for the slots can't be allocated.
 fn serve_logged<
     R: Runtime + AllocGlobal + Threads + Wait + Net + RandomSource + Sync,
     E: Write,
@@ -149,43 +167,108 @@ fn serve_logged<
     changes: &C,
     reporter: &Q,
 ) -> anyhow::Result<Status> {
-    let ServeOptions {
-        listening,
-        workers,
-        limit,
-        policy,
-        readings,
-        logs,
-    } = options;
-    let alloc = rt.alloc();
     let records = Records {
         end,
         changes,
         reports: Reports {
-            every: logs.report,
+            every: options.logs.report,
             reporter,
         },
     };
     let started = unix_milliseconds(rt).map_err(|error| anyhow::anyhow!("clock: {error}"))?;
     let first_id = random_id(rt).map_err(|error| anyhow::anyhow!("random bytes: {error}"))?;
-    let extent = Extent {
-        workers,
-        limit,
-        started,
-        first_id,
-        policy,
+    let Some(path) = options.store else {
+        let slots = Slots::empty(rt.alloc(), started, first_id, &options.policy)?;
+        return Ok(serve_slots(rt, files, err, &options, timers, &records, slots));
     };
-    Ok(match readings {
+    match stored_slots(files, path, started, first_id, &options.policy) {
+        Ok((slots, is_saved)) => {
+            if !is_saved {
+                writeln!(err, "store {path}: the serial of the start isn't saved")?;
+            }
+            Ok(serve_stored(rt, files, err, &options, timers, &records, slots))
+        }
+        Err(bad) => tell_bad_store(err, path, &bad),
+    }
+}
+
+// Opens the store at `path`, restores its slots for a server that starts at `started`, and saves
+// the serial of the start. Returns the slots, and whether the serial is saved. Otherwise returns
+// why the store can't be opened, or why its slots can't be restored.
+fn stored_slots(
+    files: &HostRuntime,
+    path: &str,
+    started: u64,
+    first_id: u16,
+    policy: &Policy,
+) -> Result<(Slots<FileOfSlots>, bool), BadStore> {
+    let store = match open(files, path) {
+        Ok(store) => store,
+        Err(error) => return Err(BadStore::Open(error)),
+    };
+    let alloc = files.alloc();
+    let Ok(stored) = copy_slots(alloc, store.slots()) else {
+        return Err(BadStore::Start(StartError::Memory));
+    };
+    Slots::restored(alloc, store, &stored, started, first_id, policy).map_err(BadStore::Start)
+}
+
+// Serves as `serve_slots` does, with the slots of a database. The database's own type is left open
+// here: at the type of a file, the proof that the store may go to a thread computes too long.
+fn serve_stored<
+    R: Runtime + AllocGlobal + Threads + Wait + Net + RandomSource + Sync,
+    E: Write,
+    L: Log,
+    C: Recorder + Sync,
+    Q: Reporter + Sync,
+    A: Alter + Send + Drop,
+>(
+    rt: &R,
+    files: &HostRuntime,
+    err: &mut E,
+    options: &ServeOptions<'_>,
+    timers: Vec<Timer>,
+    records: &Records<'_, L, C, Q>,
+    slots: Slots<SqlStore<A>>,
+) -> Status {
+    serve_slots(rt, files, err, options, timers, records, slots)
+}
+
+// Serves with these options, timers and slots, and returns the status of `serve`. `files` opens the
+// sensors' file, if the options name one.
+fn serve_slots<
+    R: Runtime + AllocGlobal + Threads + Wait + Net + RandomSource + Sync,
+    E: Write,
+    L: Log,
+    C: Recorder + Sync,
+    Q: Reporter + Sync,
+    P: Store + Send + Drop,
+>(
+    rt: &R,
+    files: &HostRuntime,
+    err: &mut E,
+    options: &ServeOptions<'_>,
+    timers: Vec<Timer>,
+    records: &Records<'_, L, C, Q>,
+    slots: Slots<P>,
+) -> Status {
+    let alloc = rt.alloc();
+    let listening = options.listening;
+    let extent = Extent {
+        workers: options.workers,
+        limit: options.limit,
+    };
+    match options.readings {
         Some(path) => {
             let sensors = FileSensors::new(files, path);
             serve(
-                rt, alloc, &records, err, &sensors, listening, timers, extent,
+                rt, alloc, records, err, &sensors, listening, timers, slots, extent,
             )
         }
         None => serve(
-            rt, alloc, &records, err, &NoSensors, listening, timers, extent,
+            rt, alloc, records, err, &NoSensors, listening, timers, slots, extent,
         ),
-    })
+    }
 }
 
 // Returns the filter of a logger, which keeps records of level info if `is_asked`, or else none.
@@ -201,6 +284,13 @@ fn level_if(is_asked: bool) -> LevelFilter {
 fn tell_bad<E: Write>(err: &mut E, bad: BadOption) -> anyhow::Result<Status> {
     writeln!(err, "{bad}")?;
     Ok(Status::Bad)
+}
+
+// Writes to `err` why the store at `path` can't be used. Returns `Failed`, or an error if writing
+// fails.
+fn tell_bad_store<E: Write>(err: &mut E, path: &str, bad: &BadStore) -> anyhow::Result<Status> {
+    writeln!(err, "error: store {path}: {bad}")?;
+    Ok(Status::Failed)
 }
 
 // Writes to `err` why the timers of `--every` can't be made. Returns `Failed` if memory can't be
