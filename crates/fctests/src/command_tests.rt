@@ -57,6 +57,7 @@ fn serve_has_its_defaults(rt: HostRuntime) -> Result<(), Fail> {
     assert_eq!(rt; options.workers, 2);
     assert_eq!(rt; options.limit, 0);
     assert_eq!(rt; options.readings, None);
+    assert_eq!(rt; options.store, None);
     assert!(rt; options.policy.managers == [EVERYONE; 4]);
     assert_eq!(rt; options.policy.limits.exchanges, 1024);
     assert_eq!(rt; options.policy.limits.share, 65_536);
@@ -84,6 +85,8 @@ fn serve_has_the_options_that_it_is_given(rt: HostRuntime) -> Result<(), Fail> {
         "changes",
         "--readings",
         "sensors",
+        "--store",
+        "slots.db",
         "--managers",
         "192.0.2.0/24",
         "--exchanges",
@@ -104,6 +107,7 @@ fn serve_has_the_options_that_it_is_given(rt: HostRuntime) -> Result<(), Fail> {
     assert_eq!(rt; options.workers, 16);
     assert_eq!(rt; options.limit, 7);
     assert_eq!(rt; options.readings, Some("sensors"));
+    assert_eq!(rt; options.store, Some("slots.db"));
     assert!(rt; options.policy.managers == [EXAMPLES; 4]);
     assert_eq!(rt; options.policy.limits.exchanges, 16_384);
     assert_eq!(rt; options.policy.limits.share, 32);

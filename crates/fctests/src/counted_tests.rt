@@ -10,8 +10,9 @@ use fc_help::{Method, NO_READINGS, Request};
 use fc_machine::{Frame, run};
 use fc_registry::{Ask, Committed, Job, Removal, SlotNumber, SlotSnapshot, Taken, Ticket};
 use fc_server::{Begin, FirstServer};
+use fc_store::NoStore;
 use fc_verify::verify;
-use fc_workers::{Bench, Blanks, Books, Locked, TrackLog};
+use fc_workers::{Bench, Blanks, Books, Locked, ReadyStore, TrackLog};
 use std::alloc::Global;
 use std::marker::Brand;
 use std::sync::{Arc, Wait};
@@ -46,8 +47,8 @@ fn commit<B: Bench, R: Wait>(
     }
 }
 
-// Runs the program of a snapshot, and commits the outcome. Returns whether the mark of the commit has
-// serial 8; `false` if there was no commit.
+// Runs the program of a snapshot, and commits the outcome. Returns whether the mark of the commit
+// has serial 8; `false` if there was no commit.
 fn commit_run<B: Bench, R: Wait>(
     rt: &R,
     frame: &mut Frame,
@@ -63,7 +64,10 @@ fn commit_run<B: Bench, R: Wait>(
         ticket.vars(),
         ticket.readings(),
     );
-    is_at_8(bench.commit(rt, 0, &outcome, ticket, tallies, log))
+    match bench.commit(rt, 0, &outcome, ticket, tallies, log) {
+        Some(committed) => is_at_8(committed),
+        None => false,
+    }
 }
 
 // Returns whether a run was committed, and its mark has serial 8.
@@ -91,8 +95,8 @@ fn change_slot<B: Bench, R: Wait>(
     let removal = bench.remove(rt, &job, tallies, log);
     let _absent = bench.remove(rt, &job, tallies, log);
     match removal {
-        Removal::Removed { serial } if has_run => Ok(Some(serial)),
-        Removal::Removed { .. } | Removal::Absent | Removal::AtEnd => Ok(None),
+        Some(Removal::Removed { serial }) if has_run => Ok(Some(serial)),
+        _ => Ok(None),
     }
 }
 
@@ -113,8 +117,12 @@ fn change<B: Books, R: Wait>(
     requires server { book.first ≡ B.first }
 {
     let device = Bare::new();
-    let (server, mut unassigned, mut logs, _keys) = Locked::<B, Bare>::new(
-        alloc, &device, blanks, book,
+    let (server, mut unassigned, mut logs, _keys) = Locked::<B, Bare, NoStore>::new(
+        alloc,
+        &device,
+        ReadyStore::new(NoStore),
+        blanks,
+        book,
     )?;
     let Some(mut log) = logs.pop() else {
         unreachable!();
@@ -184,8 +192,12 @@ fn know<B: Books, R: Wait>(
     requires server { book.first ≡ B.first }
 {
     let device = Bare::new();
-    let (server, mut unassigned, mut logs, _keys) = Locked::<B, Bare>::new(
-        alloc, &device, blanks, book,
+    let (server, mut unassigned, mut logs, _keys) = Locked::<B, Bare, NoStore>::new(
+        alloc,
+        &device,
+        ReadyStore::new(NoStore),
+        blanks,
+        book,
     )?;
     let Some(mut log) = logs.pop() else {
         unreachable!();

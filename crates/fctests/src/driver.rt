@@ -26,6 +26,10 @@ pub(crate) enum Request<'a> {
     Valid(u64),
     /// `POST /r/SLOT`.
     Post,
+    /// `DELETE /p/SLOT`.
+    Delete,
+    /// `GET /p/SLOT`.
+    Describe,
 }
 
 /// Makes the datagram of a confirmable request, with this message ID.
@@ -40,6 +44,8 @@ pub(crate) fn datagram(
         Request::Put(_) => (3, b'p'),
         Request::Get | Request::Valid(_) => (1, b'r'),
         Request::Post => (2, b'r'),
+        Request::Delete => (4, b'p'),
+        Request::Describe => (1, b'p'),
     };
     let id = id.to_be_bytes();
     let tens = b'0' + slot.number() / 10;

@@ -4,12 +4,13 @@
 //! hand.
 ghost use Rattle.std.specs.Prelude.{◌≤◌, IfSome, length};
 
+use crate::serving::serve_without_store;
 use crate::socket_tests::{check_logged, put_datagram, unrecorded};
 use coap_msg::{Emission, Endpoint};
 use fc_core::DEFAULT_POLICY;
 use fc_host::sensors::NoSensors;
 use fc_host::socket::{Buffer, Sink, Source};
-use fc_service::serve::{Extent, serve_at};
+use fc_service::serve::Extent;
 use fc_workers::CallLog;
 use log::sink::Memory;
 use log::{LevelFilter, Logged};
@@ -119,14 +120,8 @@ fn check_served<R: Abort + AllocGlobal + Threads + Wait + Clock + Sync>(
         sends: AtomicUsize::new(0),
         wrong: AtomicUsize::new(0),
     };
-    let extent = Extent {
-        workers,
-        limit: 8,
-        started: 0,
-        first_id: 0,
-        policy: DEFAULT_POLICY,
-    };
-    let served = serve_at(
+    let extent = Extent { workers, limit: 8 };
+    let served = serve_without_store(
         rt,
         alloc,
         &unrecorded(&log),
@@ -134,6 +129,7 @@ fn check_served<R: Abort + AllocGlobal + Threads + Wait + Clock + Sync>(
         &NoSensors,
         letters,
         &matching,
+        &DEFAULT_POLICY,
         extent,
     );
     assert!(rt; served.is_some() && err.is_empty());

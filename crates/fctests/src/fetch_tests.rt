@@ -8,7 +8,6 @@ use coap_client::Fetched;
 use coap_msg::Code;
 use coap_opts::Method;
 use fc_cli::Status;
-use fc_core::DEFAULT_POLICY;
 use fc_fetch::asking::ask_by;
 use fc_fetch::observer::ObservationExtent;
 use fc_fetch::ping::ping;
@@ -568,9 +567,6 @@ fn a_server_answers_a_ping(rt: HostRuntime) -> Result<(), Fail> {
     let extent = Extent {
         workers: 1,
         limit: 1,
-        started: 0,
-        first_id: 0,
-        policy: DEFAULT_POLICY,
     };
     let _memory = serve_while(&rt, &NoSensors, extent, |port| {
         let (ended, told) = pinged(&rt, rt.alloc(), port);
@@ -586,9 +582,6 @@ fn a_server_answers_a_ping_of_its_uri(rt: HostRuntime) -> Result<(), Fail> {
     let extent = Extent {
         workers: 1,
         limit: 2,
-        started: 0,
-        first_id: 0,
-        policy: DEFAULT_POLICY,
     };
     let _memory = serve_while(&rt, &NoSensors, extent, |port| {
         let bare = format!(in rt.alloc(); "coap://127.0.0.1:{port}")?;

@@ -72,7 +72,11 @@ mod request_tests;
 #[cfg(test)]
 mod response_tests;
 #[cfg(test)]
+mod restored_tests;
+#[cfg(test)]
 mod run_tests;
+#[cfg(test)]
+mod saving_tests;
 #[cfg(test)]
 mod scripted;
 #[cfg(test)]
@@ -80,9 +84,13 @@ mod sensor_tests;
 #[cfg(test)]
 mod separate_tests;
 #[cfg(test)]
+mod serving;
+#[cfg(test)]
 mod smaller_block_tests;
 #[cfg(test)]
 mod socket_tests;
+#[cfg(test)]
+mod store_tests;
 #[cfg(test)]
 mod timer_tests;
 #[cfg(test)]

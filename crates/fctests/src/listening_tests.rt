@@ -2,6 +2,7 @@
 //!
 //! A client at another address of this host tests where the server listens. The parts of the host
 //! that a server uses are its socket, the waits of a receive, and random words.
+use crate::serving::slots_without_store;
 use crate::socket_tests::{at_port, free_port, unrecorded};
 use coap_msg::Endpoint;
 use fc_cli::Status;
@@ -75,13 +76,7 @@ fn serve_at_address<
 {
     let alloc = rt.alloc();
     let writes = AtomicUsize::new(0);
-    let extent = Extent {
-        workers: 2,
-        limit,
-        started: 0,
-        first_id: 0,
-        policy: DEFAULT_POLICY,
-    };
+    let extent = Extent { workers: 2, limit };
     let listening = Listening { address, told };
     let (asked, status) = thread::join(
         rt,
@@ -101,6 +96,9 @@ fn serve_at_address<
             let log = Logged::new(rt, LevelFilter::Off, &memory);
             let mut err = Told { writes: &writes };
             let timers = Vec::new(alloc);
+            let Ok(slots) = slots_without_store(alloc, 0, &DEFAULT_POLICY) else {
+                return Status::Failed;
+            };
             serve(
                 rt,
                 alloc,
@@ -109,6 +107,7 @@ fn serve_at_address<
                 &NoSensors,
                 listening,
                 timers,
+                slots,
                 extent,
             )
         },

@@ -7,6 +7,7 @@ use crate::overtaking_tests::{
 };
 use fc_calls::ShardCall;
 use fc_registry::{Shard, SlotNumber};
+use fc_store::Store;
 use fc_workers::{Bench, Books, CallLog, Device, Gate, Locked};
 use std::alloc::{AllocError, Global};
 use std::sync::Wait;
@@ -49,7 +50,7 @@ pub(crate) trait Locks: Bench {
         ensures { F.post call result };
 }
 
-impl<'a, B: Books, D: Device> Locks for Locked<'a, B, D> {
+impl<'a, B: Books, D: Device, K: Store + Drop> Locks for Locked<'a, B, D, K> {
     fn hold<X, F: FnOnce() -> X + Drop, R: Wait>(&self, rt: &R, shard: u8, call: F) -> X {
         self.inspect(rt, shard, WhileHeld { call }, &mut ())
     }

@@ -19,10 +19,11 @@ use fc_help::{NO_READINGS, Readings};
 use fc_jobs::{Jobs, Sent};
 use fc_registry::SlotNumber;
 use fc_server::{DEFAULT_BEGIN, FirstServer};
+use fc_store::NoStore;
 use fc_verify::{Verified, verify};
 use fc_workers::{
     Bench, Blanks, Books, CallLog, Context, Device, Dispatcher, Gate, JobKeys, JobMessage, Locked,
-    Offload, SeedOf, ShareOf, TimeSource, TrackLog, Wire, drive_workers, make_seats,
+    Offload, ReadyStore, SeedOf, ShareOf, TimeSource, TrackLog, Wire, drive_workers, make_seats,
 };
 use std::alloc::{AllocError, Global};
 use std::marker::Brand;
@@ -527,8 +528,12 @@ fn hold_named<B: Books + Send + Sync, R: Threads + Wait + Clock + Sync>(
     requires server { book.first ≡ B.first }
 {
     let device = Bare::new();
-    let (server, mut unassigned, logs, keys) = Locked::<B, Bare>::new(
-        alloc, &device, blanks, book,
+    let (server, mut unassigned, logs, keys) = Locked::<B, Bare, NoStore>::new(
+        alloc,
+        &device,
+        ReadyStore::new(NoStore),
+        blanks,
+        book,
     )?;
     let tallies = unassigned.split_each(alloc, usize::from(tallies) + 1)?;
     let crew = Crew {

@@ -1,7 +1,7 @@
 //! A server with a policy, and clients at two addresses of this host.
 //!
 //! The expected bytes are worked out by hand.
-use crate::socket_tests::{at_port, check_logged, serve_while};
+use crate::socket_tests::{at_port, check_logged, serve_since};
 use coap_dedup::Limits;
 use fc_core::{MOST_NETWORKS, Network, Policy};
 use fc_host::sensors::NoSensors;
@@ -93,14 +93,15 @@ fn serve_two<R: Abort + AllocGlobal + Threads + Wait + Clock + Net + Sync>(
     rt: &R,
     workers: u8,
 ) -> Result<(), Fail> {
-    let extent = Extent {
-        workers,
-        limit: 6,
-        started: 0,
-        first_id: 0,
-        policy: POLICY,
-    };
-    let memory = serve_while(rt, &NoSensors, extent, |port| ask_from_two(rt, port))?;
+    let extent = Extent { workers, limit: 6 };
+    let memory = serve_since(
+        rt,
+        &NoSensors,
+        0,
+        &POLICY,
+        extent,
+        |port| ask_from_two(rt, port),
+    )?;
     check_logged(rt, memory, "sent 5 failed 0");
     Ok(())
 }

@@ -10,13 +10,14 @@ use fc_record::NoChanges;
 use fc_registry::SlotNumber;
 use fc_server::{Begin, FirstServer};
 use fc_service::pool::{Driven, Driver, Ingress, Pool, run_pool};
-use fc_store::{StoredProgram, StoredSlot};
-use fc_workers::Offload;
+use fc_store::{NoStore, StoredProgram, StoredSlot};
+use fc_workers::{Offload, ReadyStore};
 use std::alloc::{AllocError, Global};
 use std::array::from_fn;
 use std::sync::Wait;
 use std::test::Fail;
 use std::thread;
+use std::thread::Threads;
 use std::time::{Clock, Duration};
 
 // A server whose slots begin at serial 7.
@@ -74,7 +75,8 @@ fn a_pool_counts_the_changes_of_each_shard(rt: HostRuntime) -> Result<(), Fail> 
     let mut err = Vec::new(rt.alloc());
     let installs = Installs { alloc: rt.alloc() };
     let first = FirstServer::new(rt.alloc(), &AT_SEVEN)?;
-    let fed = run_pool(&rt, rt.alloc(), &mut err, &pool, first, installs)?;
+    let store = ReadyStore::new(NoStore);
+    let fed = run_pool(&rt, rt.alloc(), &mut err, &pool, first, store, installs)?;
     fed.given?;
     assert!(rt; fed.has_workers);
     assert!(rt; fed.closed.changes == [0, 3, 1, 0, 0, 0, 0, 0]);
@@ -114,7 +116,8 @@ fn a_pool_goes_on_from_stored_slots(rt: HostRuntime) -> Result<(), Fail> {
     assert_eq!(rt; first.heads().peek(SlotNumber::new(9)), 11);
     let mut err = Vec::new(rt.alloc());
     let installs = Installs { alloc: rt.alloc() };
-    let fed = run_pool(&rt, rt.alloc(), &mut err, &pool, first, installs)?;
+    let store = ReadyStore::new(NoStore);
+    let fed = run_pool(&rt, rt.alloc(), &mut err, &pool, first, store, installs)?;
     fed.given?;
     assert!(rt; fed.closed.changes == [0, 3, 1, 0, 0, 0, 0, 0]);
     let [_, shard1, shard2, ..] = &fed.closed.shards;
@@ -225,11 +228,95 @@ fn the_device_is_read_again_for_a_sent_job(rt: HostRuntime) -> Result<(), Fail> 
         clock: &rt,
     };
     let first = FirstServer::new(rt.alloc(), &AT_SEVEN)?;
-    let fed = run_pool(&rt, rt.alloc(), &mut err, &pool, first, prices)?;
+    let store = ReadyStore::new(NoStore);
+    let fed = run_pool(&rt, rt.alloc(), &mut err, &pool, first, store, prices)?;
     let Priced { gets, first, all } = fed.given?;
     assert!(rt; fed.has_workers);
     assert_eq!(rt; first, 1);
     assert_eq!(rt; all, 1);
     assert_eq!(rt; device.count(), gets.saturating_add(2));
+    Ok(())
+}
+
+// A driver that installs an expensive program in slot 1, and passes GETs of slot 1 until a job is
+// sent to a worker. Then it passes a PUT, a POST, a GET and a DELETE for slot 0, which is empty at
+// first. Returns which of these four were sent to the worker.
+#[derive(Drop)]
+struct Changes<'c, C: Clock> {
+    prices: Prices<'c, C>,
+}
+
+impl<'c, C: Clock> Driver<Result<[bool; 4], AllocError>> for Changes<'c, C> {
+    fn drive<N: Ingress, R: Wait>(
+        self,
+        rt: &R,
+        mut ingress: N,
+    ) -> Driven<N, Result<[bool; 4], AllocError>> {
+        let _ = rt;
+        let given = self.change(&mut ingress);
+        Driven { ingress, given }
+    }
+}
+
+impl<'c, C: Clock> Changes<'c, C> {
+    // Passes the datagrams to `ingress`. Returns `AllocError` if memory for one can't be allocated.
+    fn change<N: Ingress>(&self, ingress: &mut N) -> Result<[bool; 4], AllocError> {
+        let mut reply = blank_emission();
+        let _handled = ingress.handle(0, PEER, PUT_EXPENSIVE, &mut reply);
+        let _gets = self.prices.get_until_sent(ingress)?;
+        Ok([
+            self.is_sent(ingress, Request::Put(COUNTER), 0xfffc)?,
+            self.is_sent(ingress, Request::Post, 0xfffd)?,
+            self.is_sent(ingress, Request::Get, 0xfffe)?,
+            self.is_sent(ingress, Request::Delete, 0xffff)?,
+        ])
+    }
+
+    // Passes a request for slot 0 to `ingress`. Returns whether its job was sent to a worker.
+    fn is_sent<N: Ingress>(
+        &self,
+        ingress: &mut N,
+        request: Request<'_>,
+        id: u16,
+    ) -> Result<bool, AllocError> {
+        let sent = ingress.offloaded();
+        self.prices.ask(ingress, request, id, 0)?;
+        Ok(ingress.offloaded() > sent)
+    }
+}
+
+// Returns which of the four requests of `Changes` are sent to a worker by this policy.
+fn sent_by<R: Threads + Wait + Clock + Sync>(
+    rt: &R,
+    alloc: Global,
+    offload: Offload,
+) -> Result<[bool; 4], Fail> {
+    let replies = Replies::new();
+    let pool = Pool {
+        workers: 1,
+        offload,
+        wire: &replies,
+        times: &replies,
+        device: &Bare::new(),
+        recorder: &NoChanges,
+    };
+    let mut err = Vec::new(alloc);
+    let changes = Changes {
+        prices: Prices { alloc, clock: rt },
+    };
+    let first = FirstServer::new(alloc, &AT_SEVEN)?;
+    let store = ReadyStore::new(NoStore);
+    let fed = run_pool(rt, alloc, &mut err, &pool, first, store, changes)?;
+    Ok(fed.given?)
+}
+
+// The policy of changes sends each job that may change a slot to a worker that has asked for a job,
+// and keeps a cheap GET. The policy of expensive programs keeps all four jobs.
+#[test]
+fn changes_are_sent_whatever_they_cost(rt: HostRuntime) -> Result<(), Fail> {
+    let changes = sent_by(&rt, rt.alloc(), Offload::ChangesAndExpensive(6_000))?;
+    assert_eq!(rt; changes, [true, true, false, true]);
+    let expensive = sent_by(&rt, rt.alloc(), Offload::Expensive(6_000))?;
+    assert_eq!(rt; expensive, [false, false, false, false]);
     Ok(())
 }

@@ -2,12 +2,13 @@
 //!
 //! Each answered change has one record, made at the last block of a change in blocks. A duplicate
 //! datagram has no record. The digests are those that `sha256sum` printed for the images.
+use crate::serving::serve_without_store;
 use crate::socket_tests::{COUNT, at_port, client_of, largest_image, never};
 use fc_core::DEFAULT_POLICY;
 use fc_host::sensors::NoSensors;
 use fc_host::socket::{Receiving, open};
 use fc_record::{LoggedChanges, NoReports, Recorder};
-use fc_service::serve::{Extent, Records, serve_at};
+use fc_service::serve::{Extent, Records};
 use log::sink::{Discard, Locked};
 use log::{LevelFilter, Log, Logged};
 use std::alloc::{AllocError, Global};
@@ -140,13 +141,7 @@ fn recorded_by<R: Abort + AllocGlobal + Threads + Wait + Clock + Net + Sync>(
     let alloc = rt.alloc();
     let socket = open(rt, at_port(0))?;
     let server = at_port(socket.local_addr()?.port());
-    let extent = Extent {
-        workers,
-        limit: 12,
-        started: 0,
-        first_id: 0,
-        policy: DEFAULT_POLICY,
-    };
+    let extent = Extent { workers, limit: 12 };
     let ((served, lines), asked) = thread::join(
         rt,
         || serve_recorded(rt, alloc, &socket, extent),
@@ -187,7 +182,7 @@ fn serve_by<R: Threads + Wait + Clock + Sync, C: Recorder + Sync>(
     let end = Logged::new(rt, LevelFilter::Off, Discard);
     let mut err = Vec::new(alloc);
     let source = Receiving::new(socket);
-    let served = serve_at(
+    let served = serve_without_store(
         rt,
         alloc,
         &records_of(&end, recorder),
@@ -195,6 +190,7 @@ fn serve_by<R: Threads + Wait + Clock + Sync, C: Recorder + Sync>(
         &NoSensors,
         source,
         socket,
+        &DEFAULT_POLICY,
         extent,
     );
     served.is_some()

@@ -2,6 +2,7 @@
 //!
 //! A script stands for the socket. With a period of 0 each round makes a report, of the counts
 //! before the round's datagram.
+use crate::serving::serve_without_store;
 use crate::socket_tests::put_datagram;
 use coap_dedup::Limits;
 use coap_msg::{Emission, Endpoint};
@@ -13,7 +14,7 @@ use fc_record::{Gauges, LoggedReports, NoChanges, ObserverCounts, Report, Report
 use fc_service::command::command;
 use fc_service::options::{BadOption, serve_options};
 use fc_service::reports::Reports;
-use fc_service::serve::{Extent, Records, serve_at};
+use fc_service::serve::{Extent, Records};
 use fc_workers::CallLog;
 use log::sink::{Discard, Locked};
 use log::{LevelFilter, Log, Logged};
@@ -190,15 +191,13 @@ fn serve_by<R: Threads + Wait + Clock + Sync, Q: Reporter + Sync>(
     let extent = Extent {
         workers,
         limit: played.limit(),
-        started: 0,
-        first_id: 0,
-        policy: played.policy(),
     };
+    let policy = played.policy();
     let script = Script { calls: 0, played };
     let lossy = Lossy {
         sends: AtomicUsize::new(0),
     };
-    let served = serve_at(
+    let served = serve_without_store(
         rt,
         alloc,
         &records_of(&end, Reports { every, reporter }),
@@ -206,6 +205,7 @@ fn serve_by<R: Threads + Wait + Clock + Sync, Q: Reporter + Sync>(
         &NoSensors,
         script,
         &lossy,
+        &policy,
         extent,
     );
     served.is_some()

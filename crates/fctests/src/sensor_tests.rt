@@ -1,6 +1,5 @@
 //! A server whose programs read a file as their sensors, while the file changes.
 use crate::socket_tests::{at_port, client_of, install_reader, readings_of, serve_while};
-use fc_core::DEFAULT_POLICY;
 use fc_host::sensors::{FileSensors, Sensors};
 use fc_service::serve::Extent;
 use std::net::{Net, SocketAddrV4, UdpSocket};
@@ -59,13 +58,7 @@ fn check_sensed<
     R: Abort + AllocGlobal + Threads + Wait + Clock + Net + RandomSource + Files + Sync,
     Z: Sensors + Sync,
 >(rt: &R, sensors: &Z, path: &str, workers: u8) -> Result<(), Fail> {
-    let extent = Extent {
-        workers,
-        limit: 6,
-        started: 0,
-        first_id: 0,
-        policy: DEFAULT_POLICY,
-    };
+    let extent = Extent { workers, limit: 6 };
     let _memory = serve_while(rt, sensors, extent, |port| write_and_ask(rt, port, path))?;
     Ok(())
 }

@@ -3,11 +3,12 @@
 //! The expected bytes are worked out by hand.
 ghost use Rattle.std.specs.Prelude.{◌≤◌, IfSome, length};
 
+use crate::serving::{serve_without_store, slots_without_store};
 use crate::tooling::assembled;
 use coap_msg::{Emission, Endpoint};
 use coap_opts::Method;
 use fc_cli::Status;
-use fc_core::DEFAULT_POLICY;
+use fc_core::{DEFAULT_POLICY, Policy};
 use fc_fetch::observer::ObservationExtent;
 use fc_fetch::{FetchOptions, Observing, Shown, fetch, observe};
 use fc_host::sensors::{NoSensors, Sensors};
@@ -124,17 +125,23 @@ pub(crate) fn never<'a>() -> Reports<'a, NoReports> {
     }
 }
 
-// Serves a socket. Returns whether serving succeeded, and the log.
+// Serves a socket with the slots of `slots_without_store`. Returns whether serving succeeded, and
+// the log.
 fn serve_logged<R: Threads + Wait + Clock + Sync, Z: Sensors + Sync>(
     rt: &R,
     alloc: Global,
     sensors: &Z,
     socket: &UdpSocket,
+    started: u64,
+    policy: &Policy,
     extent: Extent,
 ) -> (bool, Memory) {
     let memory = Memory::new(alloc);
     let log = Logged::new(rt, LevelFilter::Info, &memory);
     let mut err = Vec::new(alloc);
+    let Ok(slots) = slots_without_store(alloc, started, policy) else {
+        return (false, memory);
+    };
     let source = Receiving::new(socket);
     let served = serve_at(
         rt,
@@ -144,6 +151,7 @@ fn serve_logged<R: Threads + Wait + Clock + Sync, Z: Sensors + Sync>(
         sensors,
         source,
         socket,
+        slots,
         extent,
     );
     (served.is_some(), memory)
@@ -158,12 +166,31 @@ pub(crate) fn serve_while<
 >(rt: &R, sensors: &Z, extent: Extent, ask: F) -> Result<Memory, Fail>
     requires { F.IsAlwaysCallable ask }
 {
+    serve_since(rt, sensors, 0, &DEFAULT_POLICY, extent, ask)
+}
+
+// Serves as `serve_while` does, with slots of a server that starts at this time, in milliseconds
+// since 1970, and has this policy.
+pub(crate) fn serve_since<
+    R: Abort + AllocGlobal + Threads + Wait + Clock + Net + Sync,
+    Z: Sensors + Sync,
+    F: FnOnce(u16) -> Result<(), Fail>,
+>(
+    rt: &R,
+    sensors: &Z,
+    started: u64,
+    policy: &Policy,
+    extent: Extent,
+    ask: F,
+) -> Result<Memory, Fail>
+    requires { F.IsAlwaysCallable ask }
+{
     let alloc = rt.alloc();
     let socket = open(rt, at_port(0))?;
     let port = socket.local_addr()?.port();
     let ((served, memory), asked) = thread::join(
         rt,
-        || serve_logged(rt, alloc, sensors, &socket, extent),
+        || serve_logged(rt, alloc, sensors, &socket, started, policy, extent),
         || -> Result<(), Fail>
             requires { F.IsAlwaysCallable ask }
         { ask(port) },
@@ -179,14 +206,15 @@ fn serve_counter<R: Abort + AllocGlobal + Threads + Wait + Clock + Net + RandomS
     rt: &R,
     workers: u8,
 ) -> Result<(), Fail> {
-    let extent = Extent {
-        workers,
-        limit: 4,
-        started: 1_000,
-        first_id: 0,
-        policy: DEFAULT_POLICY,
-    };
-    let memory = serve_while(rt, &NoSensors, extent, |port| ask_counter(rt, port))?;
+    let extent = Extent { workers, limit: 4 };
+    let memory = serve_since(
+        rt,
+        &NoSensors,
+        1_000,
+        &DEFAULT_POLICY,
+        extent,
+        |port| ask_counter(rt, port),
+    )?;
     check_logged(rt, memory, "sent 4 failed 0");
     Ok(())
 }
@@ -220,15 +248,13 @@ fn a_taken_port_is_status_3(rt: HostRuntime) -> Result<(), Fail> {
     let extent = Extent {
         workers: 1,
         limit: 1,
-        started: 0,
-        first_id: 0,
-        policy: DEFAULT_POLICY,
     };
     let listening = Listening {
         address: at_port(port),
         told: true,
     };
     let timers = Vec::new(alloc);
+    let slots = slots_without_store(alloc, 0, &DEFAULT_POLICY)?;
     let status = serve(
         &rt,
         alloc,
@@ -237,6 +263,7 @@ fn a_taken_port_is_status_3(rt: HostRuntime) -> Result<(), Fail> {
         &NoSensors,
         listening,
         timers,
+        slots,
         extent,
     );
     let told = format!(in alloc; "UDP 127.0.0.1:{port}: Address already in use (os error 98)\n")?;
@@ -326,9 +353,6 @@ fn bodies_go_and_come_by_blocks(rt: HostRuntime) -> Result<(), Fail> {
     let extent = Extent {
         workers: 2,
         limit: 8,
-        started: 0,
-        first_id: 0,
-        policy: DEFAULT_POLICY,
     };
     let memory = serve_while(&rt, &NoSensors, extent, |port| ask_by_blocks(&rt, port))?;
     check_logged(&rt, memory, "sent 8 failed 0");
@@ -367,9 +391,6 @@ fn a_state_of_two_blocks_is_observed(rt: HostRuntime) -> Result<(), Fail> {
     let extent = Extent {
         workers: 2,
         limit: 4,
-        started: 0,
-        first_id: 0,
-        policy: DEFAULT_POLICY,
     };
     let memory = serve_while(&rt, &NoSensors, extent, |port| observe_by_blocks(&rt, port))?;
     check_logged(&rt, memory, "sent 4 failed 0");
@@ -452,14 +473,8 @@ fn serve_script<R: Abort + AllocGlobal + Threads + Wait + Clock + Sync>(
     let lossy = Lossy {
         sends: AtomicUsize::new(0),
     };
-    let extent = Extent {
-        workers,
-        limit: 2,
-        started: 0,
-        first_id: 0,
-        policy: DEFAULT_POLICY,
-    };
-    let served = serve_at(
+    let extent = Extent { workers, limit: 2 };
+    let served = serve_without_store(
         rt,
         alloc,
         &unrecorded(&log),
@@ -467,6 +482,7 @@ fn serve_script<R: Abort + AllocGlobal + Threads + Wait + Clock + Sync>(
         &NoSensors,
         script,
         &lossy,
+        &DEFAULT_POLICY,
         extent,
     );
     let calls = served.map(|script| script.calls);
@@ -626,9 +642,6 @@ fn eight_clients_count_right(rt: HostRuntime) -> Result<(), Fail> {
     let extent = Extent {
         workers: 2,
         limit: 978,
-        started: 0,
-        first_id: 0,
-        policy: DEFAULT_POLICY,
     };
     let memory = serve_while(&rt, &NoSensors, extent, |port| ask_by_eight(&rt, port))?;
     check_logged(&rt, memory, "sent 978 failed 0");
@@ -711,13 +724,7 @@ fn check_clock<R: Abort + AllocGlobal + Threads + Wait + Clock + Net + RandomSou
     rt: &R,
     workers: u8,
 ) -> Result<(), Fail> {
-    let extent = Extent {
-        workers,
-        limit: 2,
-        started: 0,
-        first_id: 0,
-        policy: DEFAULT_POLICY,
-    };
+    let extent = Extent { workers, limit: 2 };
     let _memory = serve_while(rt, &NoSensors, extent, |port| ask_for_readings(rt, port))?;
     Ok(())
 }

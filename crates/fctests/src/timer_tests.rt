@@ -2,6 +2,7 @@
 ghost use Rattle.std.specs.Prelude.{◌≤◌, IfSome, length};
 
 use crate::failing_tests::{POST, PUT};
+use crate::serving::slots_without_store;
 use crate::socket_tests::{put_datagram, unrecorded};
 use crate::wait_tests::{PUT_EXPENSIVE, REGISTER};
 use coap_msg::{Emission, Endpoint};
@@ -113,13 +114,8 @@ fn serve_beats<R: Abort + AllocGlobal + Threads + Wait + Clock + Sync>(
     if let Some(every) = Period::new(PERIOD) {
         timers.push(Timer::new(every, SlotNumber::new(1)))?;
     }
-    let extent = Extent {
-        workers,
-        limit: 3,
-        started: 0,
-        first_id: 0,
-        policy: DEFAULT_POLICY,
-    };
+    let extent = Extent { workers, limit: 3 };
+    let slots = slots_without_store(alloc, 0, &DEFAULT_POLICY)?;
     let served = serve_timed(
         rt,
         alloc,
@@ -129,6 +125,7 @@ fn serve_beats<R: Abort + AllocGlobal + Threads + Wait + Clock + Sync>(
         sleeping,
         &counting,
         timers,
+        slots,
         extent,
     );
     assert!(rt;

@@ -103,9 +103,9 @@ impl Told {
         }
     }
 
-    // Makes this call on a new server, with a dispatcher at `seat`, and with the tallies and the log
-    // of `other` for the test's own calls. Returns an error if the call doesn't have the expected
-    // effect.
+    // Makes this call on a new server, with a dispatcher at `seat`, and with the tallies and the
+    // log of `other` for the test's own calls. Returns an error if the call doesn't have the
+    // expected effect.
     fn hold_at<B: Bench, R: Wait>(
         &self,
         rt: &R,

@@ -5,12 +5,13 @@
 ghost use Rattle.std.specs.Prelude.{◌≤◌, IfSome, length};
 
 use crate::failing_tests::{POST, PUT};
+use crate::serving::serve_without_store;
 use crate::socket_tests::{put_datagram, unrecorded};
 use coap_msg::{Emission, Endpoint};
 use fc_core::DEFAULT_POLICY;
 use fc_host::sensors::NoSensors;
 use fc_host::socket::{Buffer, Sink, Source};
-use fc_service::serve::{Extent, serve_at};
+use fc_service::serve::Extent;
 use fc_workers::CallLog;
 use log::sink::Memory;
 use log::{LevelFilter, Logged};
@@ -85,14 +86,8 @@ fn check_waits<R: Abort + AllocGlobal + Threads + Wait + Clock + Sync>(rt: &R, w
     let log = Logged::new(rt, LevelFilter::Off, &memory);
     let mut err = Vec::new(alloc);
     let listed = Listed { calls: 0, right: 0 };
-    let extent = Extent {
-        workers,
-        limit: 5,
-        started: 0,
-        first_id: 0,
-        policy: DEFAULT_POLICY,
-    };
-    let served = serve_at(
+    let extent = Extent { workers, limit: 5 };
+    let served = serve_without_store(
         rt,
         alloc,
         &unrecorded(&log),
@@ -100,6 +95,7 @@ fn check_waits<R: Abort + AllocGlobal + Threads + Wait + Clock + Sync>(rt: &R, w
         &NoSensors,
         listed,
         &Everywhere,
+        &DEFAULT_POLICY,
         extent,
     );
     assert!(rt; served.map(|listed| listed.right) == Some(10), "{workers}");
@@ -200,11 +196,8 @@ fn a_server_does_not_sleep_while_a_job_is_at_work(rt: HostRuntime) {
     let extent = Extent {
         workers: 2,
         limit: 3,
-        started: 0,
-        first_id: 0,
-        policy: DEFAULT_POLICY,
     };
-    let served = serve_at(
+    let served = serve_without_store(
         &rt,
         alloc,
         &unrecorded(&log),
@@ -212,6 +205,7 @@ fn a_server_does_not_sleep_while_a_job_is_at_work(rt: HostRuntime) {
         &NoSensors,
         busy,
         &held,
+        &DEFAULT_POLICY,
         extent,
     );
     assert!(rt; served.is_some() && seen.load(Ordering::SeqCst) == SHORT);
