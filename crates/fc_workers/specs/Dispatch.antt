@@ -108,8 +108,8 @@ module _ {T : Type 0} (s : WorkerView T) where
   HasLeastCost None job before after = after ≡ before
   HasLeastCost (Some least) job before after = (cost : ℕ) × (least ≤ cost) × HasReadCost job (Some cost) before after
 
-  -- the job reads its slot, and a change of the slot's shard was found being saved. Nothing else was
-  -- read.
+  -- the job reads its slot, and a change of the slot's shard was found being saved. Nothing else
+  -- was read.
   abbrev pub IsHeldUp : Job → TrackedLog → TrackedLog → Type 0
   IsHeldUp job before after = ReadsSlot job.ask × s.bench (FindsSaving job.origin.slot) × (after ≡ before)
 
