@@ -1,2 +1,4 @@
 pub mod Stored
 pub mod Updates
+pub mod Saves
+pub mod Recovery

@@ -33,13 +33,18 @@
 //!   stored slots if the last save returned `true`. If that save returned `false`, a start finds
 //!   slots that it could find before the call, or the slots with that update. Both hold of a ready
 //!   store, which a save leaves ready. No contract is about a crash during a call.
+//! - After many saves of one store, a start finds each update that was stored. It may also find one
+//!   update that was refused, if none was stored since. The law supposes such a medium too. The
+//!   store was ready before the saves, and a start would then have found just its slots.
 //! - [`MemoryStore`] has these clauses only in a model, for tests: in the model its slots survive a
 //!   crash. [`NoStore`], which stores nothing, refuses each update.
 //!
-//! By the contracts of `StoredSlot::after`, `copy_slots`, `MemoryStore::new`, the clauses of
-//! `Store`.
+//! By the contracts of `StoredSlot::after`, `copy_slots`, `MemoryStore::new`,
+//! `removed_programs_are_not_stored`, `starts_find_saved_slots`, `refused_updates_may_be_found`, the
+//! clauses of `Store`.
 #![tactic(auto)]
 
+pub mod laws;
 pub mod memory;
 pub mod store;
 pub mod stored;

@@ -1,5 +1,5 @@
-use Rattle.fc_durable.proofs.Recovery.{found_are, stays_ready, stored_are}
-use Rattle.fc_durable.proofs.laws.starts_find_saved_slots.Goals as goal
+use Rattle.fc_store.proofs.Recovery.{found_are, stays_ready, stored_are}
+use Rattle.fc_store.proofs.laws.starts_find_saved_slots.Goals as goal
 
 pub returns-clause-stored : goal.returns-clause-stored
 returns-clause-stored g c = λ saves first last is. stored_are g.S.Store saves first last is

@@ -5,9 +5,8 @@ use Rattle.fc_store.specs.declared.store.SlotUpdate.{SlotUpdate}
 use Rattle.fc_store.specs.declared.store.Store.{Ghosts}
 use Rattle.fc_store.specs.Stored.{StoredSlot, StoredSlots}
 use Rattle.fc_store.specs.Updates.{AreSameSlots, slot_after, slots_after}
-use Rattle.fc_durable.specs.Keeping.{FindsStored}
-use Rattle.fc_durable.specs.Recovery.{HasRefusedUpdate, MayBeFound, Save, SavesAll, stored_after}
-use Rattle.fc_durable.specs.Saved.{SavesUpdate}
+use Rattle.fc_store.specs.Saves.{FindsStored, SavesUpdate}
+use Rattle.fc_store.specs.Recovery.{HasRefusedUpdate, MayBeFound, Save, SavesAll, stored_after}
 
 -- equal slots are equal after a save.
 after_same : (b : Bool) (u : SlotUpdate) (xs ys : StoredSlots) → AreSameSlots xs ys →

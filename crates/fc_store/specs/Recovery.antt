@@ -5,7 +5,7 @@ use Rattle.fc_store.specs.declared.store.SlotUpdate.{SlotUpdate}
 use Rattle.fc_store.specs.declared.store.Store.{Ghosts}
 use Rattle.fc_store.specs.Stored.{StoredSlots}
 use Rattle.fc_store.specs.Updates.{AreSameSlots, slots_after}
-use Rattle.fc_durable.specs.Saved.{SavesUpdate}
+use Rattle.fc_store.specs.Saves.{SavesUpdate}
 
 -- a save: its update, and whether the update was stored or refused.
 pub record Save : Type 0 where

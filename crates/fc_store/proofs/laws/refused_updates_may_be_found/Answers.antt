@@ -1,7 +1,7 @@
 use Rattle.std.proofs.Common.{inl, inr, refl, sym, ap, lit<}
 use Rattle.std.proofs.lemmas.Bool.{false≢true}
 use Rattle.fc_store.specs.Stored.{StoredSlot}
-use Rattle.fc_durable.proofs.laws.refused_updates_may_be_found.Goals as goal
+use Rattle.fc_store.proofs.laws.refused_updates_may_be_found.Goals as goal
 
 pub returns-clause-refused : goal.returns-clause-refused
 returns-clause-refused c = λ a b slots found may. elim may [

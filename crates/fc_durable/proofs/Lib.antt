@@ -1,5 +1,0 @@
-pub mod Keeping
-pub mod Moves
-pub mod Installs
-pub mod Removals
-pub mod Recovery
