@@ -3,8 +3,8 @@
 use Rattle.std.specs.Prelude.{ℕ, Bool, true, false, Option, Some, None}
 use Rattle.coap_msg.specs.declared.types.Emission.{Emission}
 use Rattle.fc_registry.specs.declared.job.Job.{Job}
-use Rattle.fc_core.specs.declared.front.Answered.{Answered}
-use Rattle.fc_core.specs.declared.front.Answered.TheVariants.{Sent, Late, NoId}
+use Rattle.fc_core.specs.declared.by_value.Answered.{Answered}
+use Rattle.fc_core.specs.declared.by_value.Answered.TheVariants.{Sent, Late, NoId}
 use Rattle.fc_core.specs.declared.front.Responded.{Responded}
 use Rattle.fc_core.specs.declared.front.Responded.TheVariants as responds
 use Rattle.fc_core.specs.Contents.{Content}

@@ -35,8 +35,8 @@ use Rattle.fc_registry.specs.declared.job.InitialVars.{InitialVars}
 use Rattle.fc_registry.specs.declared.job.InitialVars.TheVariants.{Zeros, Kept}
 use Rattle.fc_registry.specs.declared.observe.TheConstants as observe
 use Rattle.fc_registry.specs.Calls.{has_observe}
-use Rattle.fc_core.specs.declared.front.Delivered.{Delivered}
-use Rattle.fc_core.specs.declared.front.Delivered.TheVariants.{Nothing, Reply, Job as Brings, Signal}
+use Rattle.fc_core.specs.declared.by_value.Delivered.{Delivered}
+use Rattle.fc_core.specs.declared.by_value.Delivered.TheVariants.{Nothing, Reply, Job as Brings, Signal}
 use Rattle.fc_core.specs.declared.front.Handled.{Handled}
 use Rattle.fc_core.specs.declared.front.Handled.TheVariants as hearing
 use Rattle.coap_reply.specs.Responses.{Response, bare, reply_kind, sent_in, settled_by, reset_of}

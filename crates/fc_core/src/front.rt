@@ -1,5 +1,5 @@
 //! The protocol front end: exchanges, message IDs, and uploads.
-ghost use Rattle.std.specs.Prelude.{◌≡◌, ◌≤◌, [], false, true, IfOk, Some, length};
+ghost use Rattle.std.specs.Prelude.{◌≡◌, ◌≤◌, [], false, true, IfOk, Some};
 ghost use Rattle.coap_opts.specs.Verdict.{verdict};
 ghost use Rattle.coap_opts.specs.Classified.{asked_by};
 ghost use Rattle.coap_dedup.specs.Exchanges.{IsNew};
@@ -13,47 +13,29 @@ ghost use Rattle.fc_core.specs.Ids.{drawn_for, free_id};
 ghost use Rattle.fc_core.specs.Policies.{is_allowed};
 ghost use Rattle.coap_block.specs.Transfers.{after_addition};
 ghost use Rattle.coap_block.specs.Views.{add_seen};
-ghost use Rattle.fc_core.specs.Receiving.{add_in, addition_of, after_delivered, after_received, ask_by, emission_if, etags_by, handed_on, handled, handled_if, id_in, is_confirmable, job_of, look_in, next_opening, observes, opening_for, received_as, reply_or_nothing, request_asked, request_received, immediate_front, reply_sent, initial_vars_by};
+ghost use Rattle.fc_core.specs.Receiving.{add_in, addition_of, after_delivered, after_received, emission_if, handed_on, handled, handled_if, id_in, is_confirmable, look_in, next_opening, opening_for, received_as, reply_or_nothing, request_received, immediate_front, reply_sent};
 ghost use Rattle.fc_core.specs.Receiving as receiving;
-ghost use Rattle.fc_core.specs.Timers.{timer_job, timer_request};
+ghost use Rattle.fc_core.specs.Timers.{timer_job};
 ghost use Rattle.coap_reply.specs.Responses.{reset_of, settled_by};
 
 use crate::answer::Answer;
 use crate::gauges::FrontGauges;
 use crate::ids::MessageIds;
+use crate::job_writer::{NO_OPENING, blank_request, slot_asked, write_job, write_timer_job};
 use crate::policy::{Managers, Policy, changes_program, is_manager};
 use crate::reply;
 use crate::reply::immediate;
 use arrayvec::ArrayVec;
 use coap_block::uploads::TRANSFERS;
-use coap_block::{Added, Body, Uploads};
+use coap_block::{Added, Uploads};
 use coap_dedup::{Exchanges, Looked, Room};
-use coap_msg::{
-    Bad, Code, Datagram, Emission, Endpoint, Message, MessageType, Token, WINDOW, read,
-};
+use coap_msg::{Bad, Code, Datagram, Emission, Endpoint, Message, MessageType, WINDOW, read};
 use coap_opts::laws::requests_are_within;
-use coap_opts::request::ETAGS;
 use coap_opts::{Action, Asking, Block, Classified, Request, classify_over};
 use coap_reply::reset;
-use fc_help::Method;
-use fc_registry::{
-    Ask, CANCEL, InitialVars, Job, Opening, Origin, REGISTER, SlotNumber, has_observe,
-};
+use fc_registry::{Ask, Job, Opening, Origin, SlotNumber};
 use std::alloc::{AllocError, Global};
 use std::marker::Model;
-
-/// The result of the delivery of a datagram.
-#[derive(Drop)]
-pub enum Delivered {
-    /// Nothing: the datagram is ignored.
-    Nothing,
-    /// A datagram to send immediately.
-    Reply(Emission),
-    /// The job of a new request.
-    Job(Job),
-    /// An acknowledgement, or a reset, of the message `mid`, for the observers.
-    Signal { mid: u16, reset: bool },
-}
 
 /// The result of a delivery, with the job or the response written separately.
 ///
@@ -70,17 +52,6 @@ pub enum Handled {
     Signal { mid: u16, reset: bool },
 }
 
-/// The result of answering a job.
-#[derive(Drop)]
-pub enum Answered {
-    /// The response to send.
-    Sent(Emission),
-    /// The job has no exchange, or the exchange's lifetime has passed: nothing is sent.
-    Late,
-    /// No message ID is available: nothing is sent.
-    NoId,
-}
-
 /// The result of answering a job, with the response written separately.
 ///
 /// The response is written over the emission that the caller passes.
@@ -93,18 +64,6 @@ pub enum Responded {
     /// No message ID is available: nothing is sent.
     NoId,
 }
-
-/// The opening of a job without an exchange, with a number that no exchange has.
-const NO_OPENING: Opening = Opening {
-    number: u64::MAX,
-    at: 0,
-};
-
-/// The endpoint of a timer's job: 0.0.0.0:0, which no peer has (RFC 1122, 3.2.1.3).
-const UNSPECIFIED: Endpoint = Endpoint {
-    ip: [0; 4],
-    port: 0,
-};
 
 /// The protocol front end.
 ///
@@ -151,27 +110,10 @@ impl Front {
 
     /// Handles a datagram: parses and classifies it, and searches the exchanges for it.
     ///
-    /// `now` is in milliseconds; the clock is advanced to it, and old exchanges expire. Returns the
-    /// job of a request that is served, the datagram to send immediately, or a signal for the
-    /// observers. If there is none of these, the result is `Nothing`.
-    pub fn deliver(&mut self, now: u64, endpoint: Endpoint, bytes: &[u8]) -> Delivered
-        ensures delivered { result ≡ receiving.delivered (advanced self.old now) endpoint bytes.now }
-        ensures after { self.new ≡ after_delivered (advanced self.old now) endpoint bytes.now }
-    {
-        let mut job = blank_job();
-        let mut reply = blank_emission();
-        match self.handle(now, endpoint, bytes, &mut job, &mut reply) {
-            Handled::Nothing => Delivered::Nothing,
-            Handled::Reply => Delivered::Reply(reply),
-            Handled::Job => Delivered::Job(job),
-            Handled::Signal { mid, reset } => Delivered::Signal { mid, reset },
-        }
-    }
-
-    /// Handles a datagram, and writes its job or response over the caller's.
-    ///
-    /// See [`Front::deliver`]. Neither the job nor the response is moved. `job` is written if the
-    /// result is `Job`, and `reply` if it is `Reply`. Otherwise the contract says nothing of them.
+    /// `now` is in milliseconds; the clock is advanced to it, and old exchanges expire. The result
+    /// is `Job` if a request is served, and its job is written over `job`. It is `Reply` if a
+    /// datagram is to be sent immediately, which is written over `reply`. Otherwise the contract
+    /// says nothing of the two. Neither is moved.
     #[tactic(auto, unfolding(crate::specs::Receiving::received))]
     pub fn handle(
         &mut self,
@@ -230,23 +172,8 @@ impl Front {
     ///
     /// `now` is in milliseconds, and the clock is advanced to it. Returns `Late` if the job has no
     /// exchange or the exchange's lifetime has passed, and `NoId` if no message ID is available.
-    /// Otherwise returns `Sent` with the response, which is stored in the exchange.
-    pub fn answer(&mut self, now: u64, job: &Job, answer: &Answer) -> Answered
-        requires { IsOf job.now answer.now }
-        ensures answered { AnswersIn (advanced self.old now) job.now answer.now result }
-        ensures after { self.new ≡ after_answered job.now (emission_of result) (advanced self.old now) }
-    {
-        let mut reply = blank_emission();
-        match self.respond(now, job, answer, &mut reply) {
-            Responded::Sent => Answered::Sent(reply),
-            Responded::Late => Answered::Late,
-            Responded::NoId => Answered::NoId,
-        }
-    }
-
-    /// Answers a job, and writes the response over `reply`. See [`Front::answer`].
-    ///
-    /// If nothing is sent, the contract says nothing of `reply`.
+    /// Otherwise the response is written over `reply`, and is stored in the exchange. If nothing is
+    /// sent, the contract says nothing of `reply`.
     pub fn respond(
         &mut self,
         now: u64,
@@ -669,201 +596,4 @@ pub fn blank_job() -> Job {
         observe: None,
         ask: Ask::Run(blank_request()),
     }
-}
-
-// Writes the job of a slot's timer over `job`.
-fn write_timer_job(job: &mut Job, slot: SlotNumber)
-    ensures { job.new ≡ timer_job slot }
-{
-    job.origin = Origin {
-        opening: NO_OPENING,
-        endpoint: UNSPECIFIED,
-        id: 0,
-        slot,
-    };
-    job.turn = None;
-    job.confirmable = false;
-    job.token.clear();
-    job.etags.clear();
-    job.block = None;
-    job.observe = None;
-    write_post(&mut job.ask, slot.number());
-}
-
-// Writes the action of a POST without a Content-Format, a query and a payload over `ask`. The
-// memory of an image isn't touched unless `ask` was an install.
-fn write_post(ask: &mut Ask, slot: u8)
-    ensures { ask.new ≡ Ask.Run (timer_request slot) }
-{
-    match ask {
-        Ask::Run(before) => before.write(Method::Post, slot, None, &[], &[]),
-        _ => *ask = Ask::Run(fc_help::Request::new(Method::Post, slot, None, &[], &[])),
-    }
-}
-
-// Writes the job of a request with this exchange over `job`. `body` is the request's whole body.
-fn write_job(
-    job: &mut Job,
-    opening: Opening,
-    endpoint: Endpoint,
-    message: &Message<'_>,
-    request: &Request<'_>,
-    body: &[u8],
-)
-    requires request { IsServable (asked_by request.now) }
-    requires body { length body.now ≤ 8208 }
-    ensures { job.new ≡ job_of opening endpoint message.now (asked_by request.now) body.now }
-{
-    job.origin = Origin {
-        opening,
-        endpoint,
-        id: message.id(),
-        slot: SlotNumber::new(slot_asked(request.action)),
-    };
-    job.turn = None;
-    job.confirmable = message.kind() == MessageType::Confirmable;
-    write_token(&mut job.token, message);
-    write_etags(&mut job.etags, request);
-    job.block = named_block(request);
-    job.observe = request.observe;
-    write_ask(&mut job.ask, request, body);
-}
-
-// Returns the block that a request names: the one that a PUT sends or that a GET requests. Returns
-// `None` if the request names none.
-fn named_block(request: &Request<'_>) -> Option<Block>
-    ensures { result ≡ receiving.named_block (asked_by request.now).block1 (asked_by request.now).block2 }
-{
-    match request.block1 {
-        Some(block) => Some(block),
-        None => request.block2,
-    }
-}
-
-// Writes a message's token over `token`.
-fn write_token(token: &mut Token, message: &Message<'_>)
-    ensures { token.new.items ≡ message.now.token }
-{
-    token.clear();
-    let _fits = token.try_extend_from_slice(message.token());
-}
-
-// Writes a request's ETags over `etags`. A request that registers or cancels an observation gets
-// none, since it needs a run.
-fn write_etags(etags: &mut ArrayVec<u64, ETAGS>, request: &Request<'_>)
-    ensures { etags.new.items ≡ etags_by (observes request.now.observe) request.now.etags.items }
-{
-    etags.clear();
-    if !observes(request.observe) {
-        let _fits = etags.try_extend_from_slice(request.etags.as_slice());
-    }
-}
-
-// Returns whether an Observe option registers an observer or cancels its registration.
-fn observes(option: Option<u32>) -> bool
-    ensures { result ≡ observes option }
-{
-    has_observe(REGISTER, option) || has_observe(CANCEL, option)
-}
-
-// Returns the slot of an action. The list of slots belongs to no slot, so its result is 0.
-fn slot_asked(action: Action) -> u8
-    ensures { result ≡ receiving.slot_asked action }
-{
-    match action {
-        Action::Get(slot)
-        | Action::Post(slot)
-        | Action::Install(slot)
-        | Action::Remove(slot)
-        | Action::Describe(slot) => slot,
-        Action::Discover => 0,
-    }
-}
-
-// Writes the action of a request's job over `ask`. `body` is the request's whole body, the image of
-// an install.
-fn write_ask(ask: &mut Ask, request: &Request<'_>, body: &[u8])
-    requires request { IsServable (asked_by request.now) }
-    requires body { length body.now ≤ 8208 }
-    ensures { ask.new ≡ ask_by request.now.action (asked_by request.now) body.now }
-{
-    match request.action {
-        Action::Get(slot) => write_run(ask, Method::Get, slot, request),
-        Action::Post(slot) => write_run(ask, Method::Post, slot, request),
-        Action::Install(_) => write_image(ask, body, initial_vars_by(request.query.as_slice())),
-        Action::Remove(_) => *ask = Ask::Remove,
-        Action::Describe(_) => *ask = Ask::Describe,
-        Action::Discover => *ask = Ask::Discover,
-    }
-}
-
-// Writes the action of running `slot`'s program on a request over `ask`. The memory of an image
-// isn't touched unless `ask` was an install.
-fn write_run(ask: &mut Ask, method: Method, slot: u8, request: &Request<'_>)
-    requires { IsServable (asked_by request.now) }
-    ensures { ask.new ≡ Ask.Run (request_asked method slot (asked_by request.now)) }
-{
-    match ask {
-        Ask::Run(before) => write_request(before, method, slot, request),
-        _ => write_run_anew(ask, method, slot, request),
-    }
-}
-
-// Writes the same as `write_run`, over an action that isn't a run.
-fn write_run_anew(ask: &mut Ask, method: Method, slot: u8, request: &Request<'_>)
-    requires { IsServable (asked_by request.now) }
-    ensures { ask.new ≡ Ask.Run (request_asked method slot (asked_by request.now)) }
-{
-    let mut run = blank_request();
-    write_request(&mut run, method, slot, request);
-    *ask = Ask::Run(run);
-}
-
-// Writes the action of installing the program of `image` over `ask`.
-fn write_image(ask: &mut Ask, image: &[u8], initial: InitialVars)
-    requires { length image.now ≤ 8208 }
-    ensures { ask.new ≡ Ask.Install (record { items = image.now }) initial }
-{
-    *ask = Ask::Install(image_of(image), initial);
-}
-
-// Returns `Kept` if the query of a PUT is `keep`, otherwise `Zeros`.
-fn initial_vars_by(query: &[u8]) -> InitialVars
-    ensures { result ≡ initial_vars_by query.now }
-{
-    if query == b"keep".as_slice() {
-        InitialVars::Kept
-    } else {
-        InitialVars::Zeros
-    }
-}
-
-// Returns a copy of the bytes of an image.
-fn image_of(bytes: &[u8]) -> Body
-    requires { length bytes.now ≤ 8208 }
-    ensures { result.items ≡ bytes.now }
-{
-    let mut image = Body::new();
-    let _fits = image.try_extend_from_slice(bytes);
-    image
-}
-
-// Writes the request that the program of `slot` is to answer over `run`: the method, and the query,
-// Content-Format and payload of `request`.
-fn write_request(run: &mut fc_help::Request, method: Method, slot: u8, request: &Request<'_>)
-    requires { IsServable (asked_by request.now) }
-    ensures { run.new ≡ request_asked method slot (asked_by request.now) }
-{
-    run.write(
-        method,
-        slot,
-        request.content_format,
-        request.query.as_slice(),
-        request.payload,
-    );
-}
-
-// Makes a blank request, to be overwritten.
-fn blank_request() -> fc_help::Request {
-    fc_help::Request::new(Method::Get, 0, None, &[], &[])
 }

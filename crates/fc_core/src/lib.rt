@@ -43,11 +43,13 @@
 #![tactic(auto)]
 
 pub mod answer;
+pub mod by_value;
 pub mod event;
 pub mod front;
 pub mod gauges;
 pub mod heads;
 mod ids;
+mod job_writer;
 pub mod policy;
 mod reply;
 pub mod stage;
@@ -55,8 +57,9 @@ pub mod task;
 mod text;
 
 pub use answer::{Answer, End, Words};
+pub use by_value::{Answered, Delivered};
 pub use event::Event;
-pub use front::{Answered, Delivered, Front, Handled, Responded};
+pub use front::{Front, Handled, Responded};
 pub use gauges::FrontGauges;
 pub use heads::{Heads, head_word};
 pub use policy::{ANY_ADDRESS, DEFAULT_POLICY, MOST_NETWORKS, Managers, Network, Policy};
