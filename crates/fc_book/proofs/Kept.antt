@@ -6,7 +6,7 @@ use lib.ListN.{get_elem?}
 use Rattle.atomic_table.proofs.Lists.{set_again}
 use Rattle.fc_book.specs.declared.view.Track.{Track}
 use Rattle.fc_book.specs.declared.view.BookView.{BookView}
-use Rattle.fc_book.specs.Tracks.{EntryKeys, is_on, on, HasKey, AreOn, AreSingle, OwnsTrack, HasTrack, IsViewOf, AreViewsOf, first_view, no_tracks, part_view, own_view, filed_on_all, filed_with, with_filed, with_locked, without_locked, locked_of, with_next, with_begun, without_first, first_own, other_tracks, first_track, merged_with, with_part}
+use Rattle.fc_book.specs.Tracks.{EntryKeys, is_on, on, HasKey, AreOn, AreSingle, OwnsTrack, HasTrack, IsViewOf, AreViewsOf, first_view, no_tracks, part_view, own_view, filed_on_all, filed_with, with_filed, with_locked, with_another, without_locked, locked_of, without_first_locked, first_locked, with_next, with_begun, without_first, first_own, other_tracks, first_track, merged_with, with_part}
 use Rattle.fc_book.proofs.Keys.{on-append, has-append, has-with, stays, with_is, on-before, is_off, are-append, single-with, single-append}
 use Rattle.fc_book.proofs.Moves.{nothing_is, owns_nothing, others_stay, joins, splits, changes}
 
@@ -34,10 +34,11 @@ module _ {E : Type 0} (keys : E → EntryKeys) where
 
   -- ---- an entry is filed
 
-  module _ (e : E) (v w : BookView E) (part : HasKey (keys e).part w.locked) (who : HasKey (keys e).who v.own) (job : HasKey (keys e).job v.own) (bare : w.may_begin ≡ false) where
+  module _ (e : E) (v w : BookView E) (part : HasKey (keys e).part w.locked) (also : HasKey (keys e).also w.locked) (who : HasKey (keys e).who v.own) (job : HasKey (keys e).job v.own) (bare : w.may_begin ≡ false) where
     files_miss : (k : ℕ) → (HasTrack k v → ⊥) → (HasTrack k w → ⊥) → on keys k (e ∷ []) ≡ []
     files_miss k nv nw = on-before keys k e (is_off keys k e
         (λ p. nw (inl (subst (λ (i : ℕ). HasKey i w.locked) p part)))
+        (λ p. nw (inl (subst (λ (i : ℕ). HasKey i w.locked) p also)))
         (λ p. nv (inr (inl (subst (λ (i : ℕ). HasKey i v.own) p who))))
         (λ p. nv (inr (inl (subst (λ (i : ℕ). HasKey i v.own) p job)))))
 
@@ -56,6 +57,7 @@ module _ {E : Type 0} (keys : E → EntryKeys) where
       own = with_is keys log e v.own a.own;
       unbegun = λ m k le. on-append keys k log (e ∷ []) ∙ (ap (λ (l : List E). l ++ on keys k (e ∷ [])) (a.unbegun m k le) ∙ on-before keys k e (is_off keys k e
           (λ p. parted k (inr (inr (m, le))) (inl (subst (λ (i : ℕ). HasKey i w.locked) p part)))
+          (λ p. parted k (inr (inr (m, le))) (inl (subst (λ (i : ℕ). HasKey i w.locked) p also)))
           (λ p. let lt : k < v.next = a.fresh m k (subst (λ (i : ℕ). HasKey i v.own) p who) in absurd (omega arith))
           (λ p. let lt : k < v.next = a.fresh m k (subst (λ (i : ℕ). HasKey i v.own) p job) in absurd (omega arith))));
       fresh = λ m k h. a.fresh m k (has-with keys k e v.own h);
@@ -68,7 +70,7 @@ module _ {E : Type 0} (keys : E → EntryKeys) where
     files log views id other h at apart there = joins keys views id other v w (filed_with keys e v w) log (log ++ e ∷ []) h at apart there
         (λ u n x. others_stay keys log (e ∷ []) u (λ k o. files_miss k (n k o).0 (n k o).1) x) files_keep (files_mine log)
 
-  -- ---- a part's track is taken over, and an entry is filed on it
+  -- ---- a part's track is taken over
 
   module _ (v w : BookView E) where
     part_keep : (k : ℕ) → HasTrack k (with_locked v w) → HasTrack k v ⊎ HasTrack k w
@@ -89,10 +91,34 @@ module _ {E : Type 0} (keys : E → EntryKeys) where
         → AreViewsOf keys log (set (set views id (with_locked v w)) other no_tracks)
     takes_part log views id other h at apart there = joins keys views id other v w (with_locked v w) log log h at apart there (λ u n x. x) part_keep (part_mine log)
 
-  module _ (e : E) (v : BookView E) (part : HasKey (keys e).part v.locked) (who : HasKey (keys e).who v.own) (job : HasKey (keys e).job v.own) where
+  -- ---- another part's track is taken over
+
+  module _ (v w : BookView E) where
+    another_keep : (k : ℕ) → HasTrack k (with_another v w) → HasTrack k v ⊎ HasTrack k w
+    another_keep k (inl h) = ⊎_elim (λ x. inr (inl x)) (λ y. inl (inl y)) (has-append k w.locked v.locked h)
+    another_keep k (inr o) = inl (inr o)
+
+    another_mine : (log : List E) → IsViewOf keys log v → IsViewOf keys log w → ((k : ℕ) → HasTrack k v → HasTrack k w → ⊥) → IsViewOf keys log (with_another v w)
+    another_mine log a b parted = record {
+      locked = are-append keys log w.locked v.locked b.locked a.locked;
+      own = a.own;
+      unbegun = a.unbegun;
+      fresh = a.fresh;
+      unlike = λ k s o. ⊎_elim (λ (x : HasKey k w.locked). parted k (inr o) (inl x)) (λ (y : HasKey k v.locked). a.unlike k y o) (has-append k w.locked v.locked s);
+      single = a.single;
+    }
+
+    pub takes_another : (log : List E) (views : List (BookView E)) (id other : ℕ) → AreViewsOf keys log views → get_elem? views id ≡ some v → other ≢ id → get_elem? (set views id (with_another v w)) other ≡ some w
+        → AreViewsOf keys log (set (set views id (with_another v w)) other no_tracks)
+    takes_another log views id other h at apart there = joins keys views id other v w (with_another v w) log log h at apart there (λ u n x. x) another_keep (another_mine log)
+
+  -- ---- an entry is filed on all the owner's tracks
+
+  module _ (e : E) (v : BookView E) (part : HasKey (keys e).part v.locked) (also : HasKey (keys e).also v.locked) (who : HasKey (keys e).who v.own) (job : HasKey (keys e).job v.own) where
     all_miss : (k : ℕ) → (HasTrack k v → ⊥) → on keys k (e ∷ []) ≡ []
     all_miss k nv = on-before keys k e (is_off keys k e
         (λ p. nv (inl (subst (λ (i : ℕ). HasKey i v.locked) p part)))
+        (λ p. nv (inl (subst (λ (i : ℕ). HasKey i v.locked) p also)))
         (λ p. nv (inr (inl (subst (λ (i : ℕ). HasKey i v.own) p who))))
         (λ p. nv (inr (inl (subst (λ (i : ℕ). HasKey i v.own) p job)))))
 
@@ -110,6 +136,7 @@ module _ {E : Type 0} (keys : E → EntryKeys) where
       own = with_is keys log e v.own a.own;
       unbegun = λ m k le. on-append keys k log (e ∷ []) ∙ (ap (λ (l : List E). l ++ on keys k (e ∷ [])) (a.unbegun m k le) ∙ on-before keys k e (is_off keys k e
           (λ p. a.unlike k (subst (λ (i : ℕ). HasKey i v.locked) p part) (inr (m, le)))
+          (λ p. a.unlike k (subst (λ (i : ℕ). HasKey i v.locked) p also) (inr (m, le)))
           (λ p. let lt : k < v.next = a.fresh m k (subst (λ (i : ℕ). HasKey i v.own) p who) in absurd (omega arith))
           (λ p. let lt : k < v.next = a.fresh m k (subst (λ (i : ℕ). HasKey i v.own) p job) in absurd (omega arith))));
       fresh = λ m k h. a.fresh m k (has-with keys k e v.own h);
@@ -357,12 +384,36 @@ module _ {E : Type 0} (keys : E → EntryKeys) where
         → AreViewsOf keys log (set (set views id (with_part v w)) other no_tracks)
     closes log views id other h at apart there = joins keys views id other v w (with_part v w) log log h at apart there (λ u n x. x) closes_keep (closes_mine log)
 
+  -- ---- the first of the parts' tracks is returned
+
+  module _ (v : BookView E) (single : AreSingle v.locked) where
+    pub returns_first : (log : List E) (views : List (BookView E)) (id : ℕ) → AreViewsOf keys log views → get_elem? views id ≡ some v → AreViewsOf keys log (set views id (without_first_locked v) ++ first_locked v ∷ [])
+    returns_first log views id h at = splits keys views id v (without_first_locked v) (first_locked v) log h at keep (two log) (is log)
+      where
+        keep : (k : ℕ) → HasTrack k (without_first_locked v) ⊎ HasTrack k (first_locked v) → HasTrack k v
+        keep k (inl (inl s)) = inl (has-rest k v.locked s)
+        keep k (inl (inr o)) = inr o
+        keep k (inr (inl s)) = inl (has-head k v.locked s)
+        keep k (inr (inr o)) = absurd (not_own k o)
+
+        two : (log : List E) → IsViewOf keys log v → (k : ℕ) → HasTrack k (without_first_locked v) → HasTrack k (first_locked v) → ⊥
+        two log a k (inl y) (inl x) = head_or_rest k v.locked single x y
+        two log a k (inr o) (inl x) = a.unlike k (has-head k v.locked x) o
+        two log a k l (inr o) = not_own k o
+
+        is : (log : List E) → IsViewOf keys log v → IsViewOf keys log (without_first_locked v) × IsViewOf keys log (first_locked v)
+        is log a = (
+          record { locked = are-rest log v.locked a.locked; own = a.own; unbegun = a.unbegun; fresh = a.fresh; unlike = λ k s o. a.unlike k (has-rest k v.locked s) o; single = a.single },
+          record { locked = are-head log v.locked a.locked; own = tt; unbegun = λ m k le. absurd (cc m); fresh = λ m k x. absurd x; unlike = λ k x o. not_own k o; single = tt },
+        )
+
   -- ---- an entry of no locked part is filed
 
-  module _ (e : E) (v : BookView E) (part : (keys e).part ≡ (keys e).who) (who : HasKey (keys e).who v.own) (job : HasKey (keys e).job v.own) where
+  module _ (e : E) (v : BookView E) (part : (keys e).part ≡ (keys e).who) (also : (keys e).also ≡ (keys e).who) (who : HasKey (keys e).who v.own) (job : HasKey (keys e).job v.own) where
     off_others : (k : ℕ) → (OwnsTrack k v → ⊥) → is_on keys k e ≡ false
     off_others k nv = is_off keys k e
         (λ p. nv (inl (subst (λ (i : ℕ). HasKey i v.own) (sym part ∙ p) who)))
+        (λ p. nv (inl (subst (λ (i : ℕ). HasKey i v.own) (sym also ∙ p) who)))
         (λ p. nv (inl (subst (λ (i : ℕ). HasKey i v.own) p who)))
         (λ p. nv (inl (subst (λ (i : ℕ). HasKey i v.own) p job)))
 
@@ -377,6 +428,7 @@ module _ {E : Type 0} (keys : E → EntryKeys) where
       own = with_is keys log e v.own a.own;
       unbegun = λ m k le. on-append keys k log (e ∷ []) ∙ (ap (λ (l : List E). l ++ on keys k (e ∷ [])) (a.unbegun m k le) ∙ on-before keys k e (is_off keys k e
           (λ p. let lt : k < v.next = a.fresh m k (subst (λ (i : ℕ). HasKey i v.own) (sym part ∙ p) who) in absurd (omega arith))
+          (λ p. let lt : k < v.next = a.fresh m k (subst (λ (i : ℕ). HasKey i v.own) (sym also ∙ p) who) in absurd (omega arith))
           (λ p. let lt : k < v.next = a.fresh m k (subst (λ (i : ℕ). HasKey i v.own) p who) in absurd (omega arith))
           (λ p. let lt : k < v.next = a.fresh m k (subst (λ (i : ℕ). HasKey i v.own) p job) in absurd (omega arith))));
       fresh = λ m k h. a.fresh m k (has-with keys k e v.own h);

@@ -7,9 +7,9 @@ use Rattle.std.proofs.lemmas.Bool.Decides.{nat_tests}
 use Rattle.fc_book.specs.declared.view.Track.{Track}
 use Rattle.fc_book.specs.Tracks.{EntryKeys, is_on, on, HasKey, AreOn, AreSingle, entries_with, with_entry}
 
--- an entry is on no track but those of its three keys.
-is_off_keys : (a b c k : ℕ) → a ≢ k → b ≢ k → c ≢ k → (a == k) || ((b == k) || (c == k)) ≡ false
-is_off_keys a b c k x y z = grind (x, y, z, arith, nat_tests)
+-- an entry is on no track but those of its four keys.
+is_off_keys : (a b c d k : ℕ) → a ≢ k → b ≢ k → c ≢ k → d ≢ k → (a == k) || ((b == k) || ((c == k) || (d == k))) ≡ false
+is_off_keys a b c d k w x y z = grind (w, x, y, z, arith, nat_tests)
 
 module _ {E : Type 0} where
   pub has-append : (k : ℕ) (xs ys : List (Track E)) → HasKey k (xs ++ ys) → HasKey k xs ⊎ HasKey k ys
@@ -53,8 +53,8 @@ module _ {E : Type 0} (keys : E → EntryKeys) where
   pub on-before : (k : ℕ) (e : E) → is_on keys k e ≡ false → on keys k (e ∷ []) ≡ []
   on-before k e is = rw is refl
 
-  pub is_off : (k : ℕ) (e : E) → (keys e).part ≢ k → (keys e).who ≢ k → (keys e).job ≢ k → is_on keys k e ≡ false
-  is_off k e a b c = is_off_keys (keys e).part (keys e).who (keys e).job k a b c
+  pub is_off : (k : ℕ) (e : E) → (keys e).part ≢ k → (keys e).also ≢ k → (keys e).who ≢ k → (keys e).job ≢ k → is_on keys k e ≡ false
+  is_off k e a b c d = is_off_keys (keys e).part (keys e).also (keys e).who (keys e).job k a b c d
 
   pub are-append : (log : List E) (xs ys : List (Track E)) → AreOn keys log xs → AreOn keys log ys → AreOn keys log (xs ++ ys)
   are-append log [] ys a b = b

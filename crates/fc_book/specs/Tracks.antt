@@ -8,10 +8,12 @@ use Rattle.atomic_table.specs.Seated.{TableId}
 use Rattle.fc_book.specs.declared.view.Track.{Track}
 use Rattle.fc_book.specs.declared.view.BookView.{BookView}
 
--- the keys of an entry: that of its part, that of the thread that made the call, and that of its
--- job.
+-- the keys of an entry: that of its part, that of another part, that of the thread that made the
+-- call, and that of its job. The thread holds the locks of both parts. If there is no other part,
+-- `also` is the key of the part again.
 pub record EntryKeys : Type 0 where
   pub part : ℕ
+  pub also : ℕ
   pub who : ℕ
   pub job : ℕ
 
@@ -81,9 +83,10 @@ module _ {E : Type 0} where
 -- ---- the entries on a track
 
 module _ {E : Type 0} (keys : E → EntryKeys) where
-  -- whether an entry is on the track with this key: that of its part, its thread or its job.
+  -- whether an entry is on the track with this key: that of its part, of another part, of its
+  -- thread or of its job.
   abbrev pub is_on : ℕ → E → Bool
-  is_on k e = ((keys e).part == k) || (((keys e).who == k) || ((keys e).job == k))
+  is_on k e = ((keys e).part == k) || (((keys e).also == k) || (((keys e).who == k) || ((keys e).job == k)))
 
   -- the subhistory of a key: the entries on the key's track, oldest first.
   abbrev pub on : ℕ → List E → List E
@@ -137,7 +140,7 @@ module _ {E : Type 0} (keys : E → EntryKeys) where
   abbrev pub filed_with : E → BookView E → BookView E → BookView E
   filed_with e v w = record { locked = with_entry keys e w.locked; own = with_entry keys e v.own; may_begin = v.may_begin; next = v.next }
 
-  -- an owner's view after an entry is filed on all its tracks, the part's among them.
+  -- an owner's view after an entry is filed on all its tracks, those of its parts among them.
   abbrev pub filed_on_all : E → BookView E → BookView E
   filed_on_all e v = filed_with e v v
 
@@ -150,6 +153,11 @@ module _ {E : Type 0} where
   abbrev pub with_locked : BookView E → BookView E → BookView E
   with_locked v w = record v { locked = w.locked }
 
+  -- the owner's view after it takes over another part's track, which is then the first of its
+  -- parts' tracks.
+  abbrev pub with_another : BookView E → BookView E → BookView E
+  with_another v w = record v { locked = w.locked ++ v.locked }
+
   -- the owner's view without the part's track.
   abbrev pub without_locked : BookView E → BookView E
   without_locked v = record v { locked = [] }
@@ -157,6 +165,14 @@ module _ {E : Type 0} where
   -- the view of the part's track alone.
   abbrev pub locked_of : BookView E → BookView E
   locked_of v = record { locked = v.locked; own = []; may_begin = false; next = 0 }
+
+  -- the owner's view without the first of its parts' tracks.
+  abbrev pub without_first_locked : BookView E → BookView E
+  without_first_locked v = record v { locked = other_tracks v.locked }
+
+  -- the view of the first of its parts' tracks alone.
+  abbrev pub first_locked : BookView E → BookView E
+  first_locked v = record { locked = first_track v.locked; own = []; may_begin = false; next = 0 }
 
   -- the owner's view after it begins the next track for another owner.
   abbrev pub with_next : BookView E → BookView E

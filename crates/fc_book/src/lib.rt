@@ -40,7 +40,8 @@
 //!
 //! The counters stand in for the parts of a server. The tracks, views and moves don't depend on the
 //! form of an entry. So another book uses them too, with other entries and a longer rule
-//! (`specs/Tracks.antt`, `proofs/Kept.antt`).
+//! (`specs/Tracks.antt`, `proofs/Kept.antt`). An entry of such a book may be on the tracks of two
+//! parts, whose locks the thread holds at once.
 //!
 //! By the contracts of `Tracks::file`, `attest`, `begin`, `begin_part`, `begin_tracks`,
 //! `split_first`, `merge`, `close`, `run_callers`.

@@ -14,7 +14,7 @@ pub struct Track<E> {
     pub entries: LinkedList<E>,
 }
 
-/// The tracks of an owner: that of a part, while its lock is held, and its own.
+/// The tracks of an owner: those of parts, while their locks are held, and its own.
 ///
 /// If the owner may begin tracks, `next` is the key of the next one. Only contracts use this type;
 /// no value of it is made.
@@ -77,6 +77,17 @@ impl<E> Join<BookView<E>> for TakesPart {
     ghost spent = { no_tracks };
 }
 
+/// Takes over another part's track, and files nothing.
+pub struct TakesAnother;
+
+impl<E> Join<BookView<E>> for TakesAnother {
+    ghost use Rattle.fc_book.specs.Tracks.{no_tracks, with_another};
+
+    ghost both = { with_another };
+
+    ghost spent = { no_tracks };
+}
+
 /// Returns the part's track.
 pub struct ReturnsPart;
 
@@ -86,6 +97,17 @@ impl<E> Split<BookView<E>> for ReturnsPart {
     ghost left = { without_locked };
 
     ghost right = { locked_of };
+}
+
+/// Returns the first of the parts' tracks.
+pub struct ReturnsFirst;
+
+impl<E> Split<BookView<E>> for ReturnsFirst {
+    ghost use Rattle.fc_book.specs.Tracks.{first_locked, without_first_locked};
+
+    ghost left = { without_first_locked };
+
+    ghost right = { first_locked };
 }
 
 /// Makes a handle without tracks.

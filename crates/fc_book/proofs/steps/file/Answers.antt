@@ -12,6 +12,6 @@ join_seat-requires g c =
       (let s = c.requires.size in omega arith),
       λ s h at apart there. record {
         log = h.log ++ g.X.EntryName.entry ∷ [];
-        views_of = files keys_of g.X.EntryName.entry c.args.seat.now.me.0 c.args.part.me.0 on.0 on.1 on.2 c.requires.part.1 h.log s.views _ _ h.views_of at apart there;
+        views_of = files keys_of g.X.EntryName.entry c.args.seat.now.me.0 c.args.part.me.0 on.0 on.0 on.1 on.2 c.requires.part.1 h.log s.views _ _ h.views_of at apart there;
       },
     )
