@@ -7,7 +7,10 @@ use Rattle.fc_registry.specs.declared.shard.Made.{Made}
 use Rattle.fc_registry.specs.declared.shard.Made.TheVariants.{Raised, AtEnd}
 use Rattle.fc_registry.specs.declared.shard.Removal.{Removal}
 use Rattle.fc_registry.specs.declared.shard.Removal.TheVariants.{Removed}
-use Rattle.fc_registry.specs.Slots.{Shard, Slot}
+use Rattle.fc_registry.specs.Changes.{Change, after_changes}
+use Rattle.fc_registry.specs.Slots.{Shard, Slot, slot_in, with_slot}
+use Rattle.fc_store.specs.declared.store.ProgramUpdate.{ProgramUpdate}
+use Rattle.fc_store.specs.declared.store.ProgramUpdate.TheVariants.{Install, Commit, Remove}
 
 abbrev pub HasEightSlots : Shard → Type 0
 HasEightSlots shard = length shard.slots ≡ 8
@@ -40,3 +43,15 @@ install_changes AtEnd = 0
 abbrev pub removal_changes : Removal → ℕ
 removal_changes (Removed serial) = 1
 removal_changes other = 0
+
+-- ---- slots
+
+-- the slots of a shard after these changes of slot n, the newest first.
+abbrev pub slots_with : Shard → ℕ → List Change → List Slot
+slots_with shard n changes = (with_slot shard n (after_changes (slot_in shard n) changes)).slots
+
+-- the update has this image if it is that of an install.
+abbrev pub HasOwnImage : List ℕ → ProgramUpdate → Type 0
+HasOwnImage image (Install own vars) = own.now ≡ image
+HasOwnImage image (Commit vars) = Unit {0}
+HasOwnImage image Remove = Unit {0}

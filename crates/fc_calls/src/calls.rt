@@ -15,7 +15,7 @@ ghost use Rattle.fc_core.specs.Stages.{image_of};
 ghost use Rattle.fc_core.specs.Steps.{changes_of_call, Commits as CommitCall, Installs as InstallCall, Removes as RemoveCall};
 ghost use Rattle.fc_calls.specs.Doings.{CommitsAt, DescribesTo, GivesTurnAt, GivesUpAt, HandsOn, InstallsTo, NotesAt, PassesIfIdle};
 ghost use Rattle.fc_calls.specs.Doings.{RemovesFrom, TakesInto, FindsCost, TellsIdleUntil, TellsObservers, TicksAt};
-ghost use Rattle.fc_calls.specs.Kept.{HasEightSlots, commit_changes, confirm_times, install_changes, removal_changes, serials};
+ghost use Rattle.fc_calls.specs.Kept.{HasEightSlots, HasOwnImage, commit_changes, confirm_times, install_changes, removal_changes, serials, slots_with};
 
 use coap_msg::{Emission, Endpoint};
 use fc_core::task::image;
@@ -83,6 +83,9 @@ pub trait Change: ShardCall {
     // An installed program is that of the job's image.
     ghost is_verified: { Self → Type 0 } = { λ call. ⊤ };
 
+    // The image that the update of an install has.
+    ghost image: { Self → List ℕ } = { λ call. [] };
+
     /// Returns whether a result reports a change of a slot, which a tally counts.
     fn has_changed(answer: &Self::Answer) -> bool
         ensures { Self.changes answer.now ≡ (if result then 1 else 0) };
@@ -90,14 +93,18 @@ pub trait Change: ShardCall {
     /// Returns the update of the change that the call makes in `shard`.
     ///
     /// Returns `None` if the call changes no slot there. The shard isn't changed. The update of an
-    /// install has an image of the program, if the program is that of the job's image.
+    /// install has an image of the program, if the program is that of the job's image. The call
+    /// then makes just the changes that its result reports.
     fn plan<'p>(&'p self, shard: &'p Shard) -> Option<SlotUpdate<'p>>
         requires may { Self.may_ask self.now shard.now }
         ensures made { (answer : Self.Answer) (room : Self.Room) (after : Seen) → Self.does self.entry.now shard.entry.now answer room after
             → made self.entry.now answer ≡ (if is_some result then change self.entry.now ∷ [] else []) }
+        ensures slots { (answer : Self.Answer) (room : Self.Room) (after : Seen) → Self.does self.entry.now shard.entry.now answer room after
+            → after.slots ≡ slots_with shard.entry.now (slot self.entry.now) (made self.entry.now answer) }
         ensures planned { IfSome result (IsPlanned (slot_in shard.entry.now (slot self.entry.now)) (slot self.entry.now) (change self.entry.now)) }
         ensures slot { IfSome result (λ u. u.slot < 64) }
         ensures image { is_verified self.entry.now → IfSome result (λ u. SavesImage (change self.entry.now) u.program) }
+        ensures own_image { IfSome result (λ u. HasOwnImage (image self.entry.now) u.program) }
         ensures may_change { IfSome result (λ _. may_change self.entry.now) };
 }
 
@@ -203,6 +210,8 @@ impl<'a> Change for Install<'a> {
     ghost made = { λ call answer. changes_of_call (InstallCall call.program.value (initial_vars_of call.job.now.ask) answer) };
 
     ghost is_verified = { λ call. judged (image_of call.job.now.ask) ≡ Accepts call.program.value };
+
+    ghost image = { λ call. image_of call.job.now.ask };
 
     fn has_changed(answer: &Made) -> bool
         ensures { install_changes answer.now ≡ (if result then 1 else 0) }
