@@ -4,10 +4,10 @@ use Rattle.std.proofs.lemmas.List.{append-nil}
 use Rattle.coap_msg.specs.declared.types.Emission.{Emission}
 use Rattle.coap_msg.specs.declared.types.Endpoint.{Endpoint}
 use Rattle.fc_registry.specs.declared.job.Job.{Job}
-use Rattle.fc_core.specs.declared.front.Answered.{Answered}
-use Rattle.fc_core.specs.declared.front.Answered.TheVariants.{Sent, Late, NoId}
-use Rattle.fc_core.specs.declared.front.Delivered.{Delivered}
-use Rattle.fc_core.specs.declared.front.Delivered.TheVariants.{Nothing, Reply, Job as Brings, Signal as Signals}
+use Rattle.fc_core.specs.declared.by_value.Answered.{Answered}
+use Rattle.fc_core.specs.declared.by_value.Answered.TheVariants.{Sent, Late, NoId}
+use Rattle.fc_core.specs.declared.by_value.Delivered.{Delivered}
+use Rattle.fc_core.specs.declared.by_value.Delivered.TheVariants.{Nothing, Reply, Job as Brings, Signal as Signals}
 use Rattle.fc_core.specs.declared.stage.Task.{Task}
 use Rattle.fc_core.specs.declared.event.Event.TheVariants.{Answer, Deliver, Fresh, Tick}
 use Rattle.fc_core.specs.Answering.{Answers, emission_of}

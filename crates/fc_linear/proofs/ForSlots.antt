@@ -1,6 +1,10 @@
 -- Calls of a shard that change a slot or end a lease, and images that aren't installed.
 use Rattle.std.proofs.Common.{◌≡◌, ℕ, ◌%◌, ◌/◌, max, Bool, true, false, List, ◌∷◌, set, Option, Some, None, refl, sym, ap, ◌∙◌, subst, ⊎_elim}
 use Rattle.std.specs.Prelude.{nat_lt}
+use Rattle.std.proofs.lemmas.List.{set-get_or}
+use Rattle.fc_store.specs.declared.store.ProgramUpdate.{ProgramUpdate}
+use Rattle.fc_store.specs.declared.store.ProgramUpdate.TheVariants as saves
+use Rattle.fc_store.specs.declared.store.SlotUpdate.{SlotUpdate}
 use Rattle.fc_kinds.specs.Meaning.{Program}
 use Rattle.fc_machine.specs.Ran.{Ran}
 use Rattle.fc_verify.specs.Accepted.{Accepts, Judgement}
@@ -23,7 +27,7 @@ use Rattle.fc_registry.specs.declared.shard.Removal.{Removal}
 use Rattle.fc_registry.specs.Calls.{HasGiven, clear_by, commits, outcome, put_by, receipt_of, run_of, initial_vars_of}
 use Rattle.fc_registry.specs.Changes.{Change, after_changes}
 use Rattle.fc_registry.specs.Notes.{IsNotedIn, IsOfTurn, note_at, note_calls, note_in, sent_of, ticket_told}
-use Rattle.fc_registry.specs.Shards.{shard_at}
+use Rattle.fc_registry.specs.Shards.{no_shard, shard_at}
 use Rattle.fc_registry.specs.Slots.{Present, Shard, Slot, Ticket, last_serial, slot_in, with_slot}
 use Rattle.fc_registry.specs.Watches.{after_given_up, at_time, watch_at, with_calls}
 use Rattle.fc_core.specs.declared.stage.Task.{Task}
@@ -38,18 +42,18 @@ use Rattle.fc_core.specs.Stage.{Stage}
 use Rattle.fc_core.specs.Stage.{ToCommit, ToInstall, ToRemove, ToDescribe, ToAnswer, ToTell, Gone}
 use Rattle.fc_core.specs.TurnStage.{TurnStage}
 use Rattle.fc_core.specs.TurnStage as turns
-use Rattle.fc_core.specs.Stages.{after_commit, image_of, made, removed, receipt_content}
+use Rattle.fc_core.specs.Stages.{after_commit, image_of, is_refusable, made, removed, receipt_content}
 use Rattle.fc_core.specs.Steps.{Call, Commits, Installs, RefusesChange, Rejects, Removes, changes_of_call}
 use Rattle.fc_core.proofs.Commits.{IsTransition, commit_transition, left_by, shard_of_transition}
 use Rattle.fc_core.proofs.Rejections.{rejected_call, same_slot}
 use Rattle.fc_calls.specs.Logged.{CommitsRun, GivesUpTurn, InstallsProgram, NotesTurn, RemovesProgram, TellsReceipt}
 use Rattle.fc_calls.specs.Doings.{CommitsAt, DescribesTo, GivesUpAt, InstallsTo, NotesAt, RemovesFrom}
 use Rattle.fc_calls.specs.Doings.{SaysFound}
-use Rattle.fc_server.specs.Serving.{Serves}
+use Rattle.fc_server.specs.Serving.{Serves, next}
 use Rattle.fc_server.specs.States.{AtWork, Does, ServerState, inputs_in, shards_moved}
 use Rattle.fc_server.proofs.Others.{does_quietly}
-use Rattle.fc_linear.specs.Operations.{Operation, Logged, LogEntry, RefusesInstall, FailsToSave, ReceiptMoves, RejectsImage}
-use Rattle.fc_linear.specs.Parts.{RightByParts}
+use Rattle.fc_linear.specs.Operations.{FailsToSave, LogEntry, Logged, MakesUpdate, Operation, ReceiptMoves, RefusesInstall, RejectsImage, ShardDoes, unsaved_event}
+use Rattle.fc_linear.specs.Parts.{LeadInOrder, RightByParts, of_shard}
 use Rattle.fc_linear.proofs.Afters.{After, eight}
 use Rattle.fc_linear.proofs.Firsts.{entry_for, named, on_shard}
 use Rattle.fc_linear.proofs.ForJobs.{below_eight}
@@ -393,20 +397,54 @@ module _ (k : ℕ) (es : List LogEntry) (h : History) (end s : ServerState) (tas
         rest = record { front = st.front; shards = st.shards; words = st.words; jobs = n.jobs; to_come = n.to_come; numbered = n.numbered; of_server = st.of_server.1 };
       }
 
-  pub after_refuse : (j : Job) → RightByParts end s tasks (entry_for k (FailsToSave j) ∷ es) → After k (FailsToSave j) es h end
-  after_refuse j st =
-      let op : Operation = FailsToSave j in
+  -- the history with the refusal of job k's change leaves the server and the other jobs unchanged.
+  unsaved : (p : ProgramUpdate) (stage : Stage) → MakesUpdate (task_at tasks k).job p (task_at tasks k).stage → stage ≡ ToAnswer Unavailable → Serves (next h (unsaved_event k p) None) s (set tasks k (record { job = (task_at tasks k).job; stage = stage }))
+  unsaved (saves.Install image vars) stage may to =
+      let task = task_at tasks k in
+      let later : Task = record { job = task.job; stage = stage } in
+      let e = Install k false in
+      let there : transition e (inputs_in s task) ≡ goes_to (ToAnswer Unavailable) = ap (λ (x : Stage). transition e (inputs_with s task task.job.origin.slot x)) may.0 in
+      job_served h e k (refl, refl, refl) s s tasks later None (does_quietly e s s task later (ToAnswer Unavailable) there refl
+      (ap (λ (x : Stage). record { job = task.job; stage = x }) to ∙ ap (λ (m : Effect). task_moved task m) (sym there)) refl) v
+  unsaved (saves.Commit vars) stage may to =
+      let task = task_at tasks k in
+      let later : Task = record { job = task.job; stage = stage } in
+      let e = Refuse k in
+      let is : is_refusable task.stage ≡ true = ap (λ (x : Stage). is_refusable x) may.1.1.0 ∙ may.1.1.1 in
+      let there : transition e (inputs_in s task) ≡ goes_to (ToAnswer Unavailable) = ap (λ (b : Bool). effect_of e (inputs_in s task) (call_if b (RefusesChange task.stage))) is in
+      job_served h e k (refl, refl, refl) s s tasks later None (does_quietly e s s task later (ToAnswer Unavailable) there refl
+      (ap (λ (x : Stage). record { job = task.job; stage = x }) to ∙ ap (λ (m : Effect). task_moved task m) (sym there)) refl) v
+  unsaved saves.Remove stage may to =
+      let task = task_at tasks k in
+      let later : Task = record { job = task.job; stage = stage } in
+      let e = Refuse k in
+      let is : is_refusable task.stage ≡ true = ap (λ (x : Stage). is_refusable x) may in
+      let there : transition e (inputs_in s task) ≡ goes_to (ToAnswer Unavailable) = ap (λ (b : Bool). effect_of e (inputs_in s task) (call_if b (RefusesChange task.stage))) is in
+      job_served h e k (refl, refl, refl) s s tasks later None (does_quietly e s s task later (ToAnswer Unavailable) there refl
+      (ap (λ (x : Stage). record { job = task.job; stage = x }) to ∙ ap (λ (m : Effect). task_moved task m) (sym there)) refl) v
+
+  pub after_refuse : (u : SlotUpdate) → RightByParts end s tasks (entry_for k (FailsToSave u) ∷ es) → After k (FailsToSave u) es h end
+  after_refuse u st =
+      let op : Operation = FailsToSave u in
+      let i = u.slot % 8 in
+      let o = on_shard k op end s tasks es st i refl (below_eight u.slot) (eight h s tasks v) in
+      let same : set s.shards i o.after ≡ s.shards = ap (λ (x : Shard). set s.shards i x) o.does ∙ set-get_or s.shards i no_shard in
       let task = task_at tasks k in
       let n = named k op end s tasks es st refl refl in
       let later : Task = record { job = task.job; stage = n.stage } in
-      let e = Refuse k in
-      let there : transition e (inputs_in s task) ≡ goes_to (ToAnswer Unavailable) = ap (λ (b : Bool). effect_of e (inputs_in s task) (call_if b (RefusesChange task.stage))) n.moves.1 in
       record {
         server = s;
         tasks = set tasks k later;
-        serves = job_served h e k (refl, refl, refl) s s tasks later None (does_quietly e s s task later (ToAnswer Unavailable) there refl
-            (ap (λ (x : Stage). record { job = task.job; stage = x }) n.moves.2 ∙ ap (λ (m : Effect). task_moved task m) (sym there)) refl) v;
-        rest = record { front = st.front; shards = st.shards; words = st.words; jobs = n.jobs; to_come = n.to_come; numbered = n.numbered; of_server = st.of_server.1 };
+        serves = unsaved u.program n.stage n.moves.1 n.moves.2;
+        rest = record {
+          front = st.front;
+          shards = λ j low. subst (λ (xs : List Shard). LeadInOrder ShardDoes (of_shard j es) (shard_at xs j) (shard_at end.shards j)) same (o.shards j low);
+          words = st.words;
+          jobs = n.jobs;
+          to_come = n.to_come;
+          numbered = n.numbered;
+          of_server = st.of_server.1;
+        };
       }
 
   pub after_refused_install : (j : Job) → RightByParts end s tasks (entry_for k (RefusesInstall j) ∷ es) → After k (RefusesInstall j) es h end

@@ -6,3 +6,4 @@ pub mod AtShards
 pub mod ForJobs
 pub mod ForSlots
 pub mod Ordered
+pub mod Prefixes

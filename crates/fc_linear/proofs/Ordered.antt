@@ -47,7 +47,7 @@ module _ (k : ℕ) (es : List LogEntry) (h : History) (end s : ServerState) (tas
   after_first (Logged (TellsReceipt job receipt)) st = after_receipt k es h end s tasks v job receipt st
   after_first (RejectsImage job content) st = after_reject k es h end s tasks v job content st
   after_first (RefusesInstall job) st = after_refused_install k es h end s tasks v job st
-  after_first (FailsToSave job) st = after_refuse k es h end s tasks v job st
+  after_first (FailsToSave update) st = after_refuse k es h end s tasks v update st
 
 -- if a log is right from a server that a history leaves, the history continued by the log leaves
 -- the server `end`.

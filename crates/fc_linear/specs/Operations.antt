@@ -5,6 +5,9 @@ use Rattle.std.specs.Borrow.{Bor}
 use Rattle.arrayvec.specs.ArrayVec.{ArrayVec}
 use Rattle.coap_msg.specs.declared.types.Emission.{Emission}
 use Rattle.fc_isa.specs.declared.rule.Fault.{Fault}
+use Rattle.fc_store.specs.declared.store.ProgramUpdate.{ProgramUpdate}
+use Rattle.fc_store.specs.declared.store.ProgramUpdate.TheVariants as saves
+use Rattle.fc_store.specs.declared.store.SlotUpdate.{SlotUpdate}
 use Rattle.fc_verify.specs.Accepted.{Accepts}
 use Rattle.fc_verify.specs.Judged.{judged}
 use Rattle.fc_verify.specs.Refusals.{IsRefusal}
@@ -12,13 +15,13 @@ use Rattle.fc_verify.specs.declared.refusal.Refusal.TheVariants.{Broken}
 use Rattle.fc_observe.specs.declared.entry.Turn.{Turn}
 use Rattle.fc_registry.specs.declared.job.Job.{Job}
 use Rattle.fc_registry.specs.declared.receipt.Receipt.{Receipt as Facts}
-use Rattle.fc_registry.specs.Calls.{receipt_of, run_of}
+use Rattle.fc_registry.specs.Calls.{commit_of, receipt_of, run_of, wants}
 use Rattle.fc_registry.specs.Notes.{sent_of}
 use Rattle.fc_registry.specs.Slots.{Shard, Ticket}
 use Rattle.fc_core.specs.declared.event.Event.{Event}
 use Rattle.fc_core.specs.declared.event.Event.TheVariants.{Deliver, Peek, Take, Commit, Install, Remove, Refuse, Receipt, Raise, Answer, Due, Fire, Fresh, Note, GiveUp, Signal, Tick, ShardTick}
-use Rattle.fc_core.specs.declared.front.Delivered.{Delivered}
-use Rattle.fc_core.specs.declared.front.Delivered.TheVariants.{Job as Brings, Reply}
+use Rattle.fc_core.specs.declared.by_value.Delivered.{Delivered}
+use Rattle.fc_core.specs.declared.by_value.Delivered.TheVariants.{Job as Brings, Reply}
 use Rattle.fc_core.specs.Stage.{Stage}
 use Rattle.fc_core.specs.Stage.{ToMatch, ToTake, ToCommit, ToInstall, ToRemove, ToDescribe, ToList, ToRaise, ToAnswer, ToTell, Gone}
 use Rattle.fc_core.specs.TurnStage.{TurnStage}
@@ -29,7 +32,7 @@ use Rattle.fc_core.specs.Exchanges.{FrontState}
 use Rattle.fc_core.specs.Fits.{IsSafe}
 use Rattle.fc_core.specs.Heads.{word_at, word_raised}
 use Rattle.fc_core.specs.Legal.{resent}
-use Rattle.fc_core.specs.Stages.{after_commit, had_memory, image_of, is_refusable, listed, made, matched, removed, receipt_content, took, turn_took, with_id}
+use Rattle.fc_core.specs.Stages.{after_commit, had_memory, image_of, listed, made, matched, removed, receipt_content, took, turn_took, with_id}
 use Rattle.fc_core.specs.Timers.{timer_job}
 use Rattle.fc_calls.specs.Logged.{LoggedCall}
 use Rattle.fc_calls.specs.Logged.{HandlesDatagram, AdvancesFront, FiresTimer, DrawsId, AnswersRequest, TellsReceipt, GivesReadings, ReadsCost, LooksAt, RaisesWord}
@@ -43,11 +46,10 @@ pub data Operation : Type 0 where
   Logged : (call : LoggedCall) → Operation
   -- the image of an install breaks a rule; `content` is the answer.
   RejectsImage : (job : Job) (content : Content) → Operation
-  -- the program of an install isn't installed: memory can't be allocated, or the store
-  -- refuses the save.
+  -- the program of an install isn't installed: memory can't be allocated.
   RefusesInstall : (job : Job) → Operation
-  -- the store refuses to save the job's change, a commit or a removal.
-  FailsToSave : (job : Job) → Operation
+  -- the store refuses to save the update of a job's change, and the change isn't made.
+  FailsToSave : (update : SlotUpdate) → Operation
 
 -- an operation, with the number of its job; the number has no meaning if the operation is for no
 -- job.
@@ -90,7 +92,7 @@ abbrev pub part_of : Operation → ServerPart
 part_of (Logged call) = part_by call
 part_of (RejectsImage job content) = NoPart
 part_of (RefusesInstall job) = NoPart
-part_of (FailsToSave job) = NoPart
+part_of (FailsToSave update) = ShardPart (update.slot % 8)
 
 abbrev pub is_front : ServerPart → Bool
 is_front FrontPart = true
@@ -133,6 +135,7 @@ ShardDoes (Logged (AdvancesShard shard now ticked)) x y = TicksAt now x ticked y
 ShardDoes (Logged (GivesTurn shard now turn)) x y = GivesTurnAt now x turn y
 ShardDoes (Logged (NotesTurn turn id now random told noted)) x y = NotesAt turn id now random told x noted y
 ShardDoes (Logged (GivesUpTurn turn now)) x y = GivesUpAt now turn x y
+ShardDoes (FailsToSave update) x y = y ≡ x
 ShardDoes other x y = ⊥
 
 abbrev pub WordsDo : Operation → List ℕ → List ℕ → Type 0
@@ -189,6 +192,13 @@ LookMoves slot word job s t =
     ((slot ≡ job.origin.slot) × (s ≡ ToMatch) × (t ≡ matched word job.etags.items))
     ⊎ ((seen : ArrayVec ℕ) × (slot ≡ length seen.items) × (s ≡ ToList seen) × (t ≡ listed (seen.items ++ word ∷ [])))
 
+-- a job at this stage makes the change of this update if it is saved. An install's image is the
+-- job's. The variables of a commit are those that the ticket's run left, and the run wants to write.
+abbrev pub MakesUpdate : Job → ProgramUpdate → Stage → Type 0
+MakesUpdate job (saves.Install image vars) s = (s ≡ ToInstall) × (image.now ≡ image_of job.ask)
+MakesUpdate job (saves.Commit vars) s = (count : ℕ) × ((ticket : Ticket) × ((s ≡ ToCommit count ticket) × (wants ticket ≡ true) × (vars.now ≡ (commit_of ticket).after)))
+MakesUpdate job saves.Remove s = s ≡ ToRemove
+
 -- the job's stage s needs this operation, and the operation's result leads the job to stage t.
 abbrev pub StageMoves : Operation → Job → Stage → Stage → Type 0
 StageMoves (Logged (DrawsId now id)) job s t = (turn : Turn) × (found : Option Ticket) × (s ≡ ToTell turn (turns.ToDraw found)) × (t ≡ ToTell turn (with_id found id))
@@ -207,7 +217,7 @@ StageMoves (Logged (RaisesWord slot word)) job s t = (slot ≡ job.origin.slot) 
 StageMoves (RejectsImage j content) job s t =
     (j ≡ job) × ((f : Fault) × IsRefusal (image_of job.ask) (Broken f) × (content ≡ refused (Broken f))) × (s ≡ ToInstall) × (t ≡ ToAnswer content)
 StageMoves (RefusesInstall j) job s t = (j ≡ job) × (s ≡ ToInstall) × (t ≡ ToAnswer Unavailable)
-StageMoves (FailsToSave j) job s t = (j ≡ job) × (is_refusable s ≡ true) × (t ≡ ToAnswer Unavailable)
+StageMoves (FailsToSave update) job s t = (update.slot ≡ job.origin.slot) × MakesUpdate job update.program s × (t ≡ ToAnswer Unavailable)
 StageMoves other job s t = ⊥
 
 -- ---- its event, if it is one, and what that emits
@@ -240,11 +250,17 @@ event_by k (NotesTurn turn id now random told noted) = Some (Note k now random)
 event_by k (GivesUpTurn turn now) = Some (GiveUp k now)
 event_by k (RaisesWord slot word) = Some (Raise k)
 
+-- the event of an update that can't be saved: the install, or the change of job k, is refused.
+abbrev pub unsaved_event : ℕ → ProgramUpdate → Event
+unsaved_event k (saves.Install image vars) = Install k false
+unsaved_event k (saves.Commit vars) = Refuse k
+unsaved_event k saves.Remove = Refuse k
+
 abbrev pub event_for : ℕ → Operation → Option Event
 event_for k (Logged call) = event_by k call
 event_for k (RejectsImage j content) = Some (Install k true)
 event_for k (RefusesInstall j) = Some (Install k false)
-event_for k (FailsToSave j) = Some (Refuse k)
+event_for k (FailsToSave update) = Some (unsaved_event k update.program)
 
 abbrev pub event_of : LogEntry → Option Event
 event_of e = event_for e.job e.operation

@@ -1,25 +1,31 @@
 //! Laws of logs of operations.
 ghost use Rattle.std.specs.Prelude.{◌≡◌, ◌<◌, ℕ, [], List, None, Some, false, length, true, ◌∷◌, Option};
+ghost use Rattle.std.specs.Borrow.{Bor};
 ghost use Rattle.fc_calls.specs.Logged.{GivesReadings, ReadsCost, SkipsIdle};
 ghost use Rattle.fc_core.specs.Contents.{Content, Unavailable};
 ghost use Rattle.fc_core.specs.Heads.{word_at};
 ghost use Rattle.fc_core.specs.History.{BeginsWith, History};
-ghost use Rattle.fc_core.specs.Stage.{Stage, ToAnswer, ToInstall, ToRaise};
+ghost use Rattle.fc_core.specs.Stage.{Stage, ToAnswer, ToCommit, ToInstall, ToRemove};
 ghost use Rattle.fc_core.specs.declared.event.Event.TheVariants.{Install, Refuse};
 ghost use Rattle.fc_core.specs.declared.policy.Policy.{Policy};
 ghost use Rattle.fc_core.specs.declared.stage.Task.{Task};
 ghost use Rattle.fc_kinds.specs.Meaning.{Program};
+ghost use Rattle.fc_core.specs.Stages.{image_of};
+ghost use Rattle.fc_registry.specs.Calls.{commit_of, wants};
 ghost use Rattle.fc_registry.specs.Restored.{restored_slot};
 ghost use Rattle.fc_registry.specs.Shards.{slot_in_shards};
+ghost use Rattle.fc_registry.specs.Slots.{Shard, Ticket};
 ghost use Rattle.fc_registry.specs.Starts.{CanRestore};
 ghost use Rattle.fc_registry.specs.declared.job.Job.{Job};
 ghost use Rattle.fc_server.specs.declared.server.Begin.{Begin};
 ghost use Rattle.fc_server.specs.Serving.{Serves};
 ghost use Rattle.fc_server.specs.States.{ServerState, begin_of, first_server, server_over};
+ghost use Rattle.fc_store.specs.declared.store.ProgramUpdate.TheVariants as saves;
+ghost use Rattle.fc_store.specs.declared.store.SlotUpdate.{SlotUpdate};
 ghost use Rattle.fc_store.specs.Stored.{StoredProgram, StoredSlot, StoredSlots, stored_in};
 ghost use Rattle.fc_verify.specs.Accepted.{Accepts};
 ghost use Rattle.fc_verify.specs.Judged.{judged};
-ghost use Rattle.fc_linear.specs.Operations.{FailsToSave, RefusesInstall, LogEntry, NoPart, RejectsImage, StageMoves, event_for, part_of, Logged, ShardPart};
+ghost use Rattle.fc_linear.specs.Operations.{FailsToSave, RefusesInstall, LogEntry, NoPart, RejectsImage, StageMoves, event_for, part_of, Logged, ShardDoes, ShardPart};
 ghost use Rattle.fc_linear.specs.Parts.{IsHistoryOf, LeavesServer, RightByParts, history_on};
 
 /// A new server is the one that its history begins with, with empty slots or with restored ones.
@@ -63,23 +69,37 @@ pub fn calls_continue_a_history()
         RightByParts end s tasks log → LeavesServer (history_on h log) end }
 {}
 
-/// An image that isn't installed, or a change that isn't saved, is one of the job that it names.
+/// An image that isn't installed, or a change that isn't saved, is one of a job.
 ///
-/// An image breaks a rule, or isn't installed, at the stage of its install. A change that isn't
-/// saved leads to 5.03 (Service Unavailable). It is no install, and its slot hasn't changed yet.
+/// An image breaks a rule, or memory for it is refused, at the stage of its install. The update of
+/// an install fails to be saved at that stage too, and has the job's image. The update of a commit
+/// fails at the stage of a commit that wants to write, and has the variables that its run left. The
+/// update of a removal fails at the stage of the removal. So the slot hasn't changed yet. The job's
+/// answer is then 5.03 (Service Unavailable), and the job's slot is that of the update.
 ///
-/// None of the three is a call of a part of the server. Their events are an install with memory, an
-/// install that is refused, and the refusal of a change.
+/// The first two are calls of no part of the server. An update of slot 13 that fails to be saved is
+/// an operation of shard 5, and leaves the shard unchanged. The events are an install with memory,
+/// an install that is refused, and the refusal of a change.
 pub fn filed_refusals_name_their_job()
     ensures rejects { (j job : Job) (content : Content) (s t : Stage) → StageMoves (RejectsImage j content) job s t → (j ≡ job) × (s ≡ ToInstall) }
     ensures refused { (j job : Job) (s t : Stage) → StageMoves (RefusesInstall j) job s t → (j ≡ job) × (s ≡ ToInstall) }
-    ensures unsaved { (j job : Job) (s t : Stage) → StageMoves (FailsToSave j) job s t → (j ≡ job) × (t ≡ ToAnswer Unavailable) }
-    ensures not_installs { (job : Job) (t : Stage) → StageMoves (FailsToSave job) job ToInstall t → ⊥ }
-    ensures not_made { (job : Job) (word : ℕ) (content : Content) (t : Stage) → StageMoves (FailsToSave job) job (ToRaise word content) t → ⊥ }
-    ensures no_part { (job : Job) (content : Content) →
-        (part_of (RejectsImage job content) ≡ NoPart) × (part_of (RefusesInstall job) ≡ NoPart) × (part_of (FailsToSave job) ≡ NoPart) }
+    ensures unsaved { (u : SlotUpdate) (job : Job) (s t : Stage) → StageMoves (FailsToSave u) job s t → (u.slot ≡ job.origin.slot) × (t ≡ ToAnswer Unavailable) }
+    ensures install { (slot serial : ℕ) (image vars : Bor (List ℕ)) (job : Job) (s t : Stage) →
+        StageMoves (FailsToSave (record { slot = slot; serial = serial; program = saves.Install image vars })) job s t → (s ≡ ToInstall) × (image.now ≡ image_of job.ask) }
+    ensures commit { (slot serial : ℕ) (vars : Bor (List ℕ)) (job : Job) (s t : Stage) →
+        StageMoves (FailsToSave (record { slot = slot; serial = serial; program = saves.Commit vars })) job s t
+        → (count : ℕ) × ((ticket : Ticket) × ((s ≡ ToCommit count ticket) × (wants ticket ≡ true) × (vars.now ≡ (commit_of ticket).after))) }
+    ensures removal { (slot serial : ℕ) (job : Job) (s t : Stage) →
+        StageMoves (FailsToSave (record { slot = slot; serial = serial; program = saves.Remove })) job s t → s ≡ ToRemove }
+    ensures no_part { (job : Job) (content : Content) → (part_of (RejectsImage job content) ≡ NoPart) × (part_of (RefusesInstall job) ≡ NoPart) }
+    ensures shard { (u : SlotUpdate) → u.slot ≡ 13 → part_of (FailsToSave u) ≡ ShardPart 5 }
+    ensures unchanged { (u : SlotUpdate) (x y : Shard) → ShardDoes (FailsToSave u) x y → y ≡ x }
     ensures events { (k : ℕ) (job : Job) (content : Content) →
-        (event_for k (RejectsImage job content) ≡ Some (Install k true)) × (event_for k (RefusesInstall job) ≡ Some (Install k false)) × (event_for k (FailsToSave job) ≡ Some (Refuse k)) }
+        (event_for k (RejectsImage job content) ≡ Some (Install k true)) × (event_for k (RefusesInstall job) ≡ Some (Install k false)) }
+    ensures unsaved_install { (k slot serial : ℕ) (image vars : Bor (List ℕ)) → event_for k (FailsToSave (record { slot = slot; serial = serial; program = saves.Install image vars })) ≡ Some (Install k false) }
+    ensures unsaved_changes { (k slot serial : ℕ) (vars : Bor (List ℕ)) →
+        (event_for k (FailsToSave (record { slot = slot; serial = serial; program = saves.Commit vars })) ≡ Some (Refuse k))
+        × (event_for k (FailsToSave (record { slot = slot; serial = serial; program = saves.Remove })) ≡ Some (Refuse k)) }
 {}
 
 /// A read of a cost, a skip and a call for readings are no events.

@@ -17,9 +17,12 @@
 //! - A log that is right from a server that a history leaves continues this history. The longer
 //!   history leaves the server to which the log leads. Reads of costs, skips and calls for readings
 //!   are no events.
-//! - An image that isn't installed, or a change that isn't saved, is one of the job that it names.
-//!   It isn't a call of a part of the server. An install, or a change that was made, can't fail to
-//!   be saved.
+//! - An image that isn't installed is one of the job that it names. It isn't a call of a part of
+//!   the server.
+//! - An update that fails to be saved is one of its job's slot, at the stage of the change. That of
+//!   an install has the job's image, and that of a commit the variables that the run left. It is an
+//!   operation of the slot's shard, and leaves the shard unchanged. A change that was made can't
+//!   fail to be saved.
 //!
 //! A server's threads make such a log. The book of [fc_filed](../../fc_filed/src/lib.rt) provides
 //! one order of all filed calls, which is right for each part. The logs and messages of
