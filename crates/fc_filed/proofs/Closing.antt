@@ -1,5 +1,5 @@
 -- Tracks that are each right make a log that is right by parts and by jobs.
-use Rattle.std.proofs.Common.{◌≡◌, ◌≢◌, ◌⊎◌, ℕ, ◌+◌, ◌-◌, ◌<◌, ◌≤◌, Bool, true, false, List, [], ◌∷◌, refl, sym, ap, ◌∙◌, subst, ⊎_elim, inl, inr, arith}
+use Rattle.std.proofs.Common.{◌≡◌, ◌≢◌, ◌⊎◌, ℕ, ◌+◌, ◌-◌, ◌<◌, ◌≤◌, Bool, true, false, List, [], ◌∷◌, Option, Some, None, refl, sym, ap, ◌∙◌, subst, ⊎_elim, inl, inr, arith}
 use Rattle.std.specs.Prelude.{◌==◌, ◌||◌, ◌&&◌, if◌then◌else◌}
 use Rattle.std.specs.List.{filter}
 use Rattle.std.proofs.lemmas.Bool.Decides.{nat_tests}
@@ -14,7 +14,8 @@ use Rattle.fc_linear.specs.Operations.{FrontDoes, LogEntry, Operation, ServerPar
 use Rattle.fc_linear.specs.Parts.{BringsItsJob, HaveNextNumbers, IsHistoryOf, LeadInOrder, RightByParts, bringing, concerns, history_on, AllOfServer}
 use Rattle.fc_linear.proofs.Ordered.{whole}
 use Rattle.fc_filed.specs.declared.entry.FiledEntry.{FiledEntry}
-use Rattle.fc_filed.specs.Entries.{AreKeyed, ChangesWords, IsKeyed, OperationsLead, entry_keys, is_of_job, log_entry, log_of, part_key}
+use Rattle.fc_store.specs.Recovery.{Save}
+use Rattle.fc_filed.specs.Entries.{AreKeyed, ChangesWords, IsKeyed, OperationsLead, also_key, entry_keys, is_of_job, log_entry, log_of, part_key}
 use Rattle.fc_filed.specs.Books.{HasServerHistory, IsRightForJob}
 use Rattle.fc_filed.specs.Tracked.{AreTracksRight, HasTrackOf, LeadsPart, OwnsAll}
 use Rattle.fc_filed.proofs.Keyed.{part_of_keyed}
@@ -34,20 +35,29 @@ or_none false c d x y = rw (x, y) refl
 or_last : (a b c : Bool) → a ≡ false → b ≡ false → c ≡ (a || (b || c))
 or_last a b c x y = rw (x, y) refl
 
+or_twice : (b c : Bool) → (b || (b || c)) ≡ (b || c)
+or_twice true c = refl
+or_twice false c = refl
+
+-- only the store's track has entries by their save.
+pub without_save : (part k : ℕ) (save : Option Save) (rest : Bool) → k ≢ 9 → ((part == k) || ((also_key part save == k) || rest)) ≡ ((part == k) || rest)
+without_save part k None rest other = or_twice (part == k) rest
+without_save part k (Some save) rest other = ap (λ (b : Bool). (part == k) || (b || rest)) (not_same 9 k (λ e. other (sym e)))
+
 -- operations on the front's track belong to the front, and those on a shard's track to the shard.
-front_key : (p : ServerPart) (who : ℕ) → 9 ≤ who → is_front p ≡ (part_key who p == 0)
+front_key : (p : ServerPart) (who : ℕ) → 10 ≤ who → is_front p ≡ (part_key who p == 0)
 front_key FrontPart who le = refl
 front_key (ShardPart i) who le = sym (not_same (i + 1) 0 (λ e. absurd (omega (arith, e))))
 front_key WordsPart who le = sym (not_same who 0 (λ e. absurd (omega (arith, e, le))))
 front_key NoPart who le = sym (not_same who 0 (λ e. absurd (omega (arith, e, le))))
 
-shard_key : (p : ServerPart) (i who : ℕ) → i < 8 → 9 ≤ who → is_shard i p ≡ (part_key who p == i + 1)
+shard_key : (p : ServerPart) (i who : ℕ) → i < 8 → 10 ≤ who → is_shard i p ≡ (part_key who p == i + 1)
 shard_key FrontPart i who low le = sym (not_same 0 (i + 1) (λ e. absurd (omega (arith, e))))
 shard_key (ShardPart j) i who low le = next_same j i
 shard_key WordsPart i who low le = sym (not_same who (i + 1) (λ e. absurd (omega (arith, e, le, low))))
 shard_key NoPart i who low le = sym (not_same who (i + 1) (λ e. absurd (omega (arith, e, le, low))))
 
-job_low : (first_job : ℕ) (e : FiledEntry) (b : Bool) → is_of_job e.operation ≡ b → IsKeyed first_job e → 9 ≤ e.job
+pub job_low : (first_job : ℕ) (e : FiledEntry) (b : Bool) → is_of_job e.operation ≡ b → IsKeyed first_job e → 10 ≤ e.job
 job_low first_job e true is k = let le = k.job is in let low = k.who.0 in let high = k.who.1 in omega (arith, le, low, high)
 job_low first_job e false is k = let same = k.none is in let low = k.who.0 in omega (arith, same, low)
 
@@ -61,22 +71,25 @@ module _ (first_job : ℕ) where
       let low = job_low first_job e (is_of_job e.operation) refl k in
       let who = k.who.0 in
       front_key (part_of e.operation) e.who who
-      ∙ or_none (part_key e.who (part_of e.operation) == 0) (e.who == 0) (e.job == 0) (not_same e.who 0 (λ z. absurd (omega (arith, z, who)))) (not_same e.job 0 (λ z. absurd (omega (arith, z, low))))
+      ∙ (or_none (part_key e.who (part_of e.operation) == 0) (e.who == 0) (e.job == 0) (not_same e.who 0 (λ z. absurd (omega (arith, z, who)))) (not_same e.job 0 (λ z. absurd (omega (arith, z, low))))
+      ∙ sym (without_save (part_key e.who (part_of e.operation)) 0 e.save ((e.who == 0) || (e.job == 0)) (λ z. absurd (omega (arith, z)))))
 
   pub on_shard_track : (i : ℕ) → i < 8 → (e : FiledEntry) → IsKeyed first_job e → is_shard i (part_of e.operation) ≡ is_on entry_keys (i + 1) e
   on_shard_track i lt e k =
       let low = job_low first_job e (is_of_job e.operation) refl k in
       let who = k.who.0 in
       shard_key (part_of e.operation) i e.who lt who
-      ∙ or_none (part_key e.who (part_of e.operation) == i + 1) (e.who == i + 1) (e.job == i + 1) (not_same e.who (i + 1) (λ z. absurd (omega (arith, z, lt, who)))) (not_same e.job (i + 1) (λ z. absurd (omega (arith, z, lt, low))))
+      ∙ (or_none (part_key e.who (part_of e.operation) == i + 1) (e.who == i + 1) (e.job == i + 1) (not_same e.who (i + 1) (λ z. absurd (omega (arith, z, lt, who)))) (not_same e.job (i + 1) (λ z. absurd (omega (arith, z, lt, low))))
+      ∙ sym (without_save (part_key e.who (part_of e.operation)) (i + 1) e.save ((e.who == i + 1) || (e.job == i + 1)) (λ z. absurd (omega (arith, z, lt)))))
 
   on_job_track : (n : ℕ) (e : FiledEntry) → IsKeyed first_job e → concerns n (log_entry first_job e) ≡ is_on entry_keys (first_job + n) e
   on_job_track n e k =
       let part = part_of_keyed first_job e k in
       let high = k.who.1 in
       by_number first_job e.job n (is_of_job e.operation) k.job (λ f. let same = k.none f in omega (arith, same, high))
-      ∙ or_last (part_key e.who (part_of e.operation) == first_job + n) (e.who == first_job + n) (e.job == first_job + n)
+      ∙ (or_last (part_key e.who (part_of e.operation) == first_job + n) (e.who == first_job + n) (e.job == first_job + n)
       (not_same (part_key e.who (part_of e.operation)) (first_job + n) (λ z. absurd (omega (arith, z, part)))) (not_same e.who (first_job + n) (λ z. absurd (omega (arith, z, high))))
+      ∙ sym (without_save (part_key e.who (part_of e.operation)) (first_job + n) e.save ((e.who == first_job + n) || (e.job == first_job + n)) (λ z. absurd (let low = k.who.0 in omega (arith, z, high, low)))))
 
   kept_by : (b c : Bool) (x : LogEntry) (e : FiledEntry) (xs : List LogEntry) (es : List FiledEntry) → b ≡ c → x ≡ log_entry first_job e → xs ≡ log_of first_job es → (if b then x ∷ xs else xs) ≡ log_of first_job (if c then e ∷ es else es)
   kept_by b true x e xs es is same rest = rw is (λ i. same i ∷ rest i)

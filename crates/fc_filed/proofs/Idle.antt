@@ -20,6 +20,7 @@ use Rattle.fc_filed.specs.declared.entry.FiledEntry.{FiledEntry}
 use Rattle.fc_filed.specs.Entries.{OperationsLead, part_key, shard_entries}
 use Rattle.fc_filed.specs.Idle.{AreIdleWords, IsIdleBefore, LeadToIdle, idle_word}
 use Rattle.fc_filed.specs.Parts.{AreCallsOf}
+use Rattle.fc_filed.proofs.Shards.{shard_led}
 use Rattle.fc_filed.proofs.Sent.{same_or_not}
 
 -- ---- an entry is of no shard but its part
@@ -120,10 +121,10 @@ idle_before s until now stays idle before = ⊎_elim
     (cases_lt s.now now)
 
 -- the calls of such a shard lead to one that is idle before that time.
-pub leads_idle : (begin : ServerState) (key index until : ℕ) (calls : List FiledEntry) (s : Shard) → index + 1 ≡ key → AreCallsOf begin key calls s → StaysIdleUntil until s → is_idle s ≡ true → (now : ℕ) → now < until → LeadToIdle (shard_at begin.shards index) calls now
-leads_idle begin key index until calls s key_is led stays idle now before =
+pub leads_idle : (begin : ServerState) (persistent : Bool) (key index until : ℕ) (calls : List FiledEntry) (s : Shard) → index + 1 ≡ key → AreCallsOf begin persistent key calls s → StaysIdleUntil until s → is_idle s ≡ true → (now : ℕ) → now < until → LeadToIdle (shard_at begin.shards index) calls now
+leads_idle begin persistent key index until calls s key_is led stays idle now before =
     let same : s.index ≡ index = (let e = led.2 in omega (arith, e, key_is)) in record {
       shard = s;
-      led = subst (λ (i : ℕ). OperationsLead ShardDoes calls (shard_at begin.shards i) s) same led.3;
+      led = subst (λ (i : ℕ). OperationsLead ShardDoes calls (shard_at begin.shards i) s) same (shard_led persistent calls (shard_at begin.shards s.index) s led.3);
       idle = idle_before s until now stays idle before;
     }

@@ -1,6 +1,6 @@
 -- Operations of a job that a thread files are the last entries on the tracks of both.
 use Rattle.std.proofs.Common.{◌≡◌, ◌≢◌, ℕ, ◌<◌, ◌≤◌, Bool, true, false, if◌then◌else◌, List, [], ◌∷◌, ◌++◌, refl, sym, ap, ◌∙◌, subst, inl, inr, arith, append_assoc}
-use Rattle.std.specs.Prelude.{◌==◌, ◌||◌, None, is_some}
+use Rattle.std.specs.Prelude.{◌==◌, ◌||◌, None, Option, is_some}
 use Rattle.std.specs.List.{All}
 use Rattle.std.proofs.lemmas.List.{append-nil}
 use Rattle.std.proofs.lemmas.List.Elements.{All-append, All-cons, All-nil}
@@ -19,9 +19,10 @@ use Rattle.fc_linear.specs.Parts.{FollowsStages}
 use Rattle.fc_filed.specs.declared.entry.FiledEntry.{FiledEntry}
 use Rattle.fc_filed.specs.Books.{IsRightForJob}
 use Rattle.fc_filed.specs.Entries.{entry_keys, is_of_job, log_of, part_key}
-use Rattle.fc_filed.specs.Threads.{HasJobFirst, HasOwnTrack, did_by, entry_by, key_of_first}
+use Rattle.fc_store.specs.Recovery.{Save}
+use Rattle.fc_filed.specs.Threads.{HasJobFirst, HasOwnTrack, did_with, entry_with, key_of_first}
 use Rattle.fc_filed.specs.JobTracks.{FilesForJob, HasJobAt, HasLedJob, LeadJob}
-use Rattle.fc_filed.proofs.Keyed.{low_of, part_below}
+use Rattle.fc_filed.proofs.Keyed.{also_below, low_of, part_below}
 
 -- ---- an operation that a stage needs
 
@@ -55,7 +56,7 @@ of_old_job (Logged (GivesUpTurn turn now)) job s t m = record { for = refl; of_s
 of_old_job (Logged (RaisesWord slot word)) job s t m = record { for = refl; of_server = tt; none = refl }
 of_old_job (RejectsImage j content) job s t m = record { for = refl; of_server = tt; none = refl }
 of_old_job (RefusesInstall j) job s t m = record { for = refl; of_server = tt; none = refl }
-of_old_job (FailsToSave j) job s t m = record { for = refl; of_server = tt; none = refl }
+of_old_job (FailsToSave update) job s t m = record { for = refl; of_server = tt; none = refl }
 
 -- ---- the entries on a track, after an entry is filed
 
@@ -87,11 +88,11 @@ module _ {E : Type 0} (keys : E → EntryKeys) where
 
 -- ---- a thread files an operation of the job whose track is first
 
-pub on_second : (a b c k : ℕ) → b ≡ k → ((a == k) || ((b == k) || (c == k))) ≡ true
-on_second a b c k e = grind (e, arith, nat_tests)
+pub on_second : (a x b c k : ℕ) → b ≡ k → ((a == k) || ((x == k) || ((b == k) || (c == k)))) ≡ true
+on_second a x b c k e = grind (e, arith, nat_tests)
 
-pub on_third : (a b c k : ℕ) → c ≡ k → ((a == k) || ((b == k) || (c == k))) ≡ true
-on_third a b c k e = grind (e, arith, nat_tests)
+pub on_third : (a x b c k : ℕ) → c ≡ k → ((a == k) || ((x == k) || ((b == k) || (c == k)))) ≡ true
+on_third a x b c k e = grind (e, arith, nat_tests)
 
 pub first_grows : (e : FiledEntry) (ts : List (Track FiledEntry)) (k : ℕ) → HasKey k ts → is_on entry_keys (key_of_first ts) e ≡ true → entries_of (with_entry entry_keys e ts) ≡ entries_of ts ++ e ∷ []
 first_grows e [] k h on = absurd h
@@ -106,9 +107,9 @@ abbrev HasJobKey : BookView FiledEntry → FiledEntry → Type 0
 HasJobKey before e = e.job ≡ key_of_first before.own
 
 module _ (first_job who : ℕ) (job : Job) where
-  module _ (s t : Stage) (operation : Operation) (before : BookView FiledEntry) (own : HasOwnTrack first_job who before) (has : HasJobFirst first_job before) (moves : StageMoves operation job s t) where
+  module _ (s t : Stage) (operation : Operation) (save : Option Save) (before : BookView FiledEntry) (own : HasOwnTrack first_job who before) (has : HasJobFirst first_job before) (moves : StageMoves operation job s t) where
     abbrev filed : FiledEntry
-    filed = entry_by who before operation
+    filed = entry_with save who before operation
 
     of_job : is_of_job operation ≡ true
     of_job = ap (λ (b : Bool). b || is_some (job_brought operation)) (of_old_job operation job s t moves).for
@@ -120,21 +121,26 @@ module _ (first_job who : ℕ) (job : Job) where
     part_low = part_below (part_of operation) who first_job (low_of operation (of_old_job operation job s t moves).of_server) own.key.0 own.key.1
 
     on_job : is_on entry_keys (key_of_first before.own) filed ≡ true
-    on_job = on_third (part_key who (part_of operation)) who filed.job (key_of_first before.own) job_is
+    on_job = on_third (part_key who (part_of operation)) (entry_keys filed).also who filed.job (key_of_first before.own) job_is
 
     on_own : is_on entry_keys who filed ≡ true
-    on_own = on_second (part_key who (part_of operation)) who filed.job who refl
+    on_own = on_second (part_key who (part_of operation)) (entry_keys filed).also who filed.job who refl
+
+    also_low : (entry_keys filed).also < first_job
+    also_low = also_below (part_key who (part_of operation)) who first_job save part_low own.key.0 own.key.1
 
     off : (k : ℕ) → first_job ≤ k → k ≢ key_of_first before.own → is_on entry_keys k filed ≡ false
     off k le other =
         let part = part_low in
+        let also = also_low in
         let low = own.key.1 in
         is_off entry_keys k filed
         (λ p. absurd (omega (arith, p, part, le)))
+        (λ p. absurd (omega (arith, p, also, le)))
         (λ p. absurd (omega (arith, p, low, le)))
         (λ p. other (sym p ∙ job_is))
 
-    files_here : FilesForJob first_job who job s t before (did_by who operation before)
+    files_here : FilesForJob first_job who job s t before (did_with save who operation before)
     files_here = record {
       entries = filed ∷ [];
       led = (t, moves, refl);
@@ -148,7 +154,7 @@ module _ (first_job who : ℕ) (job : Job) where
       begins = (refl, refl);
     }
 
-    pub files_one : (after : BookView FiledEntry) → after ≡ did_by who operation before → FilesForJob first_job who job s t before after
+    pub files_one : (after : BookView FiledEntry) → after ≡ did_with save who operation before → FilesForJob first_job who job s t before after
     files_one after is = subst (λ (v : BookView FiledEntry). FilesForJob first_job who job s t before v) (sym is) files_here
 
   -- ---- no operation, and one after the other

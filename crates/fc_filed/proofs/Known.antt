@@ -76,7 +76,7 @@ module _ (slot : ℕ) where
   kept (Logged (RaisesWord n word)) ws vs lt d = raised n word ws vs lt d
   kept (RejectsImage job content) ws vs lt d = unchanged (RejectsImage job content) ws vs lt d (omega arith)
   kept (RefusesInstall job) ws vs lt d = unchanged (RefusesInstall job) ws vs lt d (omega arith)
-  kept (FailsToSave job) ws vs lt d = unchanged (FailsToSave job) ws vs lt d (omega arith)
+  kept (FailsToSave update) ws vs lt d = unchanged (FailsToSave update) ws vs lt d (omega arith)
 
   -- ---- a history
 

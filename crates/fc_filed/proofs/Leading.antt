@@ -8,7 +8,7 @@ use Rattle.fc_calls.specs.Doings.{AdvancesTo, FiresAt}
 use Rattle.fc_linear.specs.Operations.{Operation, WordsDo, is_words, part_of}
 use Rattle.fc_linear.specs.Parts.{LeadInOrder}
 use Rattle.fc_filed.specs.declared.entry.FiledEntry.{FiledEntry}
-use Rattle.fc_filed.specs.Entries.{ChangesWords, OperationsLead, WordsDoIf, log_of}
+use Rattle.fc_filed.specs.Entries.{ChangesWords, EntriesLead, OperationsLead, WordsDoIf, log_of}
 
 module _ {S : Type 0} (Does : Operation → S → S → Type 0) where
   pub leads_more : (es : List FiledEntry) (e : FiledEntry) (x y z : S) → OperationsLead Does es x y → Does e.operation y z → OperationsLead Does (es ++ e ∷ []) x z
@@ -23,6 +23,21 @@ module _ {S : Type 0} (Does : Operation → S → S → Type 0) where
   pub lead_log : (first_job : ℕ) (es : List FiledEntry) (x y : S) → OperationsLead Does es x y → LeadInOrder Does (log_of first_job es) x y
   lead_log first_job [] x y r = r
   lead_log first_job (e ∷ es) x y r = (r.0, r.1, lead_log first_job es r.0 y r.2)
+
+module _ {S : Type 0} (Steps : FiledEntry → S → S → Type 0) where
+  entries_more : (es : List FiledEntry) (e : FiledEntry) (x y z : S) → EntriesLead Steps es x y → Steps e y z → EntriesLead Steps (es ++ e ∷ []) x z
+  entries_more [] e x y z r d = (z, subst (λ (s : S). Steps e s z) r d, refl)
+  entries_more (f ∷ fs) e x y z r d = (r.0, r.1, entries_more fs e r.0 y z r.2 d)
+
+  -- if entries lead a part from x to y, and one more leads it to z, together they lead it from x
+  -- to z.
+  pub entries_filed : (es calls : List FiledEntry) (e : FiledEntry) (x y z : S) → calls ≡ es ++ e ∷ [] → EntriesLead Steps es x y → Steps e y z → EntriesLead Steps calls x z
+  entries_filed es calls e x y z is r d = subst (λ (l : List FiledEntry). EntriesLead Steps l x z) (sym is) (entries_more es e x y z r d)
+
+  -- if each entry has its operation's effect, the operations lead the part.
+  pub operations_lead : (Does : Operation → S → S → Type 0) → ((e : FiledEntry) (x y : S) → Steps e x y → Does e.operation x y) → (es : List FiledEntry) (x y : S) → EntriesLead Steps es x y → OperationsLead Does es x y
+  operations_lead Does each [] x y r = r
+  operations_lead Does each (e ∷ es) x y r = (r.0, each e x r.0 r.1, operations_lead Does each es r.0 y r.2)
 
 -- the log's operations of the head words.
 abbrev of_heads : List FiledEntry → List FiledEntry

@@ -10,3 +10,5 @@ pub mod ByThread
 pub mod JobTracks
 pub mod Known
 pub mod TableWords
+pub mod Saving
+pub mod Recovered

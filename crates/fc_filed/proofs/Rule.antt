@@ -1,5 +1,5 @@
 -- Each move keeps the rule of a server's book.
-use Rattle.std.proofs.Common.{◌≡◌, ◌≢◌, ℕ, ◌+◌, ◌-◌, ◌<◌, ◌≤◌, Bool, true, false, List, [], ◌∷◌, ◌++◌, length, set, max, refl, sym, ap, ◌∙◌, subst, inl, inr, arith}
+use Rattle.std.proofs.Common.{◌≡◌, ◌≢◌, ℕ, ◌+◌, ◌-◌, ◌<◌, ◌≤◌, Bool, true, false, List, [], ◌∷◌, ◌++◌, None, length, set, max, refl, sym, ap, ◌∙◌, subst, inl, inr, arith}
 use Rattle.std.specs.Prelude.{nat_lt, slice_index}
 use Rattle.std.proofs.lemmas.Bool.{ltb-true}
 use Rattle.std.proofs.lemmas.List.{drop-set-add, drop-set-lt, get_or-drop, get_or-set_other, length-set, set-get_or}
@@ -8,16 +8,16 @@ use lib.ListN.{get_elem?}
 use Rattle.atomic_table.proofs.Lists.{set_again}
 use Rattle.fc_book.specs.declared.view.BookView.{BookView}
 use Rattle.fc_book.specs.declared.view.Track.{Track}
-use Rattle.fc_book.specs.Tracks.{AreOn, AreSingle, HasKey, entries_of, filed_on_all, filed_with, first_own, first_view, locked_of, merged_with, no_tracks, on, own_view, part_view, track, with_begun, with_filed, with_locked, with_next, with_part, without_first, without_locked}
-use Rattle.fc_book.proofs.Kept.{begins, begins_part, begins_tracks, closes, files, files_alone, files_on_all, gives, opens, returns, sits, takes, takes_part}
+use Rattle.fc_book.specs.Tracks.{AreOn, AreSingle, HasKey, entries_of, filed_on_all, filed_with, first_own, first_view, locked_of, merged_with, no_tracks, on, own_view, part_view, track, first_locked, with_another, with_begun, with_filed, with_locked, with_next, with_part, without_first, without_first_locked, without_locked}
+use Rattle.fc_book.proofs.Kept.{begins, begins_part, begins_tracks, closes, files, files_alone, files_on_all, gives, opens, returns, returns_first, sits, takes, takes_another, takes_part}
 use Rattle.fc_core.specs.Heads.{word_at}
 use Rattle.fc_registry.specs.Shards.{shard_at}
-use Rattle.fc_linear.specs.Operations.{ServerPart, NoPart, is_words, part_of, Logged, Operation, is_for_job, is_locked}
+use Rattle.fc_linear.specs.Operations.{ServerPart, NoPart, WordsPart, is_words, part_of, Logged, Operation, is_for_job, is_locked}
 use Rattle.fc_calls.specs.Logged.{SkipsIdle}
 use Rattle.fc_filed.specs.declared.entry.FiledEntry.{FiledEntry}
 use Rattle.fc_filed.specs.declared.book_begin.BookBegin.{BookBegin}
 use Rattle.fc_filed.specs.Books.{HasServerHistory, HaveServerHistory, IsFirstSent, IsWithThread, heads_in}
-use Rattle.fc_filed.specs.Entries.{ChangesWords, IsKeyed, OperationsLead, WordsDoIf, entry_keys, part_key, shard_entries}
+use Rattle.fc_filed.specs.Entries.{ChangesWords, IsKeyed, IsOfSavedSlot, OperationsLead, WordsDoIf, also_key, entry_keys, part_key, shard_entries}
 use Rattle.fc_filed.specs.Threads.{entry_of_look, entry_of_raise, filed_if, known_word}
 use Rattle.fc_filed.specs.Idle.{AreIdleWords, LeadToIdle, IsIdleIfSkipped, idle_word}
 use Rattle.fc_filed.proofs.ByThread.{shard_track}
@@ -53,6 +53,13 @@ heads_same words index n lt = drop-set-lt 16 words (8 + index) n (omega (arith, 
 idle_kept : (words : List ℕ) (slot n index : ℕ) → index < 8 → idle_word (set words (16 + slot) n) index ≡ idle_word words index
 idle_kept words slot n index lt = get_or-set_other words (16 + slot) (8 + index) n 0 (λ p. omega (arith, p, lt))
 
+-- an entry without a save is of one part alone.
+also_part : (e : FiledEntry) → e.save ≡ None → (entry_keys e).also ≡ (entry_keys e).part
+also_part e unsaved = ap (λ s. also_key (part_key e.who (part_of e.operation)) s) unsaved
+
+none_saved : (e : FiledEntry) → e.save ≡ None → (part : ServerPart) → IsOfSavedSlot e.save part
+none_saved e unsaved part = subst (λ s. IsOfSavedSlot s part) (sym unsaved) tt
+
 pub opens_book : (start : BookBegin) (words : List ℕ) → length words ≡ 80 → heads_in words ≡ start.first.words → ((index : ℕ) → index < 8 → idle_word words index ≡ 0) → HaveServerHistory start words (first_view ∷ [])
 opens_book start words size is none = record {
   log = [];
@@ -68,7 +75,7 @@ opens_book start words size is none = record {
 module _ (start : BookBegin) (words : List ℕ) (views : List (BookView FiledEntry)) (id : ℕ) (v : BookView FiledEntry) (h : HaveServerHistory start words views) (at : get_elem? views id ≡ some v) where
   -- ---- an entry is filed, with a part's track
 
-  module _ (e : FiledEntry) (w : BookView FiledEntry) (other : ℕ) (part : HasKey (entry_keys e).part w.locked) (who : HasKey e.who v.own) (job : HasKey e.job v.own) (bare : w.own ≡ []) (dull : w.may_begin ≡ false)
+  module _ (e : FiledEntry) (w : BookView FiledEntry) (other : ℕ) (part : HasKey (entry_keys e).part w.locked) (unsaved : e.save ≡ None) (who : HasKey e.who v.own) (job : HasKey e.job v.own) (bare : w.own ≡ []) (dull : w.may_begin ≡ false)
       (locked : is_locked (part_of e.operation) ≡ true) (keyed : IsKeyed start.first_job e) (elsewhere : (index : ℕ) → index < 8 → IsElsewhere e index) (apart : other ≢ id) (there : get_elem? (set views id (filed_with entry_keys e v w)) other ≡ some w) where
     none_own : (k : ℕ) → HasKey k w.own → ⊥
     none_own k x = subst (λ (ts : List _). HasKey k ts) bare x
@@ -83,7 +90,7 @@ module _ (start : BookBegin) (words : List ℕ) (views : List (BookView FiledEnt
     pub held_files : HaveServerHistory start words (set (set views id (filed_with entry_keys e v w)) other no_tracks)
     held_files = record {
       log = h.log ++ e ∷ [];
-      views_of = files entry_keys e v w part who job dull h.log views id other h.views_of at apart there;
+      views_of = files entry_keys e v w part (subst (λ (k : ℕ). HasKey k w.locked) (sym (also_part e unsaved)) part) who job dull h.log views id other h.views_of at apart there;
       size = h.size;
       heads = leads_more ChangesWords h.log e start.first.words (heads_in words) (heads_in words) h.heads (no_head e (heads_in words) (locked_no_words (part_of e.operation) locked));
       idle = idle_more start.first e h.log words elsewhere h.idle;
@@ -107,7 +114,21 @@ module _ (start : BookBegin) (words : List ℕ) (views : List (BookView FiledEnt
         (λ y. y) (λ y. absurd (subst (λ (ts : List _). HasKey k ts) bare y.1)) x) h.sent;
   }
 
-  module _ (e : FiledEntry) (part : HasKey (entry_keys e).part v.locked) (who : HasKey e.who v.own) (job : HasKey e.job v.own) (locked : is_locked (part_of e.operation) ≡ true) (keyed : IsKeyed start.first_job e)
+  -- another part's track is taken over.
+  pub held_takes_another : (w : BookView FiledEntry) (other : ℕ) → w.own ≡ [] → other ≢ id → get_elem? (set views id (with_another v w)) other ≡ some w → HaveServerHistory start words (set (set views id (with_another v w)) other no_tracks)
+  held_takes_another w other bare apart there = record {
+    log = h.log;
+    views_of = takes_another entry_keys v w h.log views id other h.views_of at apart there;
+    size = h.size;
+    heads = h.heads;
+    idle = h.idle;
+    skips = h.skips;
+    keyed = h.keyed;
+    sent = sent_still start.first_job h.log views _ (λ k x. still_joined start.first_job k views id v at w (with_another v w) no_tracks other apart there
+        (λ y. y) (λ y. absurd (subst (λ (ts : List _). HasKey k ts) bare y.1)) x) h.sent;
+  }
+
+  module _ (e : FiledEntry) (part : HasKey (entry_keys e).part v.locked) (also : HasKey (entry_keys e).also v.locked) (who : HasKey e.who v.own) (job : HasKey e.job v.own) (locked : is_locked (part_of e.operation) ≡ true) (keyed : IsKeyed start.first_job e)
       (index : ℕ) (lt : index < 8) (of : part_key e.who (part_of e.operation) ≡ index + 1) where
     still_on_all : (k : ℕ) → IsWithThread start.first_job views k → IsWithThread start.first_job (set views id (filed_on_all entry_keys e v)) k
     still_on_all k x = still_set start.first_job k views id v at (filed_on_all entry_keys e v) (holds_with start.first_job k e v (filed_on_all entry_keys e v) refl) x
@@ -120,7 +141,7 @@ module _ (start : BookBegin) (words : List ℕ) (views : List (BookView FiledEnt
     pub held_files_on_all : HaveServerHistory start (set words (8 + index) 0) (set views id (filed_on_all entry_keys e v))
     held_files_on_all = record {
       log = h.log ++ e ∷ [];
-      views_of = files_on_all entry_keys e v part who job h.log views id h.views_of at;
+      views_of = files_on_all entry_keys e v part also who job h.log views id h.views_of at;
       size = length-set words (8 + index) 0 ∙ h.size;
       heads = leads_more ChangesWords h.log e start.first.words (heads_in words) (heads_in (set words (8 + index) 0)) h.heads
           (subst (λ (ws : List ℕ). ChangesWords e.operation (heads_in words) ws) (sym (heads_same words index 0 lt)) (no_head e (heads_in words) (locked_no_words (part_of e.operation) locked)));
@@ -164,6 +185,18 @@ module _ (start : BookBegin) (words : List ℕ) (views : List (BookView FiledEnt
     skips = h.skips;
     keyed = h.keyed;
     sent = sent_still start.first_job h.log views _ (λ k x. still_cut start.first_job k views id v at (without_locked v) (locked_of v) (λ y. y) x) h.sent;
+  }
+
+  pub held_returns_first : AreSingle v.locked → HaveServerHistory start words (set views id (without_first_locked v) ++ first_locked v ∷ [])
+  held_returns_first single = record {
+    log = h.log;
+    views_of = returns_first entry_keys v single h.log views id h.views_of at;
+    size = h.size;
+    heads = h.heads;
+    idle = h.idle;
+    skips = h.skips;
+    keyed = h.keyed;
+    sent = sent_still start.first_job h.log views _ (λ k x. still_cut start.first_job k views id v at (without_first_locked v) (first_locked v) (λ y. y) x) h.sent;
   }
 
   pub held_sits : HaveServerHistory start words (set views id v ++ no_tracks ∷ [])
@@ -290,7 +323,7 @@ module _ (start : BookBegin) (words : List ℕ) (views : List (BookView FiledEnt
 
   -- ---- a look at a head word, a raise or a skip is filed in the step that makes it
 
-  module _ (e : FiledEntry) (part : (entry_keys e).part ≡ e.who) (who : HasKey e.who v.own) (job : HasKey e.job v.own) (keyed : IsKeyed start.first_job e) (skips : IsIdleIfSkipped start.first h.log e.operation) where
+  module _ (e : FiledEntry) (part : (entry_keys e).part ≡ e.who) (unsaved : e.save ≡ None) (who : HasKey e.who v.own) (job : HasKey e.job v.own) (keyed : IsKeyed start.first_job e) (skips : IsIdleIfSkipped start.first h.log e.operation) where
     still_alone : (k : ℕ) → IsWithThread start.first_job views k → IsWithThread start.first_job (set views id (with_filed entry_keys e v)) k
     still_alone k x = still_set start.first_job k views id v at (with_filed entry_keys e v) (holds_with start.first_job k e v (with_filed entry_keys e v) refl) x
 
@@ -300,7 +333,7 @@ module _ (start : BookBegin) (words : List ℕ) (views : List (BookView FiledEnt
     pub held_alone : (ws : List ℕ) → length ws ≡ 80 → ((index : ℕ) → index < 8 → idle_word ws index ≡ idle_word words index) → ChangesWords e.operation (heads_in words) (heads_in ws) → HaveServerHistory start ws (set views id (with_filed entry_keys e v))
     held_alone ws size same does = record {
       log = h.log ++ e ∷ [];
-      views_of = files_alone entry_keys e v part who job h.log views id h.views_of at;
+      views_of = files_alone entry_keys e v part (also_part e unsaved ∙ part) who job h.log views id h.views_of at;
       size = size;
       heads = leads_more ChangesWords h.log e start.first.words (heads_in words) (heads_in ws) h.heads does;
       idle = idle_same start.first (h.log ++ e ∷ []) words ws same (idle_more start.first e h.log words (λ index lt p. let le = keyed.who.0 in omega (arith, part, p, le, lt)) h.idle);
@@ -309,16 +342,16 @@ module _ (start : BookBegin) (words : List ℕ) (views : List (BookView FiledEnt
       sent = sent_filed start.first_job h.log views (set views id (with_filed entry_keys e v)) e keyed still_alone job_alone h.sent;
     }
 
-  pub held_no_part : (e : FiledEntry) → part_of e.operation ≡ NoPart → is_for_job e.operation ≡ true → HasKey e.who v.own → HasKey e.job v.own → IsKeyed start.first_job e → HaveServerHistory start (set words 0 (slice_index words 0)) (set views id (with_filed entry_keys e v))
-  held_no_part e none for who job keyed = loaded 0 (set views id (with_filed entry_keys e v))
-      (held_alone e (ap (λ (p : ServerPart). part_key e.who p) none) who job keyed (for_job_skips_none start.first h.log e.operation for) words h.size (λ index lt. refl) (no_head e (heads_in words) (ap (λ (p : ServerPart). is_words p) none)))
+  pub held_no_part : (e : FiledEntry) → part_of e.operation ≡ NoPart → e.save ≡ None → is_for_job e.operation ≡ true → HasKey e.who v.own → HasKey e.job v.own → IsKeyed start.first_job e → HaveServerHistory start (set words 0 (slice_index words 0)) (set views id (with_filed entry_keys e v))
+  held_no_part e none unsaved for who job keyed = loaded 0 (set views id (with_filed entry_keys e v))
+      (held_alone e (ap (λ (p : ServerPart). part_key e.who p) none) unsaved who job keyed (for_job_skips_none start.first h.log e.operation for) words h.size (λ index lt. refl) (no_head e (heads_in words) (ap (λ (p : ServerPart). is_words p) none)))
 
-  module _ (e : FiledEntry) (slot : ℕ) (who : HasKey e.who v.own) (job : HasKey e.job v.own) (low : (9 ≤ e.who) × (e.who < start.first_job) × (start.first_job ≤ e.job)) where
+  module _ (e : FiledEntry) (slot : ℕ) (unsaved : e.save ≡ None) (who : HasKey e.who v.own) (job : HasKey e.job v.own) (low : (10 ≤ e.who) × (e.who < start.first_job) × (start.first_job ≤ e.job)) where
     pub held_looks_at : HaveServerHistory start (set words (16 + slot) (slice_index words (16 + slot))) (set views id (with_filed entry_keys (entry_of_look e slot (slice_index words (16 + slot))) v))
     held_looks_at =
         let x : FiledEntry = entry_of_look e slot (slice_index words (16 + slot)) in
         loaded (16 + slot) (set views id (with_filed entry_keys x v))
-        (held_alone x refl who job (record { who = (low.0, low.1); job = λ is. low.2; none = λ is. absurd (cc is); of_server = tt }) tt words h.size (λ index lt. refl) (head_at words slot, refl))
+        (held_alone x refl unsaved who job (record { who = (low.0, low.1); job = λ is. low.2; none = λ is. absurd (cc is); of_server = tt; saved = none_saved e unsaved WordsPart }) tt words h.size (λ index lt. refl) (head_at words slot, refl))
 
     pub rises_at : length start.first.words ≡ 64 → slot < 64 → known_word slot v.own ≤ slice_index words (16 + slot)
     rises_at size lt = knows_at slot size lt
@@ -327,14 +360,14 @@ module _ (start : BookBegin) (words : List ℕ) (views : List (BookView FiledEnt
     held_raises word =
         let x : FiledEntry = entry_of_raise e slot word in
         let n = max (slice_index words (16 + slot)) word in
-        held_alone x refl who job (record { who = (low.0, low.1); job = λ is. low.2; none = λ is. absurd (cc is); of_server = tt }) tt (set words (16 + slot) n)
+        held_alone x refl unsaved who job (record { who = (low.0, low.1); job = λ is. low.2; none = λ is. absurd (cc is); of_server = tt; saved = none_saved e unsaved WordsPart }) tt (set words (16 + slot) n)
         (length-set words (16 + slot) n ∙ h.size)
         (λ index lt. idle_kept words slot n index lt)
         (head_set words slot n ∙ ap (λ (m : ℕ). set (heads_in words) slot (max m word)) (head_at words slot))
 
-  module _ (e : FiledEntry) (index now : ℕ) (lt : index < 8) (is : e.operation ≡ Logged (SkipsIdle index now)) (who : HasKey e.who v.own) (job : HasKey e.job v.own) (keyed : IsKeyed start.first_job e) where
+  module _ (e : FiledEntry) (index now : ℕ) (lt : index < 8) (is : e.operation ≡ Logged (SkipsIdle index now)) (unsaved : e.save ≡ None) (who : HasKey e.who v.own) (job : HasKey e.job v.own) (keyed : IsKeyed start.first_job e) where
     skips_by : (b : Bool) → nat_lt now (idle_word words index) ≡ b → HaveServerHistory start words (set views id (filed_if b e v))
-    skips_by true before = held_alone e (ap (λ (o : Operation). part_key e.who (part_of o)) is) who job keyed
+    skips_by true before = held_alone e (ap (λ (o : Operation). part_key e.who (part_of o)) is) unsaved who job keyed
         (subst (λ (o : Operation). IsIdleIfSkipped start.first h.log o) (sym is) (h.idle index lt now (ltb-true now (idle_word words index) before)))
         words h.size (λ i low. refl) (no_head e (heads_in words) (ap (λ (o : Operation). is_words (part_of o)) is))
     skips_by false before = subst (λ (us : List (BookView FiledEntry)). HaveServerHistory start words us) (sym (set_again views id v at)) h

@@ -11,7 +11,7 @@ use Rattle.fc_book.proofs.Keys.{is_off, keeps-key, on-append, on-before}
 use Rattle.fc_filed.specs.declared.entry.FiledEntry.{FiledEntry}
 use Rattle.fc_filed.specs.Books.{AreSent, HasThread, IsFirstSent, IsRightForJob, IsWithThread}
 use Rattle.fc_filed.specs.Entries.{IsKeyed, entry_keys}
-use Rattle.fc_filed.proofs.Keyed.{part_of_keyed}
+use Rattle.fc_filed.proofs.Keyed.{also_of_keyed, part_of_keyed}
 
 -- the view has the track with key k, and a thread's track.
 abbrev pub Holds : ℕ → ℕ → BookView FiledEntry → Type 0
@@ -82,9 +82,11 @@ module _ (first_job : ℕ) where
       → AreSent first_job log views → AreSent first_job (log ++ e ∷ []) others
   sent_filed log views others e keyed still job a k le none =
       let low = part_of_keyed first_job e keyed in
+      let also = also_of_keyed first_job e keyed in
       let high = keyed.who.1 in
       let off = on-before entry_keys k e (is_off entry_keys k e
       (λ p. absurd (omega (arith, p, low, le)))
+      (λ p. absurd (omega (arith, p, also, le)))
       (λ p. absurd (omega (arith, p, high, le)))
       (λ p. none (subst (λ (j : ℕ). IsWithThread first_job others j) p job))) in
       subst (λ (es : List FiledEntry). IsRightForJob first_job es)
@@ -122,7 +124,7 @@ module _ (first_job : ℕ) where
   -- one view owns the tracks of all threads. So a job's track outside this view shares no view with
   -- a thread's track, and is right for its job.
   pub sent_seen : (log : List FiledEntry) (views : List (BookView FiledEntry)) (id : ℕ) (v : BookView FiledEntry) → get_elem? views id ≡ some v → AreViewsOf entry_keys log views → AreSent first_job log views
-      → ((t : ℕ) → 9 ≤ t → t < first_job → HasKey t v.own) → (k : ℕ) → first_job ≤ k → (HasKey k v.own → ⊥) → IsRightForJob first_job (on entry_keys k log)
+      → ((t : ℕ) → 10 ≤ t → t < first_job → HasKey t v.own) → (k : ℕ) → first_job ≤ k → (HasKey k v.own → ⊥) → IsRightForJob first_job (on entry_keys k log)
   sent_seen log views id v at of a threads k le not = a k le elsewhere_none
     where
       elsewhere_none : IsWithThread first_job views k → ⊥

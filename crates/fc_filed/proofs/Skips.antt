@@ -42,7 +42,7 @@ module _ (begin : ServerState) (log : List FiledEntry) where
   skips_none (Logged (RaisesWord slot word)) is = tt
   skips_none (RejectsImage job content) is = tt
   skips_none (RefusesInstall job) is = tt
-  skips_none (FailsToSave job) is = tt
+  skips_none (FailsToSave update) is = tt
 
   or_right : (a b : Bool) → b ≡ true → (a || b) ≡ true
   or_right true b is = refl

@@ -34,7 +34,7 @@ IsRightForJob first_job entries = BringsItsJob (log_of first_job entries)
 
 -- the view has a thread's track among its own.
 abbrev pub HasThread : ℕ → BookView FiledEntry → Type 0
-HasThread first_job v = (t : ℕ) × ((9 ≤ t) × ((t < first_job) × HasKey t v.own))
+HasThread first_job v = (t : ℕ) × ((10 ≤ t) × ((t < first_job) × HasKey t v.own))
 
 -- some view has both the track with key k and a thread's track.
 abbrev pub IsWithThread : ℕ → List (BookView FiledEntry) → ℕ → Type 0
@@ -75,4 +75,4 @@ pub record HasServerHistory (first_job : ℕ) (first : ServerState) (v : BookVie
   pub heads : OperationsLead ChangesWords log first.words words
   pub skips : AreSkipsIdle first log
   pub keyed : AreKeyed first_job log
-  pub sent : ((t : ℕ) → 9 ≤ t → t < first_job → HasKey t v.own) → (k : ℕ) → first_job ≤ k → (HasKey k v.own → ⊥) → IsRightForJob first_job (on entry_keys k log)
+  pub sent : ((t : ℕ) → 10 ≤ t → t < first_job → HasKey t v.own) → (k : ℕ) → first_job ≤ k → (HasKey k v.own → ⊥) → IsRightForJob first_job (on entry_keys k log)

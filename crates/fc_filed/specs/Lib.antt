@@ -3,6 +3,8 @@ pub mod Entries
 pub mod Idle
 pub mod Books
 pub mod Threads
+pub mod Saves
+pub mod Recovered
 pub mod Parts
 pub mod Tracked
 pub mod JobTracks

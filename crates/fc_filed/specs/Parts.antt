@@ -11,10 +11,12 @@ use Rattle.fc_registry.specs.Shards.{shard_at}
 use Rattle.fc_server.specs.States.{ServerState}
 use Rattle.fc_calls.specs.Doings.{PassesIfIdle, TakesInto, FindsCost}
 use Rattle.fc_calls.specs.Kept.{HasEightSlots, confirm_times, serials}
-use Rattle.fc_calls.specs.Logged.{AdvancesIdle, TakesForJob, ReadsCost}
-use Rattle.fc_linear.specs.Operations.{Logged, Operation, ShardPart, ShardDoes, part_of, IsOfServer}
+use Rattle.fc_calls.specs.Logged.{LoggedCall, AdvancesIdle, TakesForJob, ReadsCost}
+use Rattle.fc_store.specs.declared.store.SlotUpdate.{SlotUpdate}
+use Rattle.fc_linear.specs.Operations.{FailsToSave, Logged, Operation, ShardPart, ShardDoes, part_of, IsOfServer}
 use Rattle.fc_filed.specs.declared.entry.FiledEntry.{FiledEntry}
-use Rattle.fc_filed.specs.Entries.{OperationsLead, is_of_job}
+use Rattle.fc_filed.specs.Entries.{EntriesLead, is_of_job}
+use Rattle.fc_filed.specs.Saves.{ShardSteps}
 
 -- a front, and the operations that led to it from the server's first front.
 pub record FrontCalls : Type 0 where
@@ -26,13 +28,18 @@ pub record ShardCalls : Type 0 where
   pub shard : Shard
   pub calls : List FiledEntry
 
+-- a call is no refusal of an update.
+pub logged_no_refusal : (call : LoggedCall) (update : SlotUpdate) → Logged call ≡ FailsToSave update → ⊥
+logged_no_refusal call update is = absurd (cc is)
+
 -- the operation is one of this shard, and led from one state of the shard to the other. It is for
--- no job, or `of_job` says that it may be for one.
+-- no job, or `of_job` says that it may be for one. It isn't the refusal of an update.
 pub record IsOperationOf (of_job : Bool) (operation : Operation) (before after : Shard) : Type 0 where
   pub does : ShardDoes operation before after
   pub part : part_of operation ≡ ShardPart before.index
   pub job : is_of_job operation ≡ true → of_job ≡ true
   pub of_server : before.index < 8 → IsOfServer operation
+  pub logged : (update : SlotUpdate) → operation ≡ FailsToSave update → ⊥
 
 -- the call is filed as this operation, or it isn't filed and the shard is unchanged.
 abbrev pub IsFiledAs : Bool → Bool → Operation → Shard → Shard → Type 0
@@ -41,15 +48,15 @@ IsFiledAs false of_job operation before after = after ≡ before
 
 -- an advance of an idle shard is filed.
 pub advance_filed : (now : ℕ) (before after : Shard) (idle : Bool) → PassesIfIdle now before idle after → IsFiledAs idle false (Logged (AdvancesIdle before.index now)) before after
-advance_filed now before after true does = record { does = does; part = refl; job = λ is. is; of_server = λ low. low }
+advance_filed now before after true does = record { does = does; part = refl; job = λ is. is; of_server = λ low. low; logged = λ u e. logged_no_refusal (AdvancesIdle before.index now) u e }
 advance_filed now before after false does = does.1
 
--- the operations lead to the shard from the server's first shard of its index, 0 to 7; the key is
--- the index plus one.
-abbrev pub AreCallsOf : ServerState → ℕ → List FiledEntry → Shard → Type 0
-AreCallsOf first key calls shard =
+-- the entries lead to the shard from the server's first shard of its index, 0 to 7; the key is the
+-- index plus one. Each change of a slot is saved if the server's store is persistent.
+abbrev pub AreCallsOf : ServerState → Bool → ℕ → List FiledEntry → Shard → Type 0
+AreCallsOf first persistent key calls shard =
     HasEightSlots shard × (shard.index < 8) × (key ≡ shard.index + 1)
-    × OperationsLead ShardDoes calls (shard_at first.shards shard.index) shard
+    × EntriesLead (ShardSteps persistent) calls (shard_at first.shards shard.index) shard
 
 -- a call keeps the shard's index, and the times after which its notifications are confirmable. The
 -- shard's serials increase by the number of changes that the call's result reports. If that number
@@ -82,5 +89,5 @@ cheap_operation job readings (Err cost) found = Logged (ReadsCost job.origin.slo
 pub cheap_filed : (least : ℕ) (job : Job) (readings : List ℕ) (before : Shard) (taken : Result Taken ℕ) (found : SlotSnapshot) (after : Shard)
     → IsOwned before job.origin.slot → TakesIfCheap least job readings before taken found after
     → IsOperationOf true (cheap_operation job readings taken found) before after
-cheap_filed least job readings before (Ok taken) found after owned does = record { does = does.0.0; part = λ i. ShardPart (owned.index i); job = λ is. is; of_server = λ low. tt }
-cheap_filed least job readings before (Err cost) found after owned does = record { does = does.0; part = λ i. ShardPart (owned.index i); job = λ is. refl; of_server = λ low. tt }
+cheap_filed least job readings before (Ok taken) found after owned does = record { does = does.0.0; part = λ i. ShardPart (owned.index i); job = λ is. is; of_server = λ low. tt; logged = λ u e. logged_no_refusal (TakesForJob job readings (taken_with taken found)) u e }
+cheap_filed least job readings before (Err cost) found after owned does = record { does = does.0; part = λ i. ShardPart (owned.index i); job = λ is. refl; of_server = λ low. tt; logged = λ u e. logged_no_refusal (ReadsCost job.origin.slot (Some cost)) u e }

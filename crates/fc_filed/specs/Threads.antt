@@ -1,8 +1,9 @@
 -- The entries that a thread files, by its tracks.
-use Rattle.std.specs.Prelude.{◌≡◌, ℕ, ◌<◌, ◌≤◌, ◌==◌, Bool, true, false, if◌then◌else◌, List, [], ◌∷◌, max}
+use Rattle.std.specs.Prelude.{◌≡◌, ℕ, ◌<◌, ◌≤◌, ◌==◌, Bool, true, false, if◌then◌else◌, List, [], ◌∷◌, Option, None, max}
 use Rattle.fc_book.specs.declared.view.Track.{Track}
 use Rattle.fc_book.specs.declared.view.BookView.{BookView}
 use Rattle.fc_book.specs.Tracks.{HasKey, with_begun, with_filed}
+use Rattle.fc_store.specs.Recovery.{Save}
 use Rattle.fc_core.specs.declared.front.Handled.{Handled}
 use Rattle.fc_core.specs.declared.front.Handled.TheVariants as hearing
 use Rattle.fc_calls.specs.Logged.{LooksAt, RaisesWord, SkipsIdle}
@@ -15,14 +16,22 @@ abbrev pub key_of_first : List (Track FiledEntry) → ℕ
 key_of_first [] = 0
 key_of_first (t ∷ ts) = t.key
 
--- the entry of an operation of thread `who`. Its job is the one whose track is the first of the
--- thread's own; an operation of no job has the thread's key.
-abbrev pub entry_by : ℕ → BookView FiledEntry → Operation → FiledEntry
-entry_by who v operation = record { who = who; job = if is_of_job operation then key_of_first v.own else who; operation = operation }
+-- the entry of an operation of thread `who`, with this save. Its job is the one whose track is the
+-- first of the thread's own; an operation of no job has the thread's key.
+abbrev pub entry_with : Option Save → ℕ → BookView FiledEntry → Operation → FiledEntry
+entry_with save who v operation = record { who = who; job = if is_of_job operation then key_of_first v.own else who; operation = operation; save = save }
 
--- the thread's tracks after it has filed the operation.
+-- the entry of an operation that saves nothing.
+abbrev pub entry_by : ℕ → BookView FiledEntry → Operation → FiledEntry
+entry_by who v operation = entry_with None who v operation
+
+-- the thread's tracks after it has filed the operation with this save.
+abbrev pub did_with : Option Save → ℕ → Operation → BookView FiledEntry → BookView FiledEntry
+did_with save who operation v = with_filed entry_keys (entry_with save who v operation) v
+
+-- the thread's tracks after it has filed an operation that saves nothing.
 abbrev pub did_by : ℕ → Operation → BookView FiledEntry → BookView FiledEntry
-did_by who operation v = with_filed entry_keys (entry_by who v operation) v
+did_by who operation v = did_with None who operation v
 
 -- the tracks after the entry is filed, or isn't.
 abbrev pub filed_if : Bool → FiledEntry → BookView FiledEntry → BookView FiledEntry
@@ -39,7 +48,7 @@ skip_time other = 0
 
 -- the thread has its own track.
 pub record HasOwnTrack (first_job who : ℕ) (v : BookView FiledEntry) : Type 0 where
-  pub key : (9 ≤ who) × (who < first_job)
+  pub key : (10 ≤ who) × (who < first_job)
   pub own : HasKey who v.own
 
 -- the first of its own tracks is a job's.

@@ -39,12 +39,12 @@ pub record LeadsPart {S : Type 0} (Does : Operation → S → S → Type 0) (k :
 pub record OwnsAll (first_job : ℕ) (v : BookView FiledEntry) (first end : ServerState) : Type 0 where
   pub front : LeadsPart FrontDoes 0 v.own first.front end.front
   pub shards : (i : ℕ) → i < 8 → LeadsPart ShardDoes (i + 1) v.own (shard_at first.shards i) (shard_at end.shards i)
-  pub threads : (t : ℕ) → 9 ≤ t → t < first_job → HasKey t v.own
+  pub threads : (t : ℕ) → 10 ≤ t → t < first_job → HasKey t v.own
   pub jobs : (k : ℕ) (entries : List FiledEntry) → first_job ≤ k → HasTrackOf k entries v.own → IsRightForJob first_job entries
 
 -- a part is closed. Its entries led it from one state to the other, and its track is now the first
 -- of the owner's own.
-pub record IsPartClosed {S : Type 0} (Does : Operation → S → S → Type 0) (key : ℕ) (first end : S) (before after : BookView FiledEntry) : Type 0 where
+pub record IsPartClosed {S : Type 0} (Lead : List FiledEntry → S → S → Type 0) (key : ℕ) (first end : S) (before after : BookView FiledEntry) : Type 0 where
   pub entries : List FiledEntry
-  pub led : OperationsLead Does entries first end
+  pub led : Lead entries first end
   pub closed : after ≡ with_part before (part_view key entries)

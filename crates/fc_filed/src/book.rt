@@ -1,18 +1,20 @@
 //! The book of a server's history, and the owners of its tracks.
-ghost use Rattle.std.specs.Prelude.{◌≡◌, ◌+◌, ◌<◌, ◌≤◌, ◌++◌, ◌∷◌, ℕ, [], length, true, false, IfOk};
+ghost use Rattle.std.specs.Prelude.{◌≡◌, ◌+◌, ◌<◌, ◌≤◌, ◌++◌, ◌∷◌, ℕ, Bool, [], length, true, false, is_some, IfOk};
 ghost use Rattle.atomic_table.specs.Seated.{TableId};
 ghost use Rattle.fc_book.specs.Tracks.{first_own, first_view, merged_with, own_view, part_view, with_begun, with_next, with_part, without_first};
 ghost use Rattle.fc_server.specs.States.{ServerState};
 ghost use Rattle.fc_calls.specs.Logged.{LooksAt, RaisesWord, SkipsIdle};
-ghost use Rattle.fc_linear.specs.Operations.{FailsToSave, RefusesInstall, Logged, NoPart, RejectsImage, part_of, is_for_job, is_locked};
+ghost use Rattle.fc_store.specs.Stored.{StoredSlots};
+ghost use Rattle.fc_linear.specs.Operations.{RefusesInstall, Logged, NoPart, RejectsImage, part_of, is_for_job, is_locked};
 ghost use Rattle.fc_registry.specs.Shards.{shard_at};
 ghost use Rattle.fc_filed.specs.Books.{HasServerHistory, IsFirstSent};
 ghost use Rattle.fc_filed.specs.Idle.{LeadToIdle};
-ghost use Rattle.fc_filed.specs.Entries.{part_key};
-ghost use Rattle.fc_filed.specs.Threads.{HasJobFirst, HasOwnTrack, MayFile, did_by, did_if, entry_by, known_word};
+ghost use Rattle.fc_filed.specs.Entries.{IsOfSavedSlot, part_key};
+ghost use Rattle.fc_filed.specs.Threads.{HasJobFirst, HasOwnTrack, MayFile, did_by, did_if, did_with, entry_by, entry_with, known_word};
 
 use crate::book_begin::BookBegin;
 use crate::steps::{self, FiledSeat, FiledWords};
+use crate::store::StoreOf;
 use crate::view::FiledName;
 use atomic_table::Table;
 use fc_book::Part;
@@ -26,7 +28,8 @@ use std::mem::replace;
 /// The name of a server's book.
 ///
 /// A book and tracks whose types have the same name belong together. The name states the book's
-/// table, the key of the first job's track, and the server's first state.
+/// table, the key of the first job's track, and the server's first state. It also states whether
+/// the server's store is persistent, and which slots it has stored at first.
 pub trait ServerName {
     ghost use Rattle.std.specs.Prelude.{ℕ};
 
@@ -35,17 +38,26 @@ pub trait ServerName {
     ghost first_job: { ℕ };
 
     ghost first: { ServerState };
+
+    ghost persistent: { Bool };
+
+    ghost stored: { StoredSlots };
 }
 
 impl ServerName for Brand {
     ghost use Rattle.fc_book.specs.Tracks.{no_table};
     ghost use Rattle.fc_filed.specs.Blank.{some_server};
+    ghost use Rattle.fc_store.specs.Stored.{blank_slot};
 
     ghost table = { no_table };
 
     ghost first_job = { 0 };
 
     ghost first = { some_server };
+
+    ghost persistent = { false };
+
+    ghost stored = { λ n. blank_slot };
 }
 
 /// A book with an empty history and without a name yet, and the server's first state.
@@ -71,7 +83,7 @@ impl Model for NewServerBook {
     ghost view = { λ b. record { table = b.words.shared.table_id; first_job = b.words.shared.key.first_job; first = b.words.shared.key.first } };
 
     ghost invariant = { λ b. (b.seat.table_id ≡ b.words.shared.table_id) × (b.words.shared.table_id.words ≡ 80)
-        × (b.seat.me ≡ (first_view, [])) × (b.words.shared.key.first_job ≡ 9 + b.threads)
+        × (b.seat.me ≡ (first_view, [])) × (b.words.shared.key.first_job ≡ 10 + b.threads)
         × (b.first ≡ b.words.shared.key.first) × CanBeginWith b.words.shared.key.first };
 }
 
@@ -147,17 +159,17 @@ impl NewServerBook {
     /// Makes a book with an empty history, for `threads` threads.
     ///
     /// The server begins as `first`. The table has its head words, and no shard is known to be
-    /// idle. The first key of a job's track is `9 + threads`.
+    /// idle. The first key of a job's track is `10 + threads`.
     ///
     /// # Errors
     /// Returns `AllocError` if memory can't be allocated.
     pub fn new(alloc: Global, threads: u16, first: FirstServer) -> Result<NewServerBook, AllocError>
-        ensures first_job { IfOk result (λ b. b.first_job ≡ 9 + threads) }
+        ensures first_job { IfOk result (λ b. b.first_job ≡ 10 + threads) }
         ensures first { IfOk result (λ b. b.first ≡ first) }
     {
         let table = steps::table_words(first.heads());
         let start = BookBegin {
-            first_job: 9 + u64::from(threads),
+            first_job: 10 + u64::from(threads),
             first,
         };
         let (words, seat) = Table::of_words(alloc, &table, &start)?;
@@ -172,7 +184,7 @@ impl NewServerBook {
 
     /// Returns the number of threads that the book is for.
     pub fn threads(&self) -> u16
-        ensures { 9 + result ≡ self.now.first_job }
+        ensures { 10 + result ≡ self.now.first_job }
     {
         self.threads
     }
@@ -351,25 +363,14 @@ impl<J: ServerName> ServerTracks<J> {
 
     /// Files that the program of `job`, an install, isn't installed.
     ///
-    /// Memory can't be allocated, or the store refuses the save. The entry is filed for thread
-    /// `who` and for the job whose track is first.
+    /// Memory can't be allocated. The entry is filed for thread `who` and for the job whose track is
+    /// first.
     pub fn refuse_install(&mut self, book: &ServerBook<J>, who: u64, job: &Job)
         requires thread { HasOwnTrack J.first_job who self.old }
         requires job { HasJobFirst J.first_job self.old }
         ensures filed { self.new ≡ did_by who (RefusesInstall job.now) self.old }
     {
         refuse_as::<Brand, J>(book, self, who, job);
-    }
-
-    /// Files that the store refuses to save `job`'s change, a commit or a removal.
-    ///
-    /// The entry is filed for thread `who` and for the job whose track is first.
-    pub fn fail_to_save(&mut self, book: &ServerBook<J>, who: u64, job: &Job)
-        requires thread { HasOwnTrack J.first_job who self.old }
-        requires job { HasJobFirst J.first_job self.old }
-        ensures filed { self.new ≡ did_by who (FailsToSave job.now) self.old }
-    {
-        fail_as::<Brand, J>(book, self, who, job);
     }
 }
 
@@ -449,24 +450,6 @@ fn refuse_as<X: FiledName, J: ServerName>(
     file_alone_as::<X, J>(book, tracks, who);
 }
 
-/// Files that the store refuses to save `job`'s change, a commit or a removal.
-///
-/// `X` names the entry. It becomes the last one on the tracks of thread `who` and of the job. See
-/// [`ServerTracks::fail_to_save`].
-fn fail_as<X: FiledName, J: ServerName>(
-    book: &ServerBook<J>,
-    tracks: &mut ServerTracks<J>,
-    who: u64,
-    job: &Job,
-)
-    requires entry { X.entry ≡ entry_by who tracks.old (FailsToSave job.now) }
-    requires may { MayFile J.first_job who tracks.old (FailsToSave job.now) }
-    ensures filed { tracks.new ≡ did_by who (FailsToSave job.now) tracks.old }
-{
-    let _ = job;
-    file_alone_as::<X, J>(book, tracks, who);
-}
-
 /// Files the operation that `X` names, of a part whose lock the caller holds.
 ///
 /// The entry becomes the last one on `part`, on the track of thread `who`, and on the job's track,
@@ -490,6 +473,48 @@ pub fn file_as<X: FiledName, J: ServerName, P: Part>(
     let spare = steps::empty_seat(&book.words, &mut tracks.seat);
     let seat = replace(&mut part.seat, spare);
     steps::file::<X>(&book.words, &mut tracks.seat, seat, P::track_key());
+    let back = steps::return_part(&book.words, &mut tracks.seat);
+    let _spent = replace(&mut part.seat, back);
+}
+
+/// Files the operation that `X` names with its save.
+///
+/// The caller holds the locks of the shard and of the store. The entry becomes the last one on
+/// `part`, the shard's track, on the store's track, on the track of thread `who`, and on the job's
+/// track, which is the first in `tracks`.
+pub(crate) fn file_saved_as<X: FiledName, J: ServerName, P: Part>(
+    book: &ServerBook<J>,
+    tracks: &mut ServerTracks<J>,
+    part: &mut FiledTrack<P>,
+    store: &mut FiledTrack<StoreOf<J>>,
+    who: u64,
+)
+    requires entry { X.entry ≡ entry_with X.entry.save who tracks.old X.entry.operation }
+    requires save { is_some X.entry.save ≡ true }
+    requires of_slot { IsOfSavedSlot X.entry.save (part_of X.entry.operation) }
+    requires same { P.table ≡ J.table }
+    requires part { (part_key who (part_of X.entry.operation) ≡ P.key) × (0 < P.key) × (P.key < 9) }
+    requires locked { is_locked (part_of X.entry.operation) ≡ true }
+    requires may { MayFile J.first_job who tracks.old X.entry.operation }
+    ensures part { part.new ≡ part.old ++ X.entry ∷ [] }
+    ensures store { store.new ≡ store.old ++ X.entry ∷ [] }
+    ensures filed { tracks.new ≡ did_with X.entry.save who X.entry.operation tracks.old }
+{
+    let _ = who;
+    let spare = steps::empty_seat(&book.words, &mut tracks.seat);
+    let of_shard = replace(&mut part.seat, spare);
+    let spare = steps::empty_seat(&book.words, &mut tracks.seat);
+    let of_store = replace(&mut store.seat, spare);
+    let index = P::track_key() - 1;
+    steps::file_saved::<X>(
+        &book.words,
+        &mut tracks.seat,
+        of_shard,
+        of_store,
+        index as usize,
+    );
+    let back = steps::return_first(&book.words, &mut tracks.seat);
+    let _spent = replace(&mut store.seat, back);
     let back = steps::return_part(&book.words, &mut tracks.seat);
     let _spent = replace(&mut part.seat, back);
 }

@@ -5,8 +5,9 @@
 ghost use Rattle.std.specs.Prelude.{◌≡◌, true, false, None, ⊤, refl};
 ghost use Rattle.fc_registry.specs.Slots.{IsOwned};
 ghost use Rattle.fc_linear.specs.Operations.{Logged, ShardPart};
+ghost use Rattle.fc_filed.specs.Parts.{logged_no_refusal};
 
-use crate::shard::FiledCall;
+use crate::shard::{FiledCall, FiledChange};
 use fc_calls::ShardCall;
 use fc_calls::calls::{
     AdvanceIfIdle, Commit, Describe, GiveUp, Install, NextDue, Note, ReadCost, Remove, Signal,
@@ -33,7 +34,7 @@ impl<'a> FiledCall for Take<'a> {
     }
 
     ghost right = { λ call before answer room after is does.
-        record { does = does.0; part = λ i. ShardPart (is.index i); job = λ is. is; of_server = λ low. tt } };
+        record { does = does.0; part = λ i. ShardPart (is.index i); job = λ is. is; of_server = λ low. tt; logged = λ u e. logged_no_refusal _ u e } };
 }
 
 /// Takes a snapshot of a request's slot unless the slot's program is expensive.
@@ -107,7 +108,15 @@ impl<'a> FiledCall for Commit<'a> {
     }
 
     ghost right = { λ call before answer room after is does.
-        record { does = does; part = λ i. ShardPart (is.index i); job = λ is. is; of_server = λ low. tt } };
+        record { does = does; part = λ i. ShardPart (is.index i); job = λ is. is; of_server = λ low. tt; logged = λ u e. logged_no_refusal _ u e } };
+}
+
+impl<'a> FiledChange for Commit<'a> {
+    ghost always = { λ answer. refl };
+
+    ghost of_slot = { λ call shard is. is };
+
+    ghost verified = { λ index call answer room is. tt };
 }
 
 impl<'a> FiledCall for Install<'a> {
@@ -127,7 +136,15 @@ impl<'a> FiledCall for Install<'a> {
     }
 
     ghost right = { λ call before answer room after is does.
-        record { does = does; part = λ i. ShardPart (is.index i); job = λ is. is; of_server = λ low. tt } };
+        record { does = does; part = λ i. ShardPart (is.index i); job = λ is. is; of_server = λ low. tt; logged = λ u e. logged_no_refusal _ u e } };
+}
+
+impl<'a> FiledChange for Install<'a> {
+    ghost always = { λ answer. refl };
+
+    ghost of_slot = { λ call shard is. is };
+
+    ghost verified = { λ index call answer room is. is };
 }
 
 impl<'a> FiledCall for Remove<'a> {
@@ -147,7 +164,15 @@ impl<'a> FiledCall for Remove<'a> {
     }
 
     ghost right = { λ call before answer room after is does.
-        record { does = does; part = λ i. ShardPart (is.index i); job = λ is. is; of_server = λ low. tt } };
+        record { does = does; part = λ i. ShardPart (is.index i); job = λ is. is; of_server = λ low. tt; logged = λ u e. logged_no_refusal _ u e } };
+}
+
+impl<'a> FiledChange for Remove<'a> {
+    ghost always = { λ answer. refl };
+
+    ghost of_slot = { λ call shard is. is };
+
+    ghost verified = { λ index call answer room is. tt };
 }
 
 impl<'a> FiledCall for Describe<'a> {
@@ -167,7 +192,7 @@ impl<'a> FiledCall for Describe<'a> {
     }
 
     ghost right = { λ call before answer room after is does.
-        record { does = does; part = λ i. ShardPart (is.index i); job = λ is. is; of_server = λ low. tt } };
+        record { does = does; part = λ i. ShardPart (is.index i); job = λ is. is; of_server = λ low. tt; logged = λ u e. logged_no_refusal _ u e } };
 }
 
 impl FiledCall for ReadCost {
@@ -187,7 +212,7 @@ impl FiledCall for ReadCost {
     }
 
     ghost right = { λ call before answer room after is does.
-        record { does = does; part = λ i. ShardPart (is.index i); job = λ is. is; of_server = λ low. tt } };
+        record { does = does; part = λ i. ShardPart (is.index i); job = λ is. is; of_server = λ low. tt; logged = λ u e. logged_no_refusal _ u e } };
 }
 
 impl<'a> FiledCall for Note<'a> {
@@ -208,7 +233,7 @@ impl<'a> FiledCall for Note<'a> {
     }
 
     ghost right = { λ call before answer room after is does.
-        record { does = does; part = λ i. ShardPart (is.index i); job = λ is. is; of_server = λ low. tt } };
+        record { does = does; part = λ i. ShardPart (is.index i); job = λ is. is; of_server = λ low. tt; logged = λ u e. logged_no_refusal _ u e } };
 }
 
 impl FiledCall for GiveUp {
@@ -226,7 +251,7 @@ impl FiledCall for GiveUp {
     }
 
     ghost right = { λ call before answer room after is does.
-        record { does = does; part = λ i. ShardPart (is.index i); job = λ is. is; of_server = λ low. tt } };
+        record { does = does; part = λ i. ShardPart (is.index i); job = λ is. is; of_server = λ low. tt; logged = λ u e. logged_no_refusal _ u e } };
 }
 
 impl FiledCall for Signal {
@@ -244,7 +269,7 @@ impl FiledCall for Signal {
     }
 
     ghost right = { λ call before answer room after is does.
-        record { does = does; part = refl; job = λ is. is; of_server = λ low. low } };
+        record { does = does; part = refl; job = λ is. is; of_server = λ low. low; logged = λ u e. logged_no_refusal _ u e } };
 }
 
 impl FiledCall for Tick {
@@ -262,7 +287,7 @@ impl FiledCall for Tick {
     }
 
     ghost right = { λ call before answer room after is does.
-        record { does = does; part = refl; job = λ is. is; of_server = λ low. low } };
+        record { does = does; part = refl; job = λ is. is; of_server = λ low. low; logged = λ u e. logged_no_refusal _ u e } };
 }
 
 impl FiledCall for NextDue {
@@ -281,7 +306,7 @@ impl FiledCall for NextDue {
     }
 
     ghost right = { λ call before answer room after is does.
-        record { does = does; part = refl; job = λ is. refl; of_server = λ low. low } };
+        record { does = does; part = refl; job = λ is. refl; of_server = λ low. low; logged = λ u e. logged_no_refusal _ u e } };
 }
 
 /// It is filed only if the shard is idle; else the shard is unchanged.

@@ -1,24 +1,33 @@
 //! A shard under its lock, together with the track of its calls.
-ghost use Rattle.std.specs.Prelude.{◌≡◌, ◌+◌, ◌%◌, ◌<◌, ◌≤◌, ◌++◌, ◌∷◌, [], ℕ, Bool, true, false};
+ghost use Rattle.std.specs.Prelude.{◌≡◌, ◌⊎◌, ◌+◌, ◌%◌, ◌<◌, ◌≤◌, ◌++◌, ◌∷◌, [], ℕ, Bool, true, false, None, Option, Some, MatchOption};
+ghost use Rattle.fc_store.specs.declared.store.SlotUpdate.{SlotUpdate};
+ghost use Rattle.fc_registry.specs.Changes.{Change as SlotChange};
+ghost use Rattle.fc_registry.specs.Plans.{IsPlanned, SavesImage};
 ghost use Rattle.fc_registry.specs.Shards.{shard_at};
-ghost use Rattle.fc_registry.specs.Slots.{Shard as Seen};
+ghost use Rattle.fc_registry.specs.Slots.{IsOwned, Shard as Seen, slot_in};
 ghost use Rattle.fc_registry.specs.Turns.{written_if};
 ghost use Rattle.fc_registry.specs.Watches.{is_idle};
 ghost use Rattle.fc_book.specs.Tracks.{part_view, with_part};
 ghost use Rattle.fc_calls.specs.Doings.{PassesIfIdle};
 ghost use Rattle.fc_calls.specs.Logged.{AdvancesIdle, GivesTurn};
-ghost use Rattle.fc_calls.specs.Kept.{HasEightSlots};
-ghost use Rattle.fc_linear.specs.Operations.{Logged, Operation, ShardDoes, part_of, is_locked};
-ghost use Rattle.fc_filed.specs.Entries.{OperationsLead, part_key};
+ghost use Rattle.fc_calls.specs.Kept.{HasEightSlots, slots_with};
+ghost use Rattle.fc_store.specs.Recovery.{Save};
+ghost use Rattle.fc_store.specs.Saves.{SavesUpdate};
+ghost use Rattle.fc_linear.specs.Operations.{FailsToSave, Logged, Operation, ShardPart, is_locked, part_of};
+ghost use Rattle.fc_filed.specs.Entries.{EntriesLead, part_key};
 ghost use Rattle.fc_filed.specs.Parts.{IsFiledAs, KeepsShard};
-ghost use Rattle.fc_filed.specs.Threads.{HasJobFirst, HasOwnTrack, MayFile, begun_if, did_by, did_if, entry_by};
+ghost use Rattle.fc_filed.specs.declared.shard.PlannedChange.TheVariants.{Refused, Saved, Unchanging};
+ghost use Rattle.fc_filed.specs.Saves.{IsSavedAs, IsUpdateIn, InstallsImageOfJob, ShardSteps, refused_save, stored_save, update_of};
+ghost use Rattle.fc_filed.specs.Threads.{HasJobFirst, HasOwnTrack, MayFile, begun_if, did_by, did_if, did_with, entry_by, entry_with};
 
-use crate::book::{FiledTrack, ServerBook, ServerName, ServerTracks, file_as};
+use crate::book::{FiledTrack, ServerBook, ServerName, ServerTracks, file_as, file_saved_as};
+use crate::store::{FiledStore, StoreOf};
 use crate::view::FiledName;
 use fc_book::Part;
-use fc_calls::ShardCall;
 use fc_calls::calls::{AdvanceIfIdle, NextDue};
+use fc_calls::{Change, ShardCall};
 use fc_registry::{Job, Shard};
+use fc_store::Store;
 use std::marker::{Brand, Model, PhantomData};
 
 /// A call of a shard, and the operation that is filed for it.
@@ -43,6 +52,46 @@ pub trait FiledCall: ShardCall {
     // The operation is the call's effect on the shard, or the shard is unchanged.
     ghost right: { (call : Self) (before : Seen) (answer : Self.Answer) (room : Self.Room) (after : Seen) → is_of call before → Self.does call before answer room after
         → IsFiledAs (files answer) of_job (operation before.index call answer room) before after };
+}
+
+/// A call of a shard that may change a slot, and the operation that is filed for it.
+pub trait FiledChange: FiledCall + Change {
+    // The call is filed, whatever its answer is.
+    ghost always: { (answer : Self.Answer) → Self.files answer ≡ true };
+
+    // The call's slot is one of the shard that it belongs to.
+    ghost of_slot: { (call : Self) (shard : Seen) → Self.is_of call shard → IsOwned shard (Self.slot call) };
+
+    // If the operation is an install of its job's image, so is the call.
+    ghost verified: { (index : ℕ) (call : Self) (answer : Self.Answer) (room : Self.Room) → InstallsImageOfJob (Self.operation index call answer room) → Self.is_verified call };
+}
+
+/// The name of an operation and of the update that is saved for it.
+///
+/// The operation is given by an answer and the contents of a buffer. Each call of
+/// [`FiledShard::change`] chooses the name.
+pub trait SavedName<A, B> {
+    ghost operation: { A → B → Operation };
+
+    ghost update: { SlotUpdate };
+}
+
+impl<A, B> SavedName<A, B> for Brand {
+    ghost use Rattle.fc_filed.specs.Blank.{no_operation, no_update};
+
+    ghost operation = { λ answer room. no_operation };
+
+    ghost update = { no_update };
+}
+
+/// What came of the update of a call's change.
+pub enum PlannedChange {
+    /// The call changes no slot.
+    Unchanging,
+    /// The update is stored.
+    Saved,
+    /// The store refuses the update.
+    Refused,
 }
 
 /// The name of an operation, by an answer and the contents of a buffer.
@@ -94,7 +143,7 @@ impl<J: ServerName, P: Part> Model for FiledShard<J, P> {
 
     ghost use Rattle.fc_filed.specs.Parts.{AreCallsOf};
 
-    ghost invariant = { λ s. AreCallsOf J.first P.key s.track s.shard };
+    ghost invariant = { λ s. AreCallsOf J.first J.persistent P.key s.track s.shard };
 }
 
 impl<J: ServerName, P: Part> FiledShard<J, P> {
@@ -119,7 +168,8 @@ impl<J: ServerName, P: Part> FiledShard<J, P> {
     /// Makes a call of the shard, and files it if its answer says so.
     ///
     /// The entry has the result, and the contents of `room` after the call. A call of a job is for
-    /// the one whose track is first, and begins no track.
+    /// the one whose track is first, and begins no track. If the server's store is persistent, the
+    /// call must not change a slot.
     pub fn ask<C: FiledCall>(
         &mut self,
         book: &ServerBook<J>,
@@ -133,12 +183,73 @@ impl<J: ServerName, P: Part> FiledShard<J, P> {
         requires may { C.may_ask call self.old.shard }
         requires thread { HasOwnTrack J.first_job who tracks.old }
         requires job { C.of_job ≡ true → HasJobFirst J.first_job tracks.old }
+        requires unsaved { J.persistent ≡ true → (answer : C.Answer) (room : C.Room) (after : Seen) → C.does call self.old.shard answer room after
+            → (C.changes answer ≡ 0) ⊎ (after.slots ≡ self.old.shard.slots) }
         ensures does { C.does call self.old.shard result room.new self.new.shard }
         ensures kept { KeepsShard (C.changes result) self.old.shard self.new.shard }
         ensures filed { tracks.new ≡ did_if (C.files result) who (C.operation self.old.shard.index call result room.new) tracks.old }
         ensures unfiled { C.files result ≡ false → self.new ≡ self.old }
     {
         ask_as::<C, J, P, Brand>(self, book, tracks, who, call, room)
+    }
+
+    /// Saves the change that a call makes, makes the call, and files both as one entry.
+    ///
+    /// If the call changes no slot, nothing is saved. If `store` refuses the update, the call isn't
+    /// made, the refusal is filed, and the result is `None`. The caller holds the lock of the store
+    /// too, which is persistent.
+    pub fn change<C: FiledChange + Drop, K: Store>(
+        &mut self,
+        book: &ServerBook<J>,
+        tracks: &mut ServerTracks<J>,
+        who: u64,
+        store: &mut FiledStore<J, K>,
+        call: C,
+        room: &mut C::Room,
+    ) -> Option<C::Answer>
+        requires same { P.table ≡ J.table }
+        requires persistent { J.persistent ≡ true }
+        requires is_of { C.is_of call self.old.shard }
+        requires may { C.may_ask call self.old.shard }
+        requires thread { HasOwnTrack J.first_job who tracks.old }
+        requires job { HasJobFirst J.first_job tracks.old }
+        ensures changed { let n = C.slot call in
+            let slot = slot_in self.old.shard n in
+            let update = update_of slot n (C.change call) (C.image call) in
+            MatchOption result
+            ((self.new.shard ≡ self.old.shard) × IsUpdateIn self.old.shard (C.change call) update × C.may_change call
+            × SavesUpdate K.Store update false store.old.store store.new.store
+            × (tracks.new ≡ did_with (Some (refused_save update)) who (FailsToSave update) tracks.old))
+            (λ answer. C.does call self.old.shard answer room.new self.new.shard × KeepsShard (C.changes answer) self.old.shard self.new.shard
+            × ((save : Option Save) × IsSavedAs K.Store slot n (C.change call) (C.is_verified call) update (C.made call answer) save store.old.store store.new.store
+            × (tracks.new ≡ did_with save who (C.operation self.old.shard.index call answer room.new) tracks.old))) }
+        ensures ready { K.is_ready store.old.store }
+    {
+        match save_planned(&self.shard, &mut store.store, &call) {
+            PlannedChange::Unchanging => Some(self.ask(book, tracks, who, call, room)),
+            PlannedChange::Saved => Some(make_as::<C, J, P, Brand>(
+                &mut self.shard,
+                &mut self.track,
+                &mut store.track,
+                book,
+                tracks,
+                who,
+                call,
+                room,
+            )),
+            PlannedChange::Refused => {
+                refuse_as::<Brand, C, J, P>(
+                    &self.shard,
+                    &mut self.track,
+                    &mut store.track,
+                    book,
+                    tracks,
+                    who,
+                    &call,
+                );
+                None
+            }
+        }
     }
 
     /// Returns the shard, for a call's plan.
@@ -244,7 +355,7 @@ impl<J: ServerName, P: Part> FiledShard<J, P> {
     pub fn close(self, book: &ServerBook<J>, tracks: &mut ServerTracks<J>) -> Shard
         requires { P.table ≡ J.table }
         ensures shard { result ≡ self.shard }
-        ensures led { OperationsLead ShardDoes self.calls (shard_at J.first.shards result.index) result }
+        ensures led { EntriesLead (ShardSteps J.persistent) self.calls (shard_at J.first.shards result.index) result }
         ensures closed { tracks.new ≡ with_part tracks.old (part_view P.key self.calls) }
     {
         let FiledShard {
@@ -274,6 +385,8 @@ fn ask_as<C: FiledCall, J: ServerName, P: Part, X: OperationName<C::Answer, C::R
     requires may { C.may_ask call this.old.shard }
     requires thread { HasOwnTrack J.first_job who tracks.old }
     requires job { C.of_job ≡ true → HasJobFirst J.first_job tracks.old }
+    requires unsaved { J.persistent ≡ true → (answer : C.Answer) (room : C.Room) (after : Seen) → C.does call this.old.shard answer room after
+        → (C.changes answer ≡ 0) ⊎ (after.slots ≡ this.old.shard.slots) }
     ensures does { C.does call this.old.shard result room.new this.new.shard }
     ensures kept { KeepsShard (C.changes result) this.old.shard this.new.shard }
     ensures filed { tracks.new ≡ did_if (C.files result) who (C.operation this.old.shard.index call result room.new) tracks.old }
@@ -315,6 +428,119 @@ fn file_answer<Y: FiledName, J: ServerName, P: Part, A, B, X: OperationName<A, B
     let _ = answer;
     let _ = room;
     file_as::<Y, J, P>(book, tracks, track, who);
+}
+
+/// Saves the update of the change that a call makes in a shard, if it makes one.
+fn save_planned<C: Change, K: Store>(shard: &Shard, store: &mut K, call: &C) -> PlannedChange
+    requires may { C.may_ask call.now shard.now }
+    ensures unchanging { result ≡ Unchanging → (store.new ≡ store.old)
+        × ((answer : C.Answer) (room : C.Room) (after : Seen) → C.does call.entry.now shard.entry.now answer room after
+        → (C.made call.entry.now answer ≡ []) × (after.slots ≡ shard.entry.now.slots)) }
+    ensures planned { (result ≡ Unchanging → ⊥) → let n = C.slot call.entry.now in let slot = slot_in shard.entry.now n in
+        IsPlanned slot n (C.change call.entry.now) (update_of slot n (C.change call.entry.now) (C.image call.entry.now)) }
+    ensures saved { result ≡ Saved → let n = C.slot call.entry.now in let slot = slot_in shard.entry.now n in
+        let update = update_of slot n (C.change call.entry.now) (C.image call.entry.now) in
+        SavesUpdate K.Store update true store.old store.new × (C.is_verified call.entry.now → SavesImage (C.change call.entry.now) update.program)
+        × ((answer : C.Answer) (room : C.Room) (after : Seen) → C.does call.entry.now shard.entry.now answer room after
+        → (C.made call.entry.now answer ≡ C.change call.entry.now ∷ []) × (after.slots ≡ slots_with shard.entry.now n (C.change call.entry.now ∷ []))) }
+    ensures refused { result ≡ Refused → let n = C.slot call.entry.now in let slot = slot_in shard.entry.now n in
+        C.may_change call.entry.now × SavesUpdate K.Store (update_of slot n (C.change call.entry.now) (C.image call.entry.now)) false store.old store.new }
+{
+    match call.plan(shard) {
+        None => PlannedChange::Unchanging,
+        Some(update) if store.save(&update) => PlannedChange::Saved,
+        Some(_) => PlannedChange::Refused,
+    }
+}
+
+/// Makes a call of a shard whose update is stored, and files both as one entry.
+///
+/// `X` names the operation and the update. See [`FiledShard::change`].
+fn make_as<C: FiledChange, J: ServerName, P: Part, X: SavedName<C::Answer, C::Room>>(
+    shard: &mut Shard,
+    track: &mut FiledTrack<P>,
+    saves: &mut FiledTrack<StoreOf<J>>,
+    book: &ServerBook<J>,
+    tracks: &mut ServerTracks<J>,
+    who: u64,
+    call: C,
+    room: &mut C::Room,
+) -> C::Answer
+    requires named { (answer : C.Answer) (room : C.Room) → X.operation answer room ≡ C.operation shard.old.index call answer room }
+    requires same { P.table ≡ J.table }
+    requires index { (shard.old.index < 8) × (P.key ≡ shard.old.index + 1) }
+    requires eight { HasEightSlots shard.old }
+    requires is_of { C.is_of call shard.old }
+    requires may { C.may_ask call shard.old }
+    requires slot { IsOwned shard.old X.update.slot }
+    requires thread { HasOwnTrack J.first_job who tracks.old }
+    requires job { HasJobFirst J.first_job tracks.old }
+    ensures does { C.does call shard.old result room.new shard.new }
+    ensures kept { KeepsShard (C.changes result) shard.old shard.new }
+    ensures eight { HasEightSlots shard.new }
+    ensures track { track.new ≡ track.old ++ entry_with (Some (stored_save X.update)) who tracks.old (C.operation shard.old.index call result room.new) ∷ [] }
+    ensures saves { saves.new ≡ saves.old ++ entry_with (Some (stored_save X.update)) who tracks.old (C.operation shard.old.index call result room.new) ∷ [] }
+    ensures filed { tracks.new ≡ did_with (Some (stored_save X.update)) who (C.operation shard.old.index call result room.new) tracks.old }
+{
+    let answer = call.call(shard, room);
+    file_saved::<Brand, J, P, C::Answer, C::Room, X>(
+        book, tracks, track, saves, who, &answer, room,
+    );
+    answer
+}
+
+/// Files a call with its answer, its buffer and its stored update, with the entry named by `Y`.
+///
+/// See [`FiledShard::change`]. Only the clauses use the answer and the buffer.
+fn file_saved<Y: FiledName, J: ServerName, P: Part, A, B, X: SavedName<A, B>>(
+    book: &ServerBook<J>,
+    tracks: &mut ServerTracks<J>,
+    track: &mut FiledTrack<P>,
+    saves: &mut FiledTrack<StoreOf<J>>,
+    who: u64,
+    answer: &A,
+    room: &B,
+)
+    requires entry { Y.entry ≡ entry_with (Some (stored_save X.update)) who tracks.old (X.operation answer.now room.now) }
+    requires same { P.table ≡ J.table }
+    requires part { (part_key who (part_of (X.operation answer.now room.now)) ≡ P.key) × (0 < P.key) × (P.key < 9) }
+    requires locked { is_locked (part_of (X.operation answer.now room.now)) ≡ true }
+    requires of_slot { part_of (X.operation answer.now room.now) ≡ ShardPart (X.update.slot % 8) }
+    requires may { MayFile J.first_job who tracks.old (X.operation answer.now room.now) }
+    ensures track { track.new ≡ track.old ++ Y.entry ∷ [] }
+    ensures saves { saves.new ≡ saves.old ++ Y.entry ∷ [] }
+    ensures filed { tracks.new ≡ did_with Y.entry.save who Y.entry.operation tracks.old }
+{
+    let _ = answer;
+    let _ = room;
+    file_saved_as::<Y, J, P>(book, tracks, track, saves, who);
+}
+
+/// Files that the store refuses the update of a call's change, with the entry named by `X`.
+///
+/// See [`FiledShard::change`]. Only the clauses use the shard and the call.
+fn refuse_as<X: FiledName, C: Change, J: ServerName, P: Part>(
+    shard: &Shard,
+    track: &mut FiledTrack<P>,
+    saves: &mut FiledTrack<StoreOf<J>>,
+    book: &ServerBook<J>,
+    tracks: &mut ServerTracks<J>,
+    who: u64,
+    call: &C,
+)
+    requires entry { let n = C.slot call.now in let update = update_of (slot_in shard.now n) n (C.change call.now) (C.image call.now) in
+        X.entry ≡ entry_with (Some (refused_save update)) who tracks.old (FailsToSave update) }
+    requires same { P.table ≡ J.table }
+    requires owned { IsOwned shard.now (C.slot call.now) × (P.key ≡ shard.now.index + 1) × (shard.now.index < 8) }
+    requires thread { HasOwnTrack J.first_job who tracks.old }
+    requires job { HasJobFirst J.first_job tracks.old }
+    ensures track { track.new ≡ track.old ++ X.entry ∷ [] }
+    ensures saves { saves.new ≡ saves.old ++ X.entry ∷ [] }
+    ensures filed { tracks.new ≡ did_with X.entry.save who X.entry.operation tracks.old }
+{
+    let _ = shard;
+    let _ = call;
+    file_saved_as::<X, J, P>(book, tracks, track, saves, who);
 }
 
 /// Begins the track of an observer's job if `is_due`: if a lease was granted.

@@ -6,8 +6,8 @@
 //!
 //! A step splits a seat off, joins a seat to another one, or loads or writes a word of the table. A
 //! load that needs no idle word and no head word loads the first word of the padding.
-ghost use Rattle.std.specs.Prelude.{◌≡◌, ◌≢◌, ◌+◌, ◌<◌, ◌≤◌, ℕ, [], length, true, false};
-ghost use Rattle.fc_book.specs.Tracks.{AreSingle, HasKey, entries_of, filed_on_all, filed_with, first_own, locked_of, merged_with, no_tracks, own_view, part_view, with_begun, with_filed, with_locked, with_next, with_part, without_first, without_locked};
+ghost use Rattle.std.specs.Prelude.{◌≡◌, ◌≢◌, ◌+◌, ◌<◌, ◌≤◌, ◌∷◌, ℕ, [], None, is_some, length, true, false};
+ghost use Rattle.fc_book.specs.Tracks.{AreSingle, HasKey, entries_of, filed_on_all, filed_with, first_locked, first_own, locked_of, merged_with, no_tracks, own_view, part_view, track, with_another, with_begun, with_filed, with_locked, with_next, with_part, without_first, without_first_locked, without_locked};
 ghost use Rattle.fc_registry.specs.Shards.{shard_at};
 ghost use Rattle.fc_linear.specs.Operations.{NoPart, part_of, Logged, is_for_job, is_locked};
 ghost use Rattle.fc_filed.specs.Books.{HasServerHistory, IsFirstSent, heads_in};
@@ -25,8 +25,8 @@ use crate::view::{
 };
 use atomic_table::{Seat, Table};
 use fc_book::view::{
-    Begins, BeginsPart, BeginsTracks, BookView, Closes, MakesEmpty, Merges, ReturnsPart,
-    SplitsFirst, TakesPart,
+    Begins, BeginsPart, BeginsTracks, BookView, Closes, MakesEmpty, Merges, ReturnsFirst,
+    ReturnsPart, SplitsFirst, TakesAnother, TakesPart,
 };
 use fc_core::Heads;
 use fc_registry::{SLOTS, SlotNumber};
@@ -89,6 +89,7 @@ pub(crate) fn file<X: FiledName>(
     requires on_part { HasKey (entry_keys X.entry).part part.me.0.locked }
     requires on { HasKey X.entry.who seat.old.me.0.own × HasKey X.entry.job seat.old.me.0.own }
     requires locked { is_locked (part_of X.entry.operation) ≡ true }
+    requires unsaved { X.entry.save ≡ None }
     requires keyed { IsKeyed words.now.shared.key.first_job X.entry }
     ensures table { seat.new.table_id ≡ seat.old.table_id }
     ensures filed { seat.new.me ≡ (filed_with entry_keys X.entry seat.old.me.0 part.me.0, seat.old.me.1) }
@@ -111,6 +112,7 @@ fn file_for_other<X: FiledName>(words: &FiledWords, seat: &mut FiledSeat, part: 
     requires on_part { HasKey (entry_keys X.entry).part part.me.0.locked }
     requires on { HasKey X.entry.who seat.old.me.0.own × HasKey X.entry.job seat.old.me.0.own }
     requires locked { is_locked (part_of X.entry.operation) ≡ true }
+    requires unsaved { X.entry.save ≡ None }
     requires keyed { IsKeyed words.now.shared.key.first_job X.entry }
     ensures table { seat.new.table_id ≡ seat.old.table_id }
     ensures filed { seat.new.me ≡ (filed_with entry_keys X.entry seat.old.me.0 part.me.0, seat.old.me.1) }
@@ -135,6 +137,7 @@ fn file_for_shard<X: FiledName>(
     requires on_part { HasKey (entry_keys X.entry).part part.me.0.locked }
     requires on { HasKey X.entry.who seat.old.me.0.own × HasKey X.entry.job seat.old.me.0.own }
     requires locked { is_locked (part_of X.entry.operation) ≡ true }
+    requires unsaved { X.entry.save ≡ None }
     requires keyed { IsKeyed words.now.shared.key.first_job X.entry }
     ensures table { seat.new.table_id ≡ seat.old.table_id }
     ensures filed { seat.new.me ≡ (filed_with entry_keys X.entry seat.old.me.0 part.me.0, seat.old.me.1) }
@@ -143,6 +146,67 @@ fn file_for_shard<X: FiledName>(
     words
         .shared
         .store::<FilesForShard<X>>(seat, IDLE + index, 0);
+}
+
+/// Files the entry that `X` names with its save, of the shard with this index and of the store.
+///
+/// The step takes over the tracks of both. They stay at the owner's seat until [`return_first`],
+/// for the store's, and then [`return_part`], for the shard's. The shard's idle word is reset.
+pub(crate) fn file_saved<X: FiledName>(
+    words: &FiledWords,
+    seat: &mut FiledSeat,
+    of_shard: FiledSeat,
+    of_store: FiledSeat,
+    index: usize,
+)
+    requires size { words.now.shared.table_id.words ≡ 80 }
+    requires table { seat.old.table_id ≡ words.now.shared.table_id }
+    requires shard_table { of_shard.table_id ≡ words.now.shared.table_id }
+    requires store_table { of_store.table_id ≡ words.now.shared.table_id }
+    requires shard { of_shard.me ≡ (part_view (index + 1) (entries_of of_shard.me.0.locked), []) }
+    requires store { of_store.me ≡ (part_view 9 (entries_of of_store.me.0.locked), []) }
+    requires free { seat.old.me.0.locked ≡ [] }
+    requires index { (index < 8) × ((entry_keys X.entry).part ≡ index + 1) }
+    requires save { is_some X.entry.save ≡ true }
+    requires on { HasKey X.entry.who seat.old.me.0.own × HasKey X.entry.job seat.old.me.0.own }
+    requires locked { is_locked (part_of X.entry.operation) ≡ true }
+    requires keyed { IsKeyed words.now.shared.key.first_job X.entry }
+    ensures table { seat.new.table_id ≡ seat.old.table_id }
+    ensures filed { seat.new.me ≡ (
+      filed_on_all entry_keys X.entry
+          (record seat.old.me.0 { locked = track 9 (entries_of of_store.me.0.locked) ∷ track (index + 1) (entries_of of_shard.me.0.locked) ∷ [] }),
+      seat.old.me.1,
+    ) }
+{
+    take_part(words, seat, of_shard);
+    take_another(words, seat, of_store);
+    words
+        .shared
+        .store::<FilesForShard<X>>(seat, IDLE + index, 0);
+}
+
+/// Takes over the track of another part's seat. It is then the first of the parts' tracks.
+fn take_another(words: &FiledWords, seat: &mut FiledSeat, part: FiledSeat)
+    requires size { words.now.shared.table_id.words ≡ 80 }
+    requires table { seat.old.table_id ≡ words.now.shared.table_id }
+    requires part_table { part.table_id ≡ words.now.shared.table_id }
+    requires part { (part.me.0.own ≡ []) × (part.me.0.may_begin ≡ false) × (part.me.1 ≡ []) }
+    ensures table { seat.new.table_id ≡ seat.old.table_id }
+    ensures taken { seat.new.me ≡ (with_another seat.old.me.0 part.me.0, seat.old.me.1) }
+{
+    words.shared.join_seat::<TakesAnother>(seat, part);
+}
+
+/// Splits off the first of the parts' tracks that the owner has taken over, and returns it as a
+/// seat.
+pub(crate) fn return_first(words: &FiledWords, seat: &mut FiledSeat) -> FiledSeat
+    requires size { words.now.shared.table_id.words ≡ 80 }
+    requires table { seat.old.table_id ≡ words.now.shared.table_id }
+    requires single { AreSingle seat.old.me.0.locked }
+    ensures kept { (seat.new.table_id ≡ seat.old.table_id) × (seat.new.me ≡ (without_first_locked seat.old.me.0, seat.old.me.1)) }
+    ensures back { (result.table_id ≡ words.now.shared.table_id) × (result.me ≡ (first_locked seat.old.me.0, [])) }
+{
+    words.shared.split_seat::<ReturnsFirst>(seat)
 }
 
 /// Takes over the track of a part's seat.
@@ -185,6 +249,7 @@ pub(crate) fn skip_if_idle<X: FiledName>(
     requires table { seat.old.table_id ≡ words.now.shared.table_id }
     requires index { index < 8 }
     requires skips { X.entry.operation ≡ Logged (SkipsIdle index now) }
+    requires unsaved { X.entry.save ≡ None }
     requires on { HasKey X.entry.who seat.old.me.0.own × HasKey X.entry.job seat.old.me.0.own }
     requires keyed { IsKeyed words.now.shared.key.first_job X.entry }
     ensures table { seat.new.table_id ≡ seat.old.table_id }
@@ -198,6 +263,7 @@ pub(crate) fn file_alone<X: FiledName>(words: &FiledWords, seat: &mut FiledSeat)
     requires size { words.now.shared.table_id.words ≡ 80 }
     requires table { seat.old.table_id ≡ words.now.shared.table_id }
     requires no_part { part_of X.entry.operation ≡ NoPart }
+    requires unsaved { X.entry.save ≡ None }
     requires for_job { is_for_job X.entry.operation ≡ true }
     requires on { HasKey X.entry.who seat.old.me.0.own × HasKey X.entry.job seat.old.me.0.own }
     requires keyed { IsKeyed words.now.shared.key.first_job X.entry }
@@ -317,7 +383,8 @@ pub(crate) fn look<X: FiledName>(words: &FiledWords, seat: &mut FiledSeat, slot:
     requires table { seat.old.table_id ≡ words.now.shared.table_id }
     requires slot { slot < 64 }
     requires on { HasKey X.entry.who seat.old.me.0.own × HasKey X.entry.job seat.old.me.0.own }
-    requires keyed { (9 ≤ X.entry.who) × (X.entry.who < words.now.shared.key.first_job) × (words.now.shared.key.first_job ≤ X.entry.job) }
+    requires unsaved { X.entry.save ≡ None }
+    requires keyed { (10 ≤ X.entry.who) × (X.entry.who < words.now.shared.key.first_job) × (words.now.shared.key.first_job ≤ X.entry.job) }
     ensures table { seat.new.table_id ≡ seat.old.table_id }
     ensures rises { known_word slot seat.old.me.0.own ≤ result }
     ensures filed { seat.new.me ≡ (with_filed entry_keys (entry_of_look X.entry slot result) seat.old.me.0, seat.old.me.1) }
@@ -333,7 +400,8 @@ pub(crate) fn raise<X: FiledName>(words: &FiledWords, seat: &mut FiledSeat, slot
     requires table { seat.old.table_id ≡ words.now.shared.table_id }
     requires slot { slot < 64 }
     requires on { HasKey X.entry.who seat.old.me.0.own × HasKey X.entry.job seat.old.me.0.own }
-    requires keyed { (9 ≤ X.entry.who) × (X.entry.who < words.now.shared.key.first_job) × (words.now.shared.key.first_job ≤ X.entry.job) }
+    requires unsaved { X.entry.save ≡ None }
+    requires keyed { (10 ≤ X.entry.who) × (X.entry.who < words.now.shared.key.first_job) × (words.now.shared.key.first_job ≤ X.entry.job) }
     ensures table { seat.new.table_id ≡ seat.old.table_id }
     ensures filed { seat.new.me ≡ (with_filed entry_keys (entry_of_raise X.entry slot word) seat.old.me.0, seat.old.me.1) }
 {

@@ -12,5 +12,5 @@ load-requires g c =
     let on = c.requires.on in (
       c.requires.table,
       (let s = c.requires.size in omega arith),
-      λ s h n at fits. (with_filed entry_keys e v, keeps, tt, held_no_part c.args.words.now.shared.key s.words s.views _ v h at e c.requires.no_part c.requires.for_job on.0 on.1 c.requires.keyed, refl),
+      λ s h n at fits. (with_filed entry_keys e v, keeps, tt, held_no_part c.args.words.now.shared.key s.words s.views _ v h at e c.requires.no_part c.requires.unsaved c.requires.for_job on.0 on.1 c.requires.keyed, refl),
     )

@@ -10,5 +10,5 @@ join_seat-requires g c =
       c.requires.part_table,
       part.2,
       (let s = c.requires.size in omega arith),
-      λ s h at apart there. held_files c.args.words.now.shared.key s.words s.views _ c.args.seat.now.me.0 h at g.X.FiledName.entry c.args.part.me.0 _ c.requires.on_part on.0 on.1 part.0 part.1 c.requires.locked c.requires.keyed c.requires.other apart there,
+      λ s h at apart there. held_files c.args.words.now.shared.key s.words s.views _ c.args.seat.now.me.0 h at g.X.FiledName.entry c.args.part.me.0 _ c.requires.on_part c.requires.unsaved on.0 on.1 part.0 part.1 c.requires.locked c.requires.keyed c.requires.other apart there,
     )

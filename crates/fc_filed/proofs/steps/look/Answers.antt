@@ -18,10 +18,10 @@ load-requires g c =
         with_filed entry_keys (entry_of_look g.X.FiledName.entry slot (slice_index s.words (16 + slot))) v,
         keeps,
         tt,
-        held_looks_at c.args.words.now.shared.key s.words s.views _ v h at g.X.FiledName.entry slot on.0 on.1 c.requires.keyed,
+        held_looks_at c.args.words.now.shared.key s.words s.views _ v h at g.X.FiledName.entry slot c.requires.unsaved on.0 on.1 c.requires.keyed,
         (
           subst (λ (k : ℕ). known_word k v.own ≤ slice_index s.words (16 + slot)) (after_idle_words slot)
-              (rises_at c.args.words.now.shared.key s.words s.views _ v h at g.X.FiledName.entry slot on.0 on.1 c.requires.keyed c.requires.heads c.requires.slot),
+              (rises_at c.args.words.now.shared.key s.words s.views _ v h at g.X.FiledName.entry slot c.requires.unsaved on.0 on.1 c.requires.keyed c.requires.heads c.requires.slot),
           ap (λ (n : ℕ). (with_filed entry_keys (entry_of_look g.X.FiledName.entry n (slice_index s.words (16 + slot))) v, c.args.seat.now.me.1)) (after_idle_words slot),
         ),
       ),

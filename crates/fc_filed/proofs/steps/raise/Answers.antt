@@ -17,7 +17,7 @@ fetch_max-requires g c =
         with_filed entry_keys (entry_of_raise g.X.FiledName.entry slot c.args.word) v,
         keeps,
         tt,
-        held_raises c.args.words.now.shared.key s.words s.views _ v h at g.X.FiledName.entry slot on.0 on.1 c.requires.keyed c.args.word,
+        held_raises c.args.words.now.shared.key s.words s.views _ v h at g.X.FiledName.entry slot c.requires.unsaved on.0 on.1 c.requires.keyed c.args.word,
         ap (λ (n : ℕ). (with_filed entry_keys (entry_of_raise g.X.FiledName.entry n c.args.word) v, c.args.seat.now.me.1)) (after_idle_words slot),
       ),
     )

@@ -19,7 +19,7 @@ load-requires g c =
         filed_if (nat_lt c.args.now (slice_index s.words (8 + index))) e v,
         keeps,
         tt,
-        held_skips c.args.words.now.shared.key s.words s.views _ v h at e index c.args.now c.requires.index c.requires.skips on.0 on.1 c.requires.keyed,
+        held_skips c.args.words.now.shared.key s.words s.views _ v h at e index c.args.now c.requires.index c.requires.skips c.requires.unsaved on.0 on.1 c.requires.keyed,
         ap (λ (t : ℕ). (filed_if (nat_lt t (slice_index s.words (8 + index))) e v, c.args.seat.now.me.1)) time,
       ),
     )

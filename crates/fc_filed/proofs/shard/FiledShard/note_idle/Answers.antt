@@ -12,4 +12,4 @@ note_idle-requires-clause-idle g c =
     let led = c.self.invariant in
     let index : (c.track_key-index.result - 1) + 1 ≡ key = (let low = led.2 in omega (arith, told, low)) in
     let idle : is_idle shard ≡ true = subst (λ (s : ShardCalls). is_idle s.shard ≡ true) (sym c.self.view_is) c.requires.idle in
-    leads_idle g.J.ServerName.first key (c.track_key-index.result - 1) c.idle_until-until.result c.self.inside.track shard index led c.idle_until-until.ensures idle
+    leads_idle g.J.ServerName.first g.J.ServerName.persistent key (c.track_key-index.result - 1) c.idle_until-until.result c.self.inside.track shard index led c.idle_until-until.ensures idle
