@@ -18,7 +18,7 @@ ghost use Rattle.fc_core.specs.Legal.{Emits};
 ghost use Rattle.fc_core.specs.Receiving.{delivered, reply_sent};
 ghost use Rattle.fc_laws.specs.ReplyLaws.{IsAnswerTo, Refuses, Rejects, reset_to};
 ghost use Rattle.fc_core.specs.declared.event.Event.TheVariants.{Answer, Deliver};
-ghost use Rattle.fc_core.specs.declared.front.Delivered.TheVariants.{Signal};
+ghost use Rattle.fc_core.specs.declared.by_value.Delivered.TheVariants.{Signal};
 ghost use Rattle.fc_core.specs.Stage.{ToAnswer};
 
 /// A request that a check of its options refuses is answered with the check's code.

@@ -14,8 +14,8 @@ use Rattle.fc_registry.specs.Slots.{Slot}
 use Rattle.fc_registry.specs.Watches.{signal_call, signalled}
 use Rattle.fc_core.specs.declared.event.Event.{Event}
 use Rattle.fc_core.specs.declared.event.Event.TheVariants.{Deliver, Peek, Take, Commit, Install, Remove, Receipt, Raise, Answer, Due, Fire, Fresh, Note, GiveUp, Signal, Tick, ShardTick}
-use Rattle.fc_core.specs.declared.front.Delivered.{Delivered}
-use Rattle.fc_core.specs.declared.front.Delivered.TheVariants.{Reply, Job as Brings, Signal as Signals}
+use Rattle.fc_core.specs.declared.by_value.Delivered.{Delivered}
+use Rattle.fc_core.specs.declared.by_value.Delivered.TheVariants.{Reply, Job as Brings, Signal as Signals}
 use Rattle.fc_registry.specs.Taken.{SlotSnapshot}
 use Rattle.fc_core.specs.Contents.{Content}
 use Rattle.fc_core.specs.Room.{stage_of}

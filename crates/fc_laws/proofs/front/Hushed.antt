@@ -8,7 +8,7 @@ use Rattle.coap_msg.specs.Reading.{reading_of}
 use Rattle.coap_msg.specs.Wire.{Message}
 use Rattle.coap_opts.specs.Verdict.{Verdict, IsIgnored, IsSignal, IsSilent, verdict}
 use Rattle.fc_core.specs.declared.event.Event.TheVariants.{Deliver}
-use Rattle.fc_core.specs.declared.front.Delivered.TheVariants.{Signal}
+use Rattle.fc_core.specs.declared.by_value.Delivered.TheVariants.{Signal}
 use Rattle.fc_laws.specs.ExchangeLaws.{IsOpening}
 use Rattle.fc_core.specs.Exchanges.{FrontState}
 use Rattle.fc_core.specs.History.{Seen, front_at}

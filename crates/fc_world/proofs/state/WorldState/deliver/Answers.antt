@@ -1,6 +1,6 @@
 use Rattle.std.proofs.Common.{None, Some, List, [], ◌∷◌, ◌++◌, map, ap, sym, subst, ◌∙◌}
 use Rattle.std.proofs.lemmas.List.{append-nil}
-use Rattle.fc_core.specs.declared.front.Delivered.TheVariants.{Job as Brings}
+use Rattle.fc_core.specs.declared.by_value.Delivered.TheVariants.{Job as Brings}
 use Rattle.fc_core.specs.declared.front.Handled.{Handled as Hearing}
 use Rattle.fc_core.specs.declared.stage.Task.{Task}
 use Rattle.fc_core.specs.Receiving.{handled}
