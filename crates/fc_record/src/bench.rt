@@ -262,10 +262,6 @@ impl<'a, B: Bench, C: Recorder> Bench for RecordedBench<'a, B, C> {
         self.bench.refuse_install(job, log);
     }
 
-    fn fail_to_save(&self, job: &Job, log: &mut TrackLog<B::Book>) {
-        self.bench.fail_to_save(job, log);
-    }
-
     fn respond<R: Wait>(
         &self,
         rt: &R,

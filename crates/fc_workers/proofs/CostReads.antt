@@ -19,6 +19,7 @@ use Rattle.fc_calls.specs.Logged.{InstallsProgram, ReadsCost}
 use Rattle.fc_server.specs.declared.server.Begin.{Begin}
 use Rattle.fc_server.specs.States.{first_server, server_over}
 use Rattle.fc_linear.specs.Operations.{Logged, ShardDoes}
+use Rattle.fc_store.specs.Recovery.{Save}
 use Rattle.fc_filed.specs.declared.entry.FiledEntry.{FiledEntry}
 use Rattle.fc_filed.specs.Entries.{OperationsLead, shard_entries}
 use Rattle.fc_workers.specs.declared.closed.ClosedServer.{ClosedServer}
@@ -38,10 +39,10 @@ module _ (stored : StoredSlots) (id : ℕ) (policy : Policy) where
   written : (slot : Slot) → slot_in (with_slot shard 13 slot) 13 ≡ slot
   written slot = refl
 
-  pub cost_after : (logs : List TrackedLog) (closed : ClosedServer) (order : HaveOneOrder (server_over stored id policy) logs closed) (who by j k serial : ℕ) (job : Job) (p : Program) (created : Bool) (cost : Option ℕ) → job.origin.slot ≡ 13
-      → shard_entries 5 order.calls ≡ record { who = who; job = j; operation = Logged (InstallsProgram job p (Raised serial created)) } ∷ record { who = by; job = k; operation = Logged (ReadsCost 13 cost) } ∷ [] → cost ≡ Some p.cost
-  cost_after logs closed order who by j k serial job p created cost at is =
-      let es : List FiledEntry = record { who = who; job = j; operation = Logged (InstallsProgram job p (Raised serial created)) } ∷ record { who = by; job = k; operation = Logged (ReadsCost 13 cost) } ∷ [] in
+  pub cost_after : (logs : List TrackedLog) (closed : ClosedServer) (order : HaveOneOrder (server_over stored id policy) logs closed) (who by j k serial : ℕ) (job : Job) (p : Program) (created : Bool) (v : Option Save) (cost : Option ℕ) → job.origin.slot ≡ 13
+      → shard_entries 5 order.calls ≡ record { who = who; job = j; operation = Logged (InstallsProgram job p (Raised serial created)); save = v } ∷ record { who = by; job = k; operation = Logged (ReadsCost 13 cost); save = None } ∷ [] → cost ≡ Some p.cost
+  cost_after logs closed order who by j k serial job p created v cost at is =
+      let es : List FiledEntry = record { who = who; job = j; operation = Logged (InstallsProgram job p (Raised serial created)); save = v } ∷ record { who = by; job = k; operation = Logged (ReadsCost 13 cost); save = None } ∷ [] in
       let end = shard_at closed.shards 5 in
       let led : OperationsLead ShardDoes es shard end = subst (λ (l : List FiledEntry). OperationsLead ShardDoes l shard end) is (order.shards_led 5 (lit< tt)) in
       let initial = initial_vars_of job.ask in
@@ -52,9 +53,9 @@ module _ (stored : StoredSlots) (id : ℕ) (policy : Policy) where
       led.2.1.0 ∙ (ap (λ (s : Slot). cost_at s.present) found ∙ put_cost (nat_lt slot.serial last_serial) slot p initial serial created made.0)
 
 pub cost_before : (begin : Begin) (logs : List TrackedLog) (closed : ClosedServer) (order : HaveOneOrder (first_server begin) logs closed) (by k : ℕ) (cost : Option ℕ) (later : List FiledEntry)
-    → shard_entries 5 order.calls ≡ record { who = by; job = k; operation = Logged (ReadsCost 13 cost) } ∷ later → cost ≡ None
+    → shard_entries 5 order.calls ≡ record { who = by; job = k; operation = Logged (ReadsCost 13 cost); save = None } ∷ later → cost ≡ None
 cost_before begin logs closed order by k cost later is =
-    let es : List FiledEntry = record { who = by; job = k; operation = Logged (ReadsCost 13 cost) } ∷ later in
+    let es : List FiledEntry = record { who = by; job = k; operation = Logged (ReadsCost 13 cost); save = None } ∷ later in
     let first = shard_at (first_server begin).shards 5 in
     let end = shard_at closed.shards 5 in
     let led : OperationsLead ShardDoes es first end = subst (λ (l : List FiledEntry). OperationsLead ShardDoes l first end) is (order.shards_led 5 (lit< tt)) in

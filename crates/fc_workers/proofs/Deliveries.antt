@@ -14,8 +14,8 @@ use Rattle.fc_core.specs.Receiving.{handled}
 use Rattle.fc_core.specs.Stage.{Gone, Stage}
 use Rattle.fc_core.specs.Stages.{first_stage}
 use Rattle.fc_core.specs.Timers.{timer_job}
-use Rattle.fc_core.specs.declared.front.Delivered.{Delivered}
-use Rattle.fc_core.specs.declared.front.Delivered.TheVariants.{Job as Brings, Signal}
+use Rattle.fc_core.specs.declared.by_value.Delivered.{Delivered}
+use Rattle.fc_core.specs.declared.by_value.Delivered.TheVariants.{Job as Brings, Signal}
 use Rattle.fc_core.specs.declared.front.Handled.{Handled}
 use Rattle.fc_filed.specs.Entries.{entry_keys, part_key}
 use Rattle.fc_filed.specs.JobTracks.{LeadJob}
@@ -65,7 +65,7 @@ none_led job (e ∷ es) s t l =
 -- this log is of thread `who`, which has its own track.
 pub record HasThread (who : ℕ) (log : TrackedLog) : Type 0 where
   pub is : log.who ≡ who
-  pub low : 9 ≤ who
+  pub low : 10 ≤ who
   pub own : HasKey who log.tracks.own
 
 -- the thread's own track has a lower key than the first track, so it isn't the first.
@@ -130,7 +130,7 @@ module _ (who : ℕ) where
     tracks_are = ap (λ (b : BookView FiledEntry). b.own) filed.tracks
 
     on_own : u.who ≡ who → is_on entry_keys who entry ≡ true
-    on_own is = on_second (part_key u.who (part_of operation)) u.who entry.job who is
+    on_own is = on_second (part_key u.who (part_of operation)) (part_key u.who (part_of operation)) u.who entry.job who is
 
     entries_more : HasThread who u
         → entries_at who v.tracks.own ≡ entries_at who u.tracks.own ++ entry ∷ []

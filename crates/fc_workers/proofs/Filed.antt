@@ -5,8 +5,9 @@ use Rattle.std.proofs.lemmas.Bool.Decides.{nat_tests}
 use Rattle.coap_msg.specs.declared.types.Emission.{Emission}
 use Rattle.fc_observe.specs.declared.entry.Turn.{Turn}
 use Rattle.fc_registry.specs.declared.job.Job.{Job}
-use Rattle.fc_registry.specs.Calls.{run_of, turn_of}
-use Rattle.fc_registry.specs.Slots.{Ticket}
+use Rattle.fc_registry.specs.Calls.{commit_of, initial_vars_of, run_of, turn_of}
+use Rattle.fc_registry.specs.Changes.{Change, Committed as Wrote, Installed, Removed}
+use Rattle.fc_registry.specs.Slots.{Slot, Ticket}
 use Rattle.fc_registry.specs.Taken.{Taken}
 use Rattle.fc_registry.specs.Taken.{Given, Missing, Stale, Refused}
 use Rattle.fc_book.specs.declared.view.Track.{Track}
@@ -16,22 +17,24 @@ use Rattle.fc_core.specs.Stage.{Stage}
 use Rattle.fc_core.specs.Stage.{ToAnswer, ToCommit, ToRemove, ToTell, Gone}
 use Rattle.fc_core.specs.TurnStage.{TurnStage}
 use Rattle.fc_core.specs.TurnStage as turns
-use Rattle.fc_core.specs.Stages.{asked_stage, first_or_turn, first_stage, is_refusable, matched, turn_took}
+use Rattle.fc_core.specs.Stages.{asked_stage, first_or_turn, first_stage, image_of, matched, turn_took}
 use Rattle.fc_core.specs.Steps.{Call, Matches, Lists, Takes, Commits, Installs, Rejects, Refuses, Removes, Describes, Raises, Answers, TakesTurn, Draws, Notes, GivesUp, Loses, RefusesChange, called_at, next_stage}
 use Rattle.fc_calls.specs.Logged.{LoggedCall}
 use Rattle.fc_calls.specs.Logged.{AnswersRequest, CommitsRun, DrawsId, GivesReadings, GivesUpTurn}
 use Rattle.fc_calls.specs.Logged.{InstallsProgram, LooksAt, NotesTurn, RaisesWord, RemovesProgram, TakesForJob, TellsReceipt}
-use Rattle.fc_linear.specs.Operations.{FailsToSave, RefusesInstall, Logged, Operation, RejectsImage, StageMoves}
+use Rattle.fc_store.specs.Recovery.{Save}
+use Rattle.fc_linear.specs.Operations.{FailsToSave, RefusesInstall, Logged, MakesUpdate, Operation, RejectsImage, StageMoves}
 use Rattle.fc_filed.specs.declared.entry.FiledEntry.{FiledEntry}
 use Rattle.fc_filed.specs.Books.{IsRightForJob}
 use Rattle.fc_filed.specs.JobTracks.{FilesForJob, HasJobAt}
+use Rattle.fc_filed.specs.Saves.{program_update, refused_save, update_of}
 use Rattle.fc_filed.specs.Threads.{HasJobFirst, HasOwnTrack, key_of_first}
 use Rattle.fc_filed.proofs.JobTracks.{at_next, files_more, files_none, files_one, led_right, still_first, still_own}
 use Rattle.fc_filed.proofs.Sent.{same_or_not}
 use Rattle.fc_workers.specs.declared.call_log.CallLog.{CallLog}
 use Rattle.fc_workers.specs.Called.{BenchCall, EndsJob, SendsReply, WireCall, WorkerView, worker_view}
-use Rattle.fc_workers.specs.Filed.{FilesCalls, FilesEach, HasFiled, HasFiledFor, HasRightJobs, HasSameTracks}
-use Rattle.fc_workers.specs.Logs.{IsUnfiled, TrackedLog}
+use Rattle.fc_workers.specs.Filed.{FilesCalls, FilesEach, HasFiled, HasFiledChange, HasFiledFor, HasFiledWith, HasRightJobs, HasSameTracks}
+use Rattle.fc_workers.specs.Logs.{FilesRefusal, IsUnfiled, TrackedLog}
 use Rattle.fc_workers.specs.Outgoing.{GivesAnswer, IsFoundTold, IsGivenUp, IsSent, IsTurnReply, with_reply}
 use Rattle.fc_workers.specs.Work.{AreCalls, IsCallOf, IsChangeRefused, IsReplied, IsRequestWorked, IsTurnWorked, IsWorked, IsWorkedAs, stage_after}
 use Rattle.fc_workers.specs.Workers.{Share}
@@ -57,8 +60,24 @@ module _ (first_job : ℕ) (job : Job) where
   none : (s : Stage) (before after : TrackedLog) → HasSameTracks before after → Files s s before after
   none s before after same = record { who = same.who; files = files_none first_job before.who job s before.tracks after.tracks same.tracks }
 
+  one_with : (save : Option Save) (operation : Operation) (s t : Stage) (before after : TrackedLog) → MayWork first_job before → HasFiledWith save operation before after → StageMoves operation job s t → Files s t before after
+  one_with save operation s t before after may filed moves = record { who = filed.who; files = files_one first_job before.who job s t operation save before.tracks may.own may.first moves after.tracks filed.tracks }
+
   one : (operation : Operation) (s t : Stage) (before after : TrackedLog) → MayWork first_job before → HasFiled operation before after → StageMoves operation job s t → Files s t before after
-  one operation s t before after may filed moves = record { who = filed.who; files = files_one first_job before.who job s t operation before.tracks may.own may.first moves after.tracks filed.tracks }
+  one operation s t before after may filed moves = one_with None operation s t before after may filed moves
+
+  -- a change, with its save or without.
+  one_change : (operation : Operation) (s t : Stage) (before after : TrackedLog) → MayWork first_job before → HasFiledChange operation before after → StageMoves operation job s t → Files s t before after
+  one_change operation s t before after may filed moves = one_with filed.0 operation s t before after may filed.1 moves
+
+  -- the refusal of the update of a change that the job makes at this stage.
+  one_refusal : (change : Change) (image : List ℕ) (s : Stage) (before after : TrackedLog) → MayWork first_job before → FilesRefusal job.origin.slot change image before after
+      → ((slot : Slot) → MakesUpdate job (program_update slot change image) s) → Files s (ToAnswer Unavailable) before after
+  one_refusal change image s before after may filed makes =
+      let update = update_of filed.0 job.origin.slot change image in
+      one_with (Some (refused_save update)) (FailsToSave update) s (ToAnswer Unavailable) before after may
+      (record { who = ap (λ (l : TrackedLog). l.who) filed.1; tracks = ap (λ (l : TrackedLog). l.tracks) filed.1 })
+      (refl, makes filed.0, refl)
 
   more : (s m t : Stage) (u v w : TrackedLog) → Files s m u v → Files m t v w → Files s t u w
   more s m t u v w a b = record {
@@ -87,8 +106,8 @@ module _ (first_job : ℕ) (job : Job) where
     refused_filed number (ToCommit count t) stage before after may at is =
         after_none stage (ToAnswer Unavailable) before is.passed after (files.gate number before is.passed is.gate) may
         (λ m. after_none stage (ToAnswer Unavailable) is.passed is.asked after (files.time is.now is.passed is.asked is.time) m
-        (λ n. one (FailsToSave job) stage (ToAnswer Unavailable) is.asked after n is.filed (refl, ap is_refusable at ∙ is.wants, refl)))
-    refused_filed number ToRemove stage before after may at is = one (FailsToSave job) stage (ToAnswer Unavailable) before after may is.1 (refl, ap is_refusable at, refl)
+        (λ n. one_refusal (Wrote (commit_of t)) [] stage is.asked after n is.filed (λ slot. (count, (t, (at, is.wants, refl))))))
+    refused_filed number ToRemove stage before after may at is = one_refusal Removed [] stage before after may is.1 (λ slot. at)
     refused_filed number other stage before after may at is = absurd is
 
     call_filed : (number : ℕ) (call : Call) (stage : Stage) (before after : TrackedLog) → MayWork first_job before → stage ≡ called_at call → IsCallOf w number job call before after → Files stage (next_stage call) before after
@@ -103,13 +122,16 @@ module _ (first_job : ℕ) (job : Job) where
     call_filed number (Commits count t committed) stage before after may at is =
         after_none stage (next_stage (Commits count t committed)) before is.passed after (files.gate number before is.passed is.gate) may
         (λ m. after_none stage (next_stage (Commits count t committed)) is.passed is.asked after (files.time is.now is.passed is.asked is.time) m
-        (λ n. one (Logged (CommitsRun is.now (run_of t) t committed)) stage (next_stage (Commits count t committed)) is.asked after n
+        (λ n. one_change (Logged (CommitsRun is.now (run_of t) t committed)) stage (next_stage (Commits count t committed)) is.asked after n
         (files.logged (CommitsRun is.now (run_of t) t committed) is.asked after is.commits) (refl, (count, at, refl))))
-    call_filed number (Installs p initial answer) stage before after may at is = one (Logged (InstallsProgram job p answer)) stage (next_stage (Installs p initial answer)) before after may
+    call_filed number (Installs p initial answer) stage before after may at is = one_change (Logged (InstallsProgram job p answer)) stage (next_stage (Installs p initial answer)) before after may
         (files.logged (InstallsProgram job p answer) before after is.3) (refl, is.0, is.1, at, refl)
     call_filed number (Rejects content) stage before after may at is = one (RejectsImage job content) stage (next_stage (Rejects content)) before after may is.1 (refl, is.0, at, refl)
-    call_filed number Refuses stage before after may at is = one (RefusesInstall job) stage (next_stage Refuses) before after may is.1 (refl, at, refl)
-    call_filed number (Removes removal) stage before after may at is = one (Logged (RemovesProgram job removal)) stage (next_stage (Removes removal)) before after may
+    call_filed number Refuses stage before after may at is = ⊎_elim
+        (λ r. one (RefusesInstall job) stage (next_stage Refuses) before after may r.1 (refl, at, refl))
+        (λ r. one_refusal (Installed r.0 (initial_vars_of job.ask)) (image_of job.ask) stage before after may r.1.2 (λ slot. (at, refl)))
+        is
+    call_filed number (Removes removal) stage before after may at is = one_change (Logged (RemovesProgram job removal)) stage (next_stage (Removes removal)) before after may
         (files.logged (RemovesProgram job removal) before after is.0) (refl, at, refl)
     call_filed number (Describes receipt) stage before after may at is = one (Logged (TellsReceipt job receipt)) stage (next_stage (Describes receipt)) before after may
         (files.logged (TellsReceipt job receipt) before after is.0) (refl, inl (at, refl))

@@ -6,7 +6,7 @@ use Rattle.fc_book.specs.Tracks.{first_own}
 use Rattle.fc_observe.specs.declared.observers.Ticked.{Ticked}
 use Rattle.fc_registry.specs.declared.job.Job.{Job}
 use Rattle.fc_core.specs.Timers.{timer_job}
-use Rattle.fc_core.specs.declared.front.Delivered.{Delivered}
+use Rattle.fc_core.specs.declared.by_value.Delivered.{Delivered}
 use Rattle.fc_calls.specs.Logged.{AdvancesFront, AdvancesIdle, AdvancesShard, FiresTimer, GivesReadings, GivesTurn, HandlesDatagram, HandsSignal, ReadsCost, SkipsIdle}
 use Rattle.fc_linear.specs.Operations.{Logged, job_in}
 use Rattle.fc_workers.specs.Asked.{shard_called}

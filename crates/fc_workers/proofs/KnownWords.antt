@@ -1,17 +1,19 @@
 -- The head words that a worker knows: after a look, after a raise, and after any logged call.
+use Rattle.std.specs.Prelude.{None, Option}
 use Rattle.std.proofs.Common.{◌≡◌, ◌∙◌, ℕ, ◌≤◌, Bool, true, if◌then◌else◌, max, ap, subst, sym, arith}
 use Rattle.std.specs.Prelude.{◌==◌}
 use Rattle.std.proofs.lemmas.Bool.Decides.{nat_tests}
 use Rattle.fc_book.specs.declared.view.BookView.{BookView}
 use Rattle.fc_book.specs.Tracks.{HasKey}
 use Rattle.fc_filed.specs.declared.entry.FiledEntry.{FiledEntry}
-use Rattle.fc_filed.specs.Threads.{did_by, entry_by, known_word, word_in}
+use Rattle.fc_store.specs.Recovery.{Save}
+use Rattle.fc_filed.specs.Threads.{did_by, entry_by, entry_with, known_word, word_in}
 use Rattle.fc_filed.proofs.Known.{known_filed, known_more}
 use Rattle.fc_calls.specs.Logged.{LoggedCall, HandlesDatagram, AdvancesFront, FiresTimer, DrawsId, AnswersRequest, TellsReceipt, GivesReadings, ReadsCost, LooksAt, RaisesWord}
 use Rattle.fc_calls.specs.Logged.{TakesForJob, CommitsRun, InstallsProgram, RemovesProgram, HandsSignal, AdvancesIdle, SkipsIdle, AdvancesShard, GivesTurn, NotesTurn, GivesUpTurn}
 use Rattle.fc_linear.specs.Operations.{Logged, Operation}
 use Rattle.fc_workers.specs.Asked.{shard_called}
-use Rattle.fc_workers.specs.Filed.{HasFiled, HasSameTracks, IsFiledCall}
+use Rattle.fc_workers.specs.Filed.{HasFiled, HasFiledWith, HasSameTracks, IsFiledCall}
 use Rattle.fc_workers.specs.Logs.{TrackedLog}
 
 same_slot : (slot : ℕ) → (slot == slot) ≡ true
@@ -35,9 +37,12 @@ module _ (slot : ℕ) where
   abbrev KnowsNoLess : TrackedLog → TrackedLog → Type 0
   KnowsNoLess before after = known_word slot before.tracks.own ≤ known_word slot after.tracks.own
 
+  filed_with : (save : Option Save) (operation : Operation) (before after : TrackedLog) → HasFiledWith save operation before after → KnowsNoLess before after
+  filed_with save operation before after is = subst (λ (v : BookView FiledEntry). known_word slot before.tracks.own ≤ known_word slot v.own) (sym is.tracks)
+      (known_more slot (entry_with save before.who before.tracks operation) before.tracks.own).0
+
   filed : (operation : Operation) (before after : TrackedLog) → HasFiled operation before after → KnowsNoLess before after
-  filed operation before after is = subst (λ (v : BookView FiledEntry). known_word slot before.tracks.own ≤ known_word slot v.own) (sym is.tracks)
-      (known_more slot (entry_by before.who before.tracks operation) before.tracks.own).0
+  filed operation before after is = filed_with None operation before after is
 
   unfiled : (before after : TrackedLog) → HasSameTracks before after → KnowsNoLess before after
   unfiled before after is = subst (λ (v : BookView FiledEntry). known_word slot before.tracks.own ≤ known_word slot v.own) (sym is.tracks) (omega arith)
@@ -53,9 +58,9 @@ module _ (slot : ℕ) where
   knows_still (ReadsCost n cost) before after d = filed (Logged (ReadsCost n cost)) before after d
   knows_still (LooksAt n word) before after d = filed (Logged (LooksAt n word)) before after d
   knows_still (TakesForJob job readings taken) before after d = filed (Logged (TakesForJob job readings taken)) before after d
-  knows_still (CommitsRun now ran ticket committed) before after d = filed (Logged (CommitsRun now ran ticket committed)) before after d
-  knows_still (InstallsProgram job program made) before after d = filed (Logged (InstallsProgram job program made)) before after d
-  knows_still (RemovesProgram job removal) before after d = filed (Logged (RemovesProgram job removal)) before after d
+  knows_still (CommitsRun now ran ticket committed) before after d = filed_with d.0 (Logged (CommitsRun now ran ticket committed)) before after d.1
+  knows_still (InstallsProgram job program made) before after d = filed_with d.0 (Logged (InstallsProgram job program made)) before after d.1
+  knows_still (RemovesProgram job removal) before after d = filed_with d.0 (Logged (RemovesProgram job removal)) before after d.1
   knows_still (HandsSignal shard from id reset) before after d = filed (Logged (HandsSignal (shard_called shard) from id reset)) before after d
   knows_still (AdvancesIdle shard now) before after d = filed (Logged (AdvancesIdle (shard_called shard) now)) before after d
   knows_still (SkipsIdle shard now) before after d = filed (Logged (SkipsIdle (shard_called shard) now)) before after d

@@ -104,6 +104,7 @@ module _ (first : ℕ) where
       job = from.0;
       none = keyed.0.none;
       of_server = keyed.0.of_server;
+      saved = keyed.0.saved;
     },
     keyed_from n above es from.1 keyed.1,
   )
@@ -152,7 +153,7 @@ module _ (first d : ℕ) where
 
 module _ (begin : ServerState) (logs : List TrackedLog) (closed : ClosedServer) (first : ℕ) (o : HaveOneOrder begin logs closed) (r : HaveRightTracks first logs) where
   abbrev base : ℕ
-  base = 9 + length logs
+  base = 10 + length logs
 
   abbrev IsOn : TrackedLog → Type 0
   IsOn log = AreOn entry_keys o.calls log.tracks.own

@@ -1,5 +1,5 @@
 -- The tracks of all threads of a closed server are one order of their calls.
-use Rattle.std.proofs.Common.{◌≡◌, ◌≢◌, ℕ, zero, suc, ◌+◌, ◌<◌, ◌≤◌, List, [], ◌∷◌, add-zero, length, map, refl, sym, ◌∙◌, subst, ⊎_elim, inl, inr, arith, zero-add}
+use Rattle.std.proofs.Common.{◌≡◌, ◌≢◌, ℕ, Bool, zero, suc, ◌+◌, ◌<◌, ◌≤◌, List, [], ◌∷◌, add-zero, length, map, refl, sym, ◌∙◌, subst, ⊎_elim, inl, inr, arith, zero-add}
 use Rattle.std.specs.Prelude.{slice_index_or}
 use Rattle.std.specs.List.{All, Any}
 use Rattle.std.proofs.lemmas.List.{length-map}
@@ -14,16 +14,20 @@ use Rattle.fc_core.specs.Exchanges.{FrontState}
 use Rattle.fc_registry.specs.Shards.{shard_at}
 use Rattle.fc_registry.specs.Slots.{Shard}
 use Rattle.fc_server.specs.States.{ServerState}
-use Rattle.fc_linear.specs.Operations.{FrontDoes, Operation, ShardDoes}
+use Rattle.fc_store.specs.declared.store.Store.{Ghosts}
+use Rattle.fc_store.specs.Stored.{StoredSlots}
+use Rattle.fc_linear.specs.Operations.{FrontDoes}
 use Rattle.fc_filed.specs.declared.entry.FiledEntry.{FiledEntry}
 use Rattle.fc_filed.specs.Books.{HasServerHistory, IsRightForJob}
-use Rattle.fc_filed.specs.Entries.{AreKeyed, IsKeyed, OperationsLead, entries_by, entry_keys}
+use Rattle.fc_filed.specs.Entries.{AreKeyed, EntriesLead, IsKeyed, OperationsLead, entries_by, entry_keys, shard_entries}
+use Rattle.fc_filed.specs.Saves.{IsOpened, ShardSteps, StoreSteps}
 use Rattle.fc_filed.specs.Threads.{HasOwnTrack}
 use Rattle.fc_filed.specs.Tracked.{IsPartClosed}
-use Rattle.fc_filed.proofs.ByThread.{all_keyed, front_track, shard_track, thread_track}
+use Rattle.fc_filed.proofs.ByThread.{all_keyed, front_track, shard_track, store_track, thread_track}
+use Rattle.fc_filed.proofs.Shards.{shard_led}
 use Rattle.fc_workers.specs.declared.closed.ClosedServer.{ClosedServer}
 use Rattle.fc_workers.specs.Logs.{TrackedLog}
-use Rattle.fc_workers.specs.OneOrder.{HasTracksOf, HaveOneOrder, filed_in}
+use Rattle.fc_workers.specs.OneOrder.{HasTracksOf, HaveSavedOneOrder, filed_in}
 use Rattle.fc_workers.proofs.Merged.{tracks_in}
 
 abbrev threads_of : List TrackedLog → List ℕ
@@ -33,35 +37,38 @@ threads_of logs = map (λ (log : TrackedLog). log.who) logs
 
 -- a closed part's track is that of its entries in the list, which led the part.
 module _ (calls : List FiledEntry) where
-  part_led : {S : Type 0} (Does : Operation → S → S → Type 0) (k : ℕ) (x y : S) (v w : BookView FiledEntry) → IsPartClosed Does k x y v w → AreOn entry_keys calls w.own
-      → OperationsLead Does (on entry_keys k calls) x y × AreOn entry_keys calls v.own
-  part_led Does k x y v w c a =
+  part_led : {S : Type 0} (Lead : List FiledEntry → S → S → Type 0) (k : ℕ) (x y : S) (v w : BookView FiledEntry) → IsPartClosed Lead k x y v w → AreOn entry_keys calls w.own
+      → Lead (on entry_keys k calls) x y × AreOn entry_keys calls v.own
+  part_led Lead k x y v w c a =
       let b = subst (λ (u : BookView FiledEntry). AreOn entry_keys calls u.own) c.closed a in
-      (subst (λ (es : List FiledEntry). OperationsLead Does es x y) b.0 c.led, b.1)
+      (subst (λ (es : List FiledEntry). Lead es x y) b.0 c.led, b.1)
 
-part_apart : {S : Type 0} (Does : Operation → S → S → Type 0) (k : ℕ) (x y : S) (v w : BookView FiledEntry) → IsPartClosed Does k x y v w → AreSingle w.own → AreSingle v.own
-part_apart Does k x y v w c a = let b = subst (λ (u : BookView FiledEntry). AreSingle u.own) c.closed a in b.1
+part_apart : {S : Type 0} (Lead : List FiledEntry → S → S → Type 0) (k : ℕ) (x y : S) (v w : BookView FiledEntry) → IsPartClosed Lead k x y v w → AreSingle w.own → AreSingle v.own
+part_apart Lead k x y v w c a = let b = subst (λ (u : BookView FiledEntry). AreSingle u.own) c.closed a in b.1
 
 -- shards are closed one after the other, from the one with this index on.
-module _ (firsts : List Shard) where
+module _ (persistent : Bool) (firsts : List Shard) where
+  abbrev Leads : List FiledEntry → Shard → Shard → Type 0
+  Leads es x y = EntriesLead (ShardSteps persistent) es x y
+
   abbrev pub AreShardsClosed : ℕ → List Shard → BookView FiledEntry → BookView FiledEntry → Type 0
   AreShardsClosed i [] v w = w ≡ v
-  AreShardsClosed i (s ∷ ss) v w = (m : BookView FiledEntry) × IsPartClosed ShardDoes (i + 1) (shard_at firsts i) s v m × AreShardsClosed (suc i) ss m w
+  AreShardsClosed i (s ∷ ss) v w = (m : BookView FiledEntry) × IsPartClosed (EntriesLead (ShardSteps persistent)) (i + 1) (shard_at firsts i) s v m × AreShardsClosed (suc i) ss m w
 
   shards_apart : (i : ℕ) (shards : List Shard) (v w : BookView FiledEntry) → AreShardsClosed i shards v w → AreSingle w.own → AreSingle v.own
   shards_apart i [] v w is a = subst (λ (u : BookView FiledEntry). AreSingle u.own) is a
-  shards_apart i (s ∷ ss) v w (m, c, rest) a = part_apart ShardDoes (i + 1) (shard_at firsts i) s v m c (shards_apart (suc i) ss m w rest a)
+  shards_apart i (s ∷ ss) v w (m, c, rest) a = part_apart Leads (i + 1) (shard_at firsts i) s v m c (shards_apart (suc i) ss m w rest a)
 
   module _ (calls : List FiledEntry) where
     abbrev IsLed : ℕ → Shard → Type 0
-    IsLed i shard = OperationsLead ShardDoes (on entry_keys (i + 1) calls) (shard_at firsts i) shard
+    IsLed i shard = Leads (on entry_keys (i + 1) calls) (shard_at firsts i) shard
 
     shards_led : (i : ℕ) (shards : List Shard) (v w : BookView FiledEntry) → AreShardsClosed i shards v w → AreOn entry_keys calls w.own
         → AreOn entry_keys calls v.own × ((j : ℕ) → j < length shards → IsLed (i + j) (shard_at shards j))
     shards_led i [] v w is a = (subst (λ (u : BookView FiledEntry). AreOn entry_keys calls u.own) is a, λ j lt. absurd (omega (arith, lt)))
     shards_led i (s ∷ ss) v w (m, c, rest) a =
         let later = shards_led (suc i) ss m w rest a in
-        let here = part_led calls ShardDoes (i + 1) (shard_at firsts i) s v m c later.0 in
+        let here = part_led calls Leads (i + 1) (shard_at firsts i) s v m c later.0 in
         (here.1, at here.0 later.1)
       where
         at : IsLed i s → ((j : ℕ) → j < length ss → IsLed (suc i + j) (shard_at ss j)) → (j : ℕ) → j < length (s ∷ ss) → IsLed (i + j) (shard_at (s ∷ ss) j)
@@ -70,20 +77,20 @@ module _ (firsts : List Shard) where
 
 -- ---- the keys of the owner's tracks
 
-key_stays : {S : Type 0} (Does : Operation → S → S → Type 0) (key j : ℕ) (x y : S) (v w : BookView FiledEntry) → IsPartClosed Does key x y v w → HasKey j v.own → HasKey j w.own
-key_stays Does key j x y v w c h = subst (λ (u : BookView FiledEntry). HasKey j u.own) (sym c.closed) (inr h)
+key_stays : {S : Type 0} (Lead : List FiledEntry → S → S → Type 0) (key j : ℕ) (x y : S) (v w : BookView FiledEntry) → IsPartClosed Lead key x y v w → HasKey j v.own → HasKey j w.own
+key_stays Lead key j x y v w c h = subst (λ (u : BookView FiledEntry). HasKey j u.own) (sym c.closed) (inr h)
 
-key_back : {S : Type 0} (Does : Operation → S → S → Type 0) (key j : ℕ) (x y : S) (v w : BookView FiledEntry) → IsPartClosed Does key x y v w → (key ≡ j → ⊥) → HasKey j w.own → HasKey j v.own
-key_back Does key j x y v w c other h = ⊎_elim (λ (e : key ≡ j). absurd (other e)) (λ (z : HasKey j v.own). z) (subst (λ (u : BookView FiledEntry). HasKey j u.own) c.closed h)
+key_back : {S : Type 0} (Lead : List FiledEntry → S → S → Type 0) (key j : ℕ) (x y : S) (v w : BookView FiledEntry) → IsPartClosed Lead key x y v w → (key ≡ j → ⊥) → HasKey j w.own → HasKey j v.own
+key_back Lead key j x y v w c other h = ⊎_elim (λ (e : key ≡ j). absurd (other e)) (λ (z : HasKey j v.own). z) (subst (λ (u : BookView FiledEntry). HasKey j u.own) c.closed h)
 
-module _ (firsts : List Shard) (j : ℕ) where
-  keys_stay : (i : ℕ) (shards : List Shard) (v w : BookView FiledEntry) → AreShardsClosed firsts i shards v w → HasKey j v.own → HasKey j w.own
+module _ (persistent : Bool) (firsts : List Shard) (j : ℕ) where
+  keys_stay : (i : ℕ) (shards : List Shard) (v w : BookView FiledEntry) → AreShardsClosed persistent firsts i shards v w → HasKey j v.own → HasKey j w.own
   keys_stay i [] v w is h = subst (λ (u : BookView FiledEntry). HasKey j u.own) (sym is) h
-  keys_stay i (s ∷ ss) v w (m, c, rest) h = keys_stay (suc i) ss m w rest (key_stays ShardDoes (i + 1) j (shard_at firsts i) s v m c h)
+  keys_stay i (s ∷ ss) v w (m, c, rest) h = keys_stay (suc i) ss m w rest (key_stays (Leads persistent firsts) (i + 1) j (shard_at firsts i) s v m c h)
 
-  keys_back : (i : ℕ) (shards : List Shard) (v w : BookView FiledEntry) → AreShardsClosed firsts i shards v w → i + length shards < j → HasKey j w.own → HasKey j v.own
+  keys_back : (i : ℕ) (shards : List Shard) (v w : BookView FiledEntry) → AreShardsClosed persistent firsts i shards v w → i + length shards < j → HasKey j w.own → HasKey j v.own
   keys_back i [] v w is lt h = subst (λ (u : BookView FiledEntry). HasKey j u.own) is h
-  keys_back i (s ∷ ss) v w (m, c, rest) lt h = key_back ShardDoes (i + 1) j (shard_at firsts i) s v m c (λ e. absurd (omega (arith, e, lt))) (keys_back (suc i) ss m w rest (omega (arith, lt)) h)
+  keys_back i (s ∷ ss) v w (m, c, rest) lt h = key_back (Leads persistent firsts) (i + 1) j (shard_at firsts i) s v m c (λ e. absurd (omega (arith, e, lt))) (keys_back (suc i) ss m w rest (omega (arith, lt)) h)
 
 -- ---- the threads
 
@@ -120,7 +127,7 @@ module _ (first_job : ℕ) where
         apart ls rest (single_rest l.tracks.own (tracks_in ls) s),
       )
 
-  between : (logs : List TrackedLog) → All HasOwn logs → AreBetween 9 first_job (threads_of logs)
+  between : (logs : List TrackedLog) → All HasOwn logs → AreBetween 10 first_job (threads_of logs)
   between [] own = tt
   between (l ∷ ls) own = let key = (All-head HasOwn l ls own).key in (key.0, key.1, between ls (All-tail HasOwn l ls own))
 
@@ -135,10 +142,10 @@ module _ (first_job : ℕ) where
       (entries_at_key entry_keys l.who calls l.tracks.own both.0 here.own ∙ thread_track first_job l.who calls here.key.0 here.key.1 keyed)
       (own_calls calls ls keyed (All-tail HasOwn l ls own) both.1)
 
-  by_threads : (calls : List FiledEntry) (logs : List TrackedLog) → AreKeyed first_job calls → All HasOwn logs → AreApart (threads_of logs) → 9 + length logs ≡ first_job → All (λ (e : FiledEntry). Any (λ (log : TrackedLog). log.who ≡ e.who) logs) calls
+  by_threads : (calls : List FiledEntry) (logs : List TrackedLog) → AreKeyed first_job calls → All HasOwn logs → AreApart (threads_of logs) → 10 + length logs ≡ first_job → All (λ (e : FiledEntry). Any (λ (log : TrackedLog). log.who ≡ e.who) logs) calls
   by_threads calls logs keyed own single count =
       All-weaker (λ (e : FiledEntry). IsKeyed first_job e) (λ (e : FiledEntry). Any (λ (log : TrackedLog). log.who ≡ e.who) logs)
-      (λ e k. any_log e.who logs (all_among 9 first_job (threads_of logs) e.who (between logs own) single (omega (arith, count, length-map logs (λ (log : TrackedLog). log.who))) k.who.0 k.who.1))
+      (λ e k. any_log e.who logs (all_among 10 first_job (threads_of logs) e.who (between logs own) single (omega (arith, count, length-map logs (λ (log : TrackedLog). log.who))) k.who.0 k.who.1))
       calls (all_keyed first_job calls keyed)
 
   -- ---- the tracks of jobs
@@ -156,31 +163,50 @@ module _ (first_job : ℕ) where
       (λ (x : HasKey k (tracks_in ls)). none_in k ls (All-tail (λ (log : TrackedLog). HasKey k log.tracks.own → ⊥) l ls none) x)
       (has-append k l.tracks.own (tracks_in ls) h)
 
-  lost_right : (logs : List TrackedLog) (v m w : BookView FiledEntry) (closed : ClosedServer) (begin : ServerState) (x y : FrontState) (firsts : List Shard) → HasTracksOf first_job logs v → AreApart (threads_of logs) → 9 + length logs ≡ first_job
-      → IsPartClosed FrontDoes 0 x y v m → AreShardsClosed firsts 0 closed.shards m w → length closed.shards ≡ 8 → (h : HasServerHistory first_job begin w)
-      → (k : ℕ) → first_job ≤ k → All (λ (log : TrackedLog). HasKey k log.tracks.own → ⊥) logs → IsRightForJob first_job (on entry_keys k h.log)
-  lost_right logs v m w closed begin x y firsts has single count front shards eight h k le none = h.sent threads k le lacks
-    where
-      threads : (t : ℕ) → 9 ≤ t → t < first_job → HasKey t w.own
-      threads t low high = keys_stay firsts t 0 closed.shards m w shards (key_stays FrontDoes 0 t x y v m front
-          (subst (λ (ts : List (Track FiledEntry)). HasKey t ts) (sym has.tracks) (key_in t logs has.threads (all_among 9 first_job (threads_of logs) t (between logs has.threads) single (omega (arith, count, length-map logs (λ (log : TrackedLog). log.who))) low high))))
+  -- ---- the store
 
-      lacks : HasKey k w.own → ⊥
-      lacks has_it = none_in k logs none (subst (λ (ts : List (Track FiledEntry)). HasKey k ts) has.tracks
-          (key_back FrontDoes 0 k x y v m front (λ e. absurd (omega (arith, e, le, count))) (keys_back firsts k 0 closed.shards m w shards (omega (arith, le, count, eight)) has_it)))
+  module _ {S : Type 0} (g : Ghosts S) (persistent : Bool) (same : persistent ≡ g.persistent) (begin : ServerState) (stored : StoredSlots) (logs : List TrackedLog) (v m w z : BookView FiledEntry) (closed : ClosedServer) (opened last : S)
+      (has : HasTracksOf first_job logs v) (count : 10 + length logs ≡ first_job) (front : IsPartClosed (OperationsLead FrontDoes) 0 begin.front closed.front v m) (shards : AreShardsClosed persistent begin.shards 0 closed.shards m w) (eight : length closed.shards ≡ 8)
+      (ready : IsOpened g opened) (begins : g.stored opened ≡ stored) (store : IsPartClosed (EntriesLead (StoreSteps g)) 9 opened last w z) (h : HasServerHistory first_job begin z) where
+    -- each part's track in the history, and those of the threads.
+    kept : EntriesLead (StoreSteps g) (on entry_keys 9 h.log) opened last × AreOn entry_keys h.log w.own
+    kept = part_led h.log (EntriesLead (StoreSteps g)) 9 opened last w z store h.is.own
 
-  pub one_order : (begin : ServerState) (logs : List TrackedLog) (v m w : BookView FiledEntry) (closed : ClosedServer) → HasTracksOf first_job logs v → 9 + length logs ≡ first_job
-      → IsPartClosed FrontDoes 0 begin.front closed.front v m → AreShardsClosed begin.shards 0 closed.shards m w → length closed.shards ≡ 8
-      → HasServerHistory first_job begin w → HaveOneOrder begin logs closed
-  one_order begin logs v m w closed has count front shards eight h =
-      let firsts = begin.shards in
-      let each = shards_led firsts h.log 0 closed.shards m w shards h.is.own in
-      let first = part_led h.log FrontDoes 0 begin.front closed.front v m front each.0 in
-      let on_logs : AreOn entry_keys h.log (tracks_in logs) = subst (λ ts. AreOn entry_keys h.log ts) has.tracks first.1 in
-      let alone = part_apart FrontDoes 0 begin.front closed.front v m front (shards_apart firsts 0 closed.shards m w shards h.is.single) in
-      let single : AreSingle (tracks_in logs) = subst (λ (ts : List (Track FiledEntry)). AreSingle ts) has.tracks alone in
-      let threads : AreApart (threads_of logs) = apart logs has.threads single in
-      record {
+    each : AreOn entry_keys h.log m.own × ((j : ℕ) → j < length closed.shards → IsLed persistent begin.shards h.log (0 + j) (shard_at closed.shards j))
+    each = shards_led persistent begin.shards h.log 0 closed.shards m w shards kept.1
+
+    first : OperationsLead FrontDoes (on entry_keys 0 h.log) begin.front closed.front × AreOn entry_keys h.log v.own
+    first = part_led h.log (OperationsLead FrontDoes) 0 begin.front closed.front v m front each.0
+
+    on_logs : AreOn entry_keys h.log (tracks_in logs)
+    on_logs = subst (λ ts. AreOn entry_keys h.log ts) has.tracks first.1
+
+    alone : AreSingle v.own
+    alone = part_apart (OperationsLead FrontDoes) 0 begin.front closed.front v m front (shards_apart persistent begin.shards 0 closed.shards m w shards (part_apart (EntriesLead (StoreSteps g)) 9 opened last w z store h.is.single))
+
+    threads : AreApart (threads_of logs)
+    threads = apart logs has.threads (subst (λ (ts : List (Track FiledEntry)). AreSingle ts) has.tracks alone)
+
+    -- the owner has the tracks of all threads, and each job's track of a log.
+    owned : (t : ℕ) → 10 ≤ t → t < first_job → HasKey t z.own
+    owned t low high = key_stays (EntriesLead (StoreSteps g)) 9 t opened last w z store (keys_stay persistent begin.shards t 0 closed.shards m w shards (key_stays (OperationsLead FrontDoes) 0 t begin.front closed.front v m front
+        (subst (λ (ts : List (Track FiledEntry)). HasKey t ts) (sym has.tracks) (key_in t logs has.threads (all_among 10 first_job (threads_of logs) t (between logs has.threads) threads (omega (arith, count, length-map logs (λ (log : TrackedLog). log.who))) low high)))))
+
+    lost_right : (k : ℕ) → first_job ≤ k → All (λ (log : TrackedLog). HasKey k log.tracks.own → ⊥) logs → IsRightForJob first_job (on entry_keys k h.log)
+    lost_right k le none = h.sent owned k le lacks
+      where
+        lacks : HasKey k z.own → ⊥
+        lacks has_it = none_in k logs none (subst (λ (ts : List (Track FiledEntry)). HasKey k ts) has.tracks
+            (key_back (OperationsLead FrontDoes) 0 k begin.front closed.front v m front (λ e. absurd (omega (arith, e, le, count))) (keys_back persistent begin.shards k 0 closed.shards m w shards (omega (arith, le, count, eight))
+            (key_back (EntriesLead (StoreSteps g)) 9 k opened last w z store (λ e. absurd (omega (arith, e, le, count))) has_it))))
+
+    led : (i : ℕ) → i < 8 → EntriesLead (ShardSteps persistent) (shard_entries i h.log) (shard_at begin.shards i) (shard_at closed.shards i)
+    led i lt = subst (λ (es : List FiledEntry). EntriesLead (ShardSteps persistent) es (shard_at begin.shards i) (shard_at closed.shards i)) (shard_track first_job i lt h.log h.keyed)
+        (subst (λ (k : ℕ). IsLed persistent begin.shards h.log k (shard_at closed.shards i)) (zero-add i) (each.1 i (omega (arith, lt, eight))))
+
+    pub one_order : HaveSavedOneOrder g begin stored logs closed
+    one_order = record {
+      order = record {
         calls = h.log;
         tracks = All-weaker HasOwn (λ (log : TrackedLog). HasKey log.who log.tracks.own) (λ log o. o.own) logs has.threads;
         own = own_calls h.log logs h.keyed has.threads on_logs;
@@ -188,12 +214,19 @@ module _ (first_job : ℕ) where
         callers = by_threads h.log logs h.keyed has.threads threads count;
         keyed = subst (λ (n : ℕ). AreKeyed n h.log) (sym count) h.keyed;
         tracks_on = on_each h.log logs on_logs;
-        lost = λ k le none. subst (λ (n : ℕ). IsRightForJob n (on entry_keys k h.log)) (sym count)
-            (lost_right logs v m w closed begin begin.front closed.front firsts has threads count front shards eight h k (omega (arith, le, count)) none);
+        lost = λ k le none. subst (λ (n : ℕ). IsRightForJob n (on entry_keys k h.log)) (sym count) (lost_right k (omega (arith, le, count)) none);
         front_led = subst (λ (es : List FiledEntry). OperationsLead FrontDoes es begin.front closed.front) (front_track first_job h.log h.keyed) first.0;
         words = h.words;
         heads_led = h.heads;
         skips = h.skips;
-        shards_led = λ i lt. subst (λ (es : List FiledEntry). OperationsLead ShardDoes es (shard_at firsts i) (shard_at closed.shards i)) (shard_track first_job i lt h.log h.keyed)
-            (subst (λ (k : ℕ). IsLed firsts h.log k (shard_at closed.shards i)) (zero-add i) (each.1 i (omega (arith, lt, eight))));
-      }
+        shards_led = λ i lt. shard_led persistent (shard_entries i h.log) (shard_at begin.shards i) (shard_at closed.shards i) (led i lt);
+      };
+      saved = record {
+        before = opened;
+        opened = ready;
+        begins = begins;
+        after = last;
+        store_led = subst (λ (es : List FiledEntry). EntriesLead (StoreSteps g) es opened last) (store_track first_job h.log h.keyed) kept.0;
+        shards_led = λ i lt. subst (λ (b : Bool). EntriesLead (ShardSteps b) (shard_entries i h.log) (shard_at begin.shards i) (shard_at closed.shards i)) same (led i lt);
+      };
+    }

@@ -1,19 +1,21 @@
 -- The tracks of a pool's workers and of its dispatcher are right, so their one order is a legal
--- history.
+-- history, with the saves of its store.
 use Rattle.std.proofs.Common.{◌≡◌, ◌∙◌, ℕ, ◌+◌, ◌<◌, List, [], ◌∷◌, ◌++◌, length, map, refl, sym, subst, arith, length-append}
 use Rattle.std.specs.Prelude.{slice_index_or}
 use Rattle.std.specs.List.{All}
 use Rattle.std.proofs.lemmas.List.Elements.{All-map, All-push, All-weaker}
 use Rattle.fc_server.specs.States.{ServerState}
+use Rattle.fc_store.specs.Stored.{StoredSlots}
+use Rattle.fc_store.specs.declared.store.Store.{Ghosts}
 use Rattle.fc_linear.specs.Operations.{LogEntry}
 use Rattle.fc_linear.specs.Parts.{HaveNextNumbers}
 use Rattle.fc_workers.specs.declared.closed.ClosedServer.{ClosedServer}
 use Rattle.fc_workers.specs.Called.{WorkerView}
 use Rattle.fc_workers.specs.Filed.{FilesCalls, HasRightJobs}
-use Rattle.fc_workers.specs.LegalOrder.{BringsInOrder, FilesFrom, HaveLegalOrder, HaveRightTracks, brought_in}
+use Rattle.fc_workers.specs.LegalOrder.{BringsInOrder, FilesFrom, HaveLegalOrder, HaveRightTracks, HaveSavedLegalOrder, brought_in}
 use Rattle.fc_workers.specs.Logs.{TrackedLog}
 use Rattle.fc_workers.specs.Messages.{first_brought}
-use Rattle.fc_workers.specs.OneOrder.{HaveOneOrder, IsNewLog, logs_of}
+use Rattle.fc_workers.specs.OneOrder.{HaveOneOrder, HaveSavedOneOrder, IsNewLog, logs_of}
 use Rattle.fc_workers.specs.Producing.{HasRightOrder, IsRightWorker}
 use Rattle.fc_workers.specs.Shares.{AreSharesOf, IsShareOf, new_share}
 use Rattle.fc_workers.specs.Workers.{Share, WorkerSeed}
@@ -65,7 +67,7 @@ module _ {T : Type 0} (shares : List (Share T)) (own : Share T) where
   logs = logs_of shares own
 
   abbrev first_job : ℕ
-  first_job = 9 + length logs
+  first_job = 10 + length logs
 
   -- what holds of the workers' logs and of the dispatcher's holds of all.
   pub of_all : (P : TrackedLog → Type 0) → All (λ (s : Share T). P s.log) shares → P own.log → All P logs
@@ -94,13 +96,24 @@ module _ {T : Type 0} (shares : List (Share T)) (own : Share T) where
     }
 
 -- the one order of a pool's calls is a legal history.
-pub pool_is_legal : {T : Type 0} (begin : ServerState) (closed : ClosedServer) (shares : List (Share T)) (own : Share T) (first_job : ℕ) → 9 + length (logs_of shares own) ≡ first_job
+pub pool_is_legal : {T : Type 0} (begin : ServerState) (closed : ClosedServer) (shares : List (Share T)) (own : Share T) (first_job : ℕ) → 10 + length (logs_of shares own) ≡ first_job
     → All (λ (s : Share T). IsRightWorker first_job s.log) shares → HasRightOrder first_job own.log → HaveOneOrder begin (logs_of shares own) closed
     → HaveLegalOrder begin (logs_of shares own) closed
 pool_is_legal {T} begin closed shares own first_job count right order one =
     let tracks = have_right shares own (subst (λ (n : ℕ). All (λ (s : Share T). IsRightWorker n s.log) shares) (sym count) right) (subst (λ (n : ℕ). HasRightOrder n own.log) (sym count) order) in
     record {
       order = one;
-      right = order_is_right begin (logs_of shares own) closed (first_brought (9 + length (logs_of shares own))) one tracks;
-      history = order_is_legal begin (logs_of shares own) closed (first_brought (9 + length (logs_of shares own))) one tracks;
+      right = order_is_right begin (logs_of shares own) closed (first_brought (10 + length (logs_of shares own))) one tracks;
+      history = order_is_legal begin (logs_of shares own) closed (first_brought (10 + length (logs_of shares own))) one tracks;
+    }
+
+-- the saves of the server's store have their place in the pool's legal order.
+pub pool_is_saved : {T S : Type 0} (g : Ghosts S) (begin : ServerState) (stored : StoredSlots) (closed : ClosedServer) (shares : List (Share T)) (own : Share T) (first_job : ℕ) → 10 + length (logs_of shares own) ≡ first_job
+    → All (λ (s : Share T). IsRightWorker first_job s.log) shares → HasRightOrder first_job own.log → HaveSavedOneOrder g begin stored (logs_of shares own) closed
+    → HaveSavedLegalOrder g begin stored (logs_of shares own) closed
+unfolding pool_is_legal
+pool_is_saved g begin stored closed shares own first_job count right order one =
+    record {
+      legal = pool_is_legal begin closed shares own first_job count right order one.order;
+      saved = one.saved;
     }

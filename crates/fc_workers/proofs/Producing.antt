@@ -83,17 +83,17 @@ module _ (first_job : ℕ) (operation : Operation) (before after : TrackedLog) (
   part_low = part_below (part_of operation) before.who first_job (low_of operation of_server) own.key.0 own.key.1
 
   on_own : is_on entry_keys before.who entry ≡ true
-  on_own = on_second (part_key before.who (part_of operation)) before.who entry.job before.who refl
+  on_own = on_second (part_key before.who (part_of operation)) (part_key before.who (part_of operation)) before.who entry.job before.who refl
 
   off : (k : ℕ) → first_job ≤ k → (entry.job ≡ k → ⊥) → is_on entry_keys k entry ≡ false
   off k le other =
       let part = part_low in
       let low = own.key.1 in
-      is_off entry_keys k entry (λ p. absurd (omega (arith, p, part, le))) (λ p. absurd (omega (arith, p, low, le))) other
+      is_off entry_keys k entry (λ p. absurd (omega (arith, p, part, le))) (λ p. absurd (omega (arith, p, part, le))) (λ p. absurd (omega (arith, p, low, le))) other
 
   own_after : HasOwnTrack first_job after.who after.tracks
   own_after = record {
-    key = subst (λ (n : ℕ). (9 ≤ n) × (n < first_job)) (sym filed.who) own.key;
+    key = subst (λ (n : ℕ). (10 ≤ n) × (n < first_job)) (sym filed.who) own.key;
     own = subst (λ (n : ℕ). HasKey n after.tracks.own) (sym filed.who)
         (subst (λ (ts : List (Track FiledEntry)). HasKey before.who ts) (sym tracks_are) (keeps-key entry_keys before.who entry before.tracks.own own.own));
   }
@@ -161,7 +161,7 @@ module _ (first_job : ℕ) (operation : Operation) (before after : TrackedLog) (
 
     entries_are : entries_of after.tracks.own ≡ entry ∷ []
     entries_are = ap entries_of tracks_are
-        ∙ (first_grows entry before.tracks.own before.who own.own (on_third (part_key before.who (part_of operation)) before.who entry.job (key_of_first before.tracks.own) job_is)
+        ∙ (first_grows entry before.tracks.own before.who own.own (on_third (part_key before.who (part_of operation)) (part_key before.who (part_of operation)) before.who entry.job (key_of_first before.tracks.own) job_is)
         ∙ ap (λ (es : List FiledEntry). es ++ entry ∷ []) may.empty)
 
     led : HasLedJob job (first_stage job) (entries_of after.tracks.own)

@@ -136,7 +136,7 @@ module _ {T : Type 0} (first_job : ℕ) (w : WorkerView T) (files : FilesCalls w
     pub worked_kept : KeepsRightJobs first_job before.log after.log
     worked_kept = record {
       who = done.0.who;
-      own = record { key = subst (λ (k : ℕ). (9 ≤ k) × (k < first_job)) (sym done.0.who) own.key; own = subst (λ (k : ℕ). HasKey k after.log.tracks.own) (sym done.0.who) (done.0.files.kept before.log.who own.own) };
+      own = record { key = subst (λ (k : ℕ). (10 ≤ k) × (k < first_job)) (sym done.0.who) own.key; own = subst (λ (k : ℕ). HasKey k after.log.tracks.own) (sym done.0.who) (done.0.files.kept before.log.who own.own) };
       kept = done.0.files.kept;
       may_begin = done.0.files.begins.0;
       right = done.2;

@@ -44,7 +44,7 @@ use Rattle.fc_workers.specs.Answers.{AreTallied, commit_overtakings, ended_by, s
 use Rattle.fc_calls.specs.Kept.{commit_changes, install_changes, removal_changes}
 use Rattle.fc_workers.specs.Logs.{TrackedLog}
 use Rattle.fc_calls.specs.Logged.{InstallsProgram, LoggedCall, LooksAt, RaisesWord, RemovesProgram, TellsReceipt}
-use Rattle.fc_linear.specs.Operations.{RefusesInstall, RejectsImage}
+use Rattle.fc_linear.specs.Operations.{RejectsImage}
 use Rattle.fc_workers.specs.Called.{WorkerView}
 use Rattle.fc_workers.specs.Filed.{HasFiled}
 use Rattle.fc_workers.specs.Steps.{AreSeen, AsksRun, Follows, IsPlainRun, IsReady, IsStep, ListsOn, Walked, taken_at}
@@ -307,12 +307,12 @@ module _ {T : Type 0} (worker_view : WorkerView T) (number : ℕ) (job : Job) wh
 
   -- if the program of the job's image isn't installed, this is a step to the answer `Unavailable`,
   -- and is counted.
-  pub refuse_step : (p : Share T) (tallies : T) (log : TrackedLog) {next : Stage} {after : Share T} → IsInstallRefused worker_view job → HasFiled (RefusesInstall job) p.log log
+  pub refuse_step : (p : Share T) (tallies : T) (log : TrackedLog) {next : Stage} {after : Share T} → IsInstallRefused worker_view job p.log log
       → AreTallied (worker_view.changes p.tallies) (worker_view.changes tallies) job.origin.slot 0 → next ≡ ToAnswer Unavailable
       → after ≡ record p { tallies = tallies; log = log; refusals = saturated (p.refusals + 1) } → IsStep worker_view number job ToInstall next p after
-  refuse_step p tallies log is filed rises e c = is_step ToInstall e c (record {
+  refuse_step p tallies log is rises e c = is_step ToInstall e c (record {
     call = Refuses;
-    is = (refl, (is, filed));
+    is = (refl, is);
     next = refl;
     follows = record { ready = tt; fewer = omega arith; few = omega arith };
     counted = record {

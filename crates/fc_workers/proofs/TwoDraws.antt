@@ -156,12 +156,12 @@ seven_and_eight policy a b front x y is also leads =
 
 pub two_ids : (policy : Policy) (serial : ℕ) (one other : TrackedLog) (j k a b : ℕ) (closed : ClosedServer)
     → HaveOneOrder (first_server (record { serial = serial; id = 7; policy = policy })) (one ∷ other ∷ []) closed
-    → front_entries (filed_in one) ≡ record { who = one.who; job = j; operation = Logged (DrawsId 0 (Some a)) } ∷ []
-    → front_entries (filed_in other) ≡ record { who = other.who; job = k; operation = Logged (DrawsId 0 (Some b)) } ∷ []
+    → front_entries (filed_in one) ≡ record { who = one.who; job = j; operation = Logged (DrawsId 0 (Some a)); save = None } ∷ []
+    → front_entries (filed_in other) ≡ record { who = other.who; job = k; operation = Logged (DrawsId 0 (Some b)); save = None } ∷ []
     → ((a ≡ 7) × (b ≡ 8)) ⊎ ((a ≡ 8) × (b ≡ 7))
 two_ids policy serial one other j k a b closed h is also =
-    let x : FiledEntry = record { who = one.who; job = j; operation = Logged (DrawsId 0 (Some a)) } in
-    let y : FiledEntry = record { who = other.who; job = k; operation = Logged (DrawsId 0 (Some b)) } in
+    let x : FiledEntry = record { who = one.who; job = j; operation = Logged (DrawsId 0 (Some a)); save = None } in
+    let y : FiledEntry = record { who = other.who; job = k; operation = Logged (DrawsId 0 (Some b)); save = None } in
     ⊎_elim
     (λ (e : front_entries h.calls ≡ x ∷ y ∷ []). inl (seven_and_eight policy a b closed.front x y refl refl (subst (λ (es : List FiledEntry). OperationsLead FrontDoes es (first_front policy 7) closed.front) e h.front_led)))
     (λ (e : front_entries h.calls ≡ y ∷ x ∷ []).

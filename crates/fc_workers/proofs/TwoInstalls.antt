@@ -15,6 +15,7 @@ use Rattle.fc_calls.specs.Doings.{InstallsTo}
 use Rattle.fc_calls.specs.Logged.{InstallsProgram}
 use Rattle.fc_server.specs.States.{ServerState, first_server, server_over}
 use Rattle.fc_linear.specs.Operations.{Logged, Operation, ShardDoes, is_shard, part_of}
+use Rattle.fc_store.specs.Recovery.{Save}
 use Rattle.fc_filed.specs.declared.entry.FiledEntry.{FiledEntry}
 use Rattle.fc_filed.specs.Entries.{OperationsLead, shard_entries}
 use Rattle.fc_workers.specs.declared.closed.ClosedServer.{ClosedServer}
@@ -73,14 +74,14 @@ module _ (first : ServerState) (m n : ℕ) (serials : HaveSerials m n (shard_at 
       (subst (λ (k : ℕ). InstallsAt k one p s (Raised a c) leads.0) slot made)
       (subst (λ (k : ℕ). InstallsAt k other q leads.0 (Raised b d) rest.0) also then)
 
-  serials_of_two : (one other : TrackedLog) (job also : Job) (p q : Program) (j k a b : ℕ) (c d : Bool) (closed : ClosedServer) → job.origin.slot ≡ 13 → also.origin.slot ≡ 13
+  serials_of_two : (one other : TrackedLog) (job also : Job) (p q : Program) (j k a b : ℕ) (c d : Bool) (v w : Option Save) (closed : ClosedServer) → job.origin.slot ≡ 13 → also.origin.slot ≡ 13
       → HaveOneOrder first (one ∷ other ∷ []) closed
-      → shard_entries 5 (filed_in one) ≡ record { who = one.who; job = j; operation = Logged (InstallsProgram job p (Raised a c)) } ∷ []
-      → shard_entries 5 (filed_in other) ≡ record { who = other.who; job = k; operation = Logged (InstallsProgram also q (Raised b d)) } ∷ []
+      → shard_entries 5 (filed_in one) ≡ record { who = one.who; job = j; operation = Logged (InstallsProgram job p (Raised a c)); save = v } ∷ []
+      → shard_entries 5 (filed_in other) ≡ record { who = other.who; job = k; operation = Logged (InstallsProgram also q (Raised b d)); save = w } ∷ []
       → ((a ≡ m) × (b ≡ n)) ⊎ ((a ≡ n) × (b ≡ m))
-  serials_of_two one other job also p q j k a b c d closed slot same h is then =
-      let x : FiledEntry = record { who = one.who; job = j; operation = Logged (InstallsProgram job p (Raised a c)) } in
-      let y : FiledEntry = record { who = other.who; job = k; operation = Logged (InstallsProgram also q (Raised b d)) } in
+  serials_of_two one other job also p q j k a b c d v w closed slot same h is then =
+      let x : FiledEntry = record { who = one.who; job = j; operation = Logged (InstallsProgram job p (Raised a c)); save = v } in
+      let y : FiledEntry = record { who = other.who; job = k; operation = Logged (InstallsProgram also q (Raised b d)); save = w } in
       let s = shard_at first.shards 5 in
       let end = shard_at closed.shards 5 in
       let led = h.shards_led 5 (lit< tt) in
@@ -92,17 +93,17 @@ module _ (first : ServerState) (m n : ℕ) (serials : HaveSerials m n (shard_at 
       inr (r.1, r.0))
       (two_orders (λ (e : FiledEntry). is_shard 5 (part_of e.operation)) first one other closed x y h is then)
 
-pub two_serials : (policy : Policy) (id : ℕ) (one other : TrackedLog) (job also : Job) (p q : Program) (j k a b : ℕ) (c d : Bool) (closed : ClosedServer) → job.origin.slot ≡ 13 → also.origin.slot ≡ 13
+pub two_serials : (policy : Policy) (id : ℕ) (one other : TrackedLog) (job also : Job) (p q : Program) (j k a b : ℕ) (c d : Bool) (v w : Option Save) (closed : ClosedServer) → job.origin.slot ≡ 13 → also.origin.slot ≡ 13
     → HaveOneOrder (first_server (record { serial = 7; id = id; policy = policy })) (one ∷ other ∷ []) closed
-    → shard_entries 5 (filed_in one) ≡ record { who = one.who; job = j; operation = Logged (InstallsProgram job p (Raised a c)) } ∷ []
-    → shard_entries 5 (filed_in other) ≡ record { who = other.who; job = k; operation = Logged (InstallsProgram also q (Raised b d)) } ∷ []
+    → shard_entries 5 (filed_in one) ≡ record { who = one.who; job = j; operation = Logged (InstallsProgram job p (Raised a c)); save = v } ∷ []
+    → shard_entries 5 (filed_in other) ≡ record { who = other.who; job = k; operation = Logged (InstallsProgram also q (Raised b d)); save = w } ∷ []
     → ((a ≡ 8) × (b ≡ 9)) ⊎ ((a ≡ 9) × (b ≡ 8))
 two_serials policy id = serials_of_two (first_server (record { serial = 7; id = id; policy = policy })) 8 9 (eight_and_nine (empty_at 7) id policy None refl)
 
 pub stored_serials : (stored : StoredSlots) (o : Option StoredProgram) (policy : Policy) (id : ℕ) → IsStoredAt 5 o stored
-    → (one other : TrackedLog) (job also : Job) (p q : Program) (j k a b : ℕ) (c d : Bool) (closed : ClosedServer) → job.origin.slot ≡ 13 → also.origin.slot ≡ 13
+    → (one other : TrackedLog) (job also : Job) (p q : Program) (j k a b : ℕ) (c d : Bool) (v w : Option Save) (closed : ClosedServer) → job.origin.slot ≡ 13 → also.origin.slot ≡ 13
     → HaveOneOrder (server_over stored id policy) (one ∷ other ∷ []) closed
-    → shard_entries 5 (filed_in one) ≡ record { who = one.who; job = j; operation = Logged (InstallsProgram job p (Raised a c)) } ∷ []
-    → shard_entries 5 (filed_in other) ≡ record { who = other.who; job = k; operation = Logged (InstallsProgram also q (Raised b d)) } ∷ []
+    → shard_entries 5 (filed_in one) ≡ record { who = one.who; job = j; operation = Logged (InstallsProgram job p (Raised a c)); save = v } ∷ []
+    → shard_entries 5 (filed_in other) ≡ record { who = other.who; job = k; operation = Logged (InstallsProgram also q (Raised b d)); save = w } ∷ []
     → ((a ≡ 6) × (b ≡ 7)) ⊎ ((a ≡ 7) × (b ≡ 6))
 stored_serials stored o policy id is = serials_of_two (server_over stored id policy) 6 7 (six_and_seven stored id policy o is)

@@ -1,4 +1,5 @@
 -- A look at a head word finds the word that the raises before it in the order left.
+use Rattle.std.specs.Prelude.{None}
 use Rattle.std.proofs.Common.{◌≡◌, ◌⊎◌, ℕ, ◌≤◌, Bool, true, false, max, List, [], ◌∷◌, ◌++◌, Some, ap, ◌∙◌, subst, ⊎_elim, inl, inr, refl, arith}
 use Rattle.std.specs.Prelude.{if◌then◌else◌}
 use Rattle.std.proofs.lemmas.List.{length-replicate}
@@ -49,12 +50,12 @@ look_first a words x y is leads =
     one.0
 
 pub found_word : (begin : Begin) (one other : TrackedLog) (j k a : ℕ) (closed : ClosedServer) → HaveOneOrder (first_server begin) (one ∷ other ∷ []) closed
-    → word_entries (filed_in one) ≡ record { who = one.who; job = j; operation = Logged (RaisesWord 5 3) } ∷ []
-    → word_entries (filed_in other) ≡ record { who = other.who; job = k; operation = Logged (LooksAt 5 a) } ∷ []
+    → word_entries (filed_in one) ≡ record { who = one.who; job = j; operation = Logged (RaisesWord 5 3); save = None } ∷ []
+    → word_entries (filed_in other) ≡ record { who = other.who; job = k; operation = Logged (LooksAt 5 a); save = None } ∷ []
     → (a ≡ 0) ⊎ (a ≡ 3)
 found_word begin one other j k a closed h is also =
-    let x : FiledEntry = record { who = one.who; job = j; operation = Logged (RaisesWord 5 3) } in
-    let y : FiledEntry = record { who = other.who; job = k; operation = Logged (LooksAt 5 a) } in
+    let x : FiledEntry = record { who = one.who; job = j; operation = Logged (RaisesWord 5 3); save = None } in
+    let y : FiledEntry = record { who = other.who; job = k; operation = Logged (LooksAt 5 a); save = None } in
     let leads = alone h.calls no_words h.words h.heads_led in
     ⊎_elim
     (λ (e : word_entries h.calls ≡ x ∷ y ∷ []). inr (raise_first a h.words x y refl refl (subst (λ (es : List FiledEntry). OperationsLead ChangesWords es no_words h.words) e leads)))
@@ -69,11 +70,11 @@ split [] ys ws vs r = (ws, refl, r)
 split (x ∷ xs) ys ws vs r = let s = split xs ys r.0 vs r.2 in (s.0, (r.0, r.1, s.1), s.2)
 
 pub found_after : (begin : Begin) (logs : List TrackedLog) (closed : ClosedServer) (order : HaveOneOrder (first_server begin) logs closed) (j k who by a : ℕ) (earlier between later : List FiledEntry)
-    → order.calls ≡ earlier ++ record { who = who; job = j; operation = Logged (RaisesWord 5 7) } ∷ between ++ record { who = by; job = k; operation = Logged (LooksAt 5 a) } ∷ later
+    → order.calls ≡ earlier ++ record { who = who; job = j; operation = Logged (RaisesWord 5 7); save = None } ∷ between ++ record { who = by; job = k; operation = Logged (LooksAt 5 a); save = None } ∷ later
     → 7 ≤ a
 found_after begin logs closed order j k who by a earlier between later is =
-    let x : FiledEntry = record { who = who; job = j; operation = Logged (RaisesWord 5 7) } in
-    let y : FiledEntry = record { who = by; job = k; operation = Logged (LooksAt 5 a) } in
+    let x : FiledEntry = record { who = who; job = j; operation = Logged (RaisesWord 5 7); save = None } in
+    let y : FiledEntry = record { who = by; job = k; operation = Logged (LooksAt 5 a); save = None } in
     let leads : OperationsLead ChangesWords (earlier ++ x ∷ between ++ y ∷ later) no_words order.words = subst (λ (es : List FiledEntry). OperationsLead ChangesWords es no_words order.words) is order.heads_led in
     let cut = split (earlier ++ x ∷ between) (y ∷ later) no_words order.words leads in
     let start = split earlier (x ∷ between) no_words cut.0 cut.1 in
@@ -86,15 +87,15 @@ found_after begin logs closed order j k who by a earlier between later is =
 
 module _ (begin : ServerState) (logs : List TrackedLog) (closed : ClosedServer) (order : HaveOneOrder begin logs closed) where
   -- the look finds slot 5's word of some head words, to which the calls of the head words led.
-  found_in : (k by a : ℕ) (earlier later : List FiledEntry) → order.calls ≡ earlier ++ record { who = by; job = k; operation = Logged (LooksAt 5 a) } ∷ later
+  found_in : (k by a : ℕ) (earlier later : List FiledEntry) → order.calls ≡ earlier ++ record { who = by; job = k; operation = Logged (LooksAt 5 a); save = None } ∷ later
       → (ws : List ℕ) × OperationsLead ChangesWords (word_entries earlier) begin.words ws × (a ≡ word_at ws 5)
   found_in k by a earlier later is =
-      let y : FiledEntry = record { who = by; job = k; operation = Logged (LooksAt 5 a) } in
+      let y : FiledEntry = record { who = by; job = k; operation = Logged (LooksAt 5 a); save = None } in
       let leads : OperationsLead ChangesWords (earlier ++ y ∷ later) begin.words order.words = subst (λ (es : List FiledEntry). OperationsLead ChangesWords es begin.words order.words) is order.heads_led in
       let cut = split earlier (y ∷ later) begin.words order.words leads in
       (cut.0, alone earlier begin.words cut.0 cut.1, cut.2.1.0)
 
-  pub found_first : (k by a : ℕ) (earlier later : List FiledEntry) → order.calls ≡ earlier ++ record { who = by; job = k; operation = Logged (LooksAt 5 a) } ∷ later → word_entries earlier ≡ [] → a ≡ word_at begin.words 5
+  pub found_first : (k by a : ℕ) (earlier later : List FiledEntry) → order.calls ≡ earlier ++ record { who = by; job = k; operation = Logged (LooksAt 5 a); save = None } ∷ later → word_entries earlier ≡ [] → a ≡ word_at begin.words 5
   found_first k by a earlier later is none =
       let f = found_in k by a earlier later is in
       let same : f.0 ≡ begin.words = subst (λ (es : List FiledEntry). OperationsLead ChangesWords es begin.words f.0) none f.1 in
@@ -103,7 +104,7 @@ module _ (begin : ServerState) (logs : List TrackedLog) (closed : ClosedServer) 
 pub found_stored : (stored : StoredSlots) (id : ℕ) (policy : Policy) (program : StoredProgram) (accepted : Program) → judged program.image ≡ Accepts accepted
     → stored 5 ≡ record { serial = 5; program = Some program }
     → (logs : List TrackedLog) (closed : ClosedServer) (order : HaveOneOrder (server_over stored id policy) logs closed) (k by a : ℕ) (earlier later : List FiledEntry)
-    → order.calls ≡ earlier ++ record { who = by; job = k; operation = Logged (LooksAt 5 a) } ∷ later → word_entries earlier ≡ [] → a ≡ 11
+    → order.calls ≡ earlier ++ record { who = by; job = k; operation = Logged (LooksAt 5 a); save = None } ∷ later → word_entries earlier ≡ [] → a ≡ 11
 found_stored stored id policy program accepted judges is logs closed order k by a earlier later at none =
     found_first (server_over stored id policy) logs closed order k by a earlier later at none
     ∙ (ap (λ (s : StoredSlot). first_word (restored_slot s)) is ∙ ap (λ (j : Judgement). word_at_start 5 (present_if j program)) judges)
@@ -111,24 +112,24 @@ found_stored stored id policy program accepted judges is logs closed order k by 
 -- ---- the same, if the server begins with empty slots
 
 module _ (begin : Begin) (logs : List TrackedLog) (closed : ClosedServer) (order : HaveOneOrder (first_server begin) logs closed) where
-  pub found_before : (k by a : ℕ) (earlier later : List FiledEntry) → order.calls ≡ earlier ++ record { who = by; job = k; operation = Logged (LooksAt 5 a) } ∷ later → word_entries earlier ≡ [] → a ≡ 0
+  pub found_before : (k by a : ℕ) (earlier later : List FiledEntry) → order.calls ≡ earlier ++ record { who = by; job = k; operation = Logged (LooksAt 5 a); save = None } ∷ later → word_entries earlier ≡ [] → a ≡ 0
   found_before = found_first (first_server begin) logs closed order
 
-  pub found_other : (j k who by a : ℕ) (earlier later : List FiledEntry) → order.calls ≡ earlier ++ record { who = by; job = k; operation = Logged (LooksAt 5 a) } ∷ later
-      → word_entries earlier ≡ record { who = who; job = j; operation = Logged (RaisesWord 6 7) } ∷ [] → a ≡ 0
+  pub found_other : (j k who by a : ℕ) (earlier later : List FiledEntry) → order.calls ≡ earlier ++ record { who = by; job = k; operation = Logged (LooksAt 5 a); save = None } ∷ later
+      → word_entries earlier ≡ record { who = who; job = j; operation = Logged (RaisesWord 6 7); save = None } ∷ [] → a ≡ 0
   found_other j k who by a earlier later is only =
       let f = found_in (first_server begin) logs closed order k by a earlier later is in
-      let x : FiledEntry = record { who = who; job = j; operation = Logged (RaisesWord 6 7) } in
+      let x : FiledEntry = record { who = who; job = j; operation = Logged (RaisesWord 6 7); save = None } in
       let led : OperationsLead ChangesWords (x ∷ []) no_words f.0 = subst (λ (es : List FiledEntry). OperationsLead ChangesWords es no_words f.0) only f.1 in
       let raised : led.0 ≡ word_raised 6 7 no_words = led.1 in
       f.2 ∙ ap (λ (ws : List ℕ). word_at ws 5) (led.2 ∙ raised)
 
-  pub found_greatest : (i j k one other by a : ℕ) (earlier later : List FiledEntry) → order.calls ≡ earlier ++ record { who = by; job = k; operation = Logged (LooksAt 5 a) } ∷ later
-      → word_entries earlier ≡ record { who = one; job = i; operation = Logged (RaisesWord 5 7) } ∷ record { who = other; job = j; operation = Logged (RaisesWord 5 4) } ∷ [] → a ≡ 7
+  pub found_greatest : (i j k one other by a : ℕ) (earlier later : List FiledEntry) → order.calls ≡ earlier ++ record { who = by; job = k; operation = Logged (LooksAt 5 a); save = None } ∷ later
+      → word_entries earlier ≡ record { who = one; job = i; operation = Logged (RaisesWord 5 7); save = None } ∷ record { who = other; job = j; operation = Logged (RaisesWord 5 4); save = None } ∷ [] → a ≡ 7
   found_greatest i j k one other by a earlier later is only =
       let f = found_in (first_server begin) logs closed order k by a earlier later is in
-      let x : FiledEntry = record { who = one; job = i; operation = Logged (RaisesWord 5 7) } in
-      let y : FiledEntry = record { who = other; job = j; operation = Logged (RaisesWord 5 4) } in
+      let x : FiledEntry = record { who = one; job = i; operation = Logged (RaisesWord 5 7); save = None } in
+      let y : FiledEntry = record { who = other; job = j; operation = Logged (RaisesWord 5 4); save = None } in
       let led : OperationsLead ChangesWords (x ∷ y ∷ []) no_words f.0 = subst (λ (es : List FiledEntry). OperationsLead ChangesWords es no_words f.0) only f.1 in
       let first : led.0 ≡ word_raised 5 7 no_words = led.1 in
       let last : led.2.0 ≡ word_raised 5 4 led.0 = led.2.1 in

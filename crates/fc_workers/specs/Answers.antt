@@ -4,8 +4,8 @@
 use Rattle.std.specs.Prelude.{◌≡◌, ℕ, ◌+◌, ◌%◌, ◌<◌, ◌==◌, if◌then◌else◌, Bool, List, Option, Some, None, max, min}
 use Rattle.coap_msg.specs.declared.types.Emission.{Emission}
 use Rattle.coap_msg.specs.declared.types.Endpoint.{Endpoint}
-use Rattle.fc_core.specs.declared.front.Answered.{Answered}
-use Rattle.fc_core.specs.declared.front.Delivered.{Delivered}
+use Rattle.fc_core.specs.declared.by_value.Answered.{Answered}
+use Rattle.fc_core.specs.declared.by_value.Delivered.{Delivered}
 use Rattle.fc_core.specs.Answering.{AnswersIn, emission_of}
 use Rattle.fc_core.specs.Contents.{Content}
 use Rattle.fc_core.specs.Exchanges.{FrontState, advanced}

@@ -11,7 +11,8 @@ use Rattle.fc_core.specs.Steps.{Commits, Installs, Removes, changes_of_call}
 use Rattle.fc_server.specs.States.{ServerState, confirm_after_of}
 use Rattle.fc_workers.specs.Fronts.{BeganAt}
 use Rattle.fc_workers.specs.declared.call_log.CallLog.{CallLog}
-use Rattle.fc_workers.specs.Logs.{IsUnfiled, TrackedLog, with_filed_call}
+use Rattle.fc_linear.specs.Operations.{Logged}
+use Rattle.fc_workers.specs.Logs.{FilesMaybeSaved, IsUnfiled, TrackedLog, with_filed_call}
 use Rattle.fc_registry.specs.Calls.{initial_vars_of}
 use Rattle.fc_registry.specs.Slots.{Shard}
 use Rattle.fc_workers.specs.Called.{BenchCall, CountsObservers, LeavesUnquiet, LooksAhead, ReadsGauges, RefusesSave, FindsSaving}
@@ -66,6 +67,11 @@ IsFrontCall first Does call before after = IsFrontAsked first Does × (after ≡
 abbrev pub IsShardCall : ServerState → ℕ → (Shard → Shard → Type 0) → LoggedCall → TrackedLog → TrackedLog → Type 0
 IsShardCall first index Does call before after = IsAsked first index Does × (after ≡ with_filed_call call before)
 
+-- the same of a call that may change a slot. It is filed with some save or with none, which the
+-- shard's track determines.
+abbrev pub IsChangeCall : ServerState → ℕ → (Shard → Shard → Type 0) → LoggedCall → TrackedLog → TrackedLog → Type 0
+IsChangeCall first index Does call before after = IsAsked first index Does × FilesMaybeSaved (Logged call) before after
+
 -- the index of the shard that is called: an index above 7 counts as 7.
 abbrev pub shard_called : ℕ → ℕ
 shard_called index = min index 7
@@ -73,7 +79,7 @@ shard_called index = min index 7
 -- the meaning of a call in a worker's log. The call got the device's readings, called the front or
 -- a shard, skipped a shard, or read or raised a head word. The changes of a slot are saved, and the
 -- image of an install with them if the program is that of the job's image. Each call is filed,
--- except the one for readings.
+-- except the one for readings. A change that is saved is filed with its save.
 abbrev pub IsLoggedCall : ServerState → Peripherals → LoggedCall → TrackedLog → TrackedLog → Type 0
 IsLoggedCall first io (GivesReadings readings) before after = IsUnfiled (io.are_readings readings) before after
 IsLoggedCall first io (TellsReceipt job receipt) before after = IsShardCall first (job.origin.slot % 8) (λ x y. DescribesTo job x receipt y) (TellsReceipt job receipt) before after
@@ -86,12 +92,12 @@ IsLoggedCall first io (DrawsId now drawn) before after = IsFrontCall first.front
 IsLoggedCall first io (AnswersRequest now job content sent) before after = IsFrontCall first.front (AnswersAt now job content sent) (AnswersRequest now job content sent) before after
 IsLoggedCall first io (TakesForJob job readings taken) before after = IsShardCall first (job.origin.slot % 8) (λ x y. TakesTo job readings x taken y) (TakesForJob job readings taken) before after
 IsLoggedCall first io (CommitsRun now ran ticket committed) before after =
-    IsShardCall first (ticket.origin.slot % 8) (WithSave io.saves ⊤ ticket.origin.slot (changes_of_call (Commits 0 ticket committed)) (λ x y. CommitsAt now ran ticket x committed y)) (CommitsRun now ran ticket committed) before after
+    IsChangeCall first (ticket.origin.slot % 8) (WithSave io.saves ⊤ ticket.origin.slot (changes_of_call (Commits 0 ticket committed)) (λ x y. CommitsAt now ran ticket x committed y)) (CommitsRun now ran ticket committed) before after
 IsLoggedCall first io (InstallsProgram job program made) before after =
     let verified = judged (image_of job.ask) ≡ Accepts program in
-    IsShardCall first (job.origin.slot % 8) (WithSave io.saves verified job.origin.slot (changes_of_call (Installs program (initial_vars_of job.ask) made)) (λ x y. InstallsTo job program x made y)) (InstallsProgram job program made) before after
+    IsChangeCall first (job.origin.slot % 8) (WithSave io.saves verified job.origin.slot (changes_of_call (Installs program (initial_vars_of job.ask) made)) (λ x y. InstallsTo job program x made y)) (InstallsProgram job program made) before after
 IsLoggedCall first io (RemovesProgram job removal) before after =
-    IsShardCall first (job.origin.slot % 8) (WithSave io.saves ⊤ job.origin.slot (changes_of_call (Removes removal)) (λ x y. RemovesFrom job x removal y)) (RemovesProgram job removal) before after
+    IsChangeCall first (job.origin.slot % 8) (WithSave io.saves ⊤ job.origin.slot (changes_of_call (Removes removal)) (λ x y. RemovesFrom job x removal y)) (RemovesProgram job removal) before after
 IsLoggedCall first io (HandsSignal shard from message reset) before after = IsShardCall first shard (λ x y. HandsOn reset from message x y) (HandsSignal (shard_called shard) from message reset) before after
 IsLoggedCall first io (AdvancesIdle shard now) before after = IsShardCall first shard (λ x y. PassesIfIdle now x true y) (AdvancesIdle (shard_called shard) now) before after
 IsLoggedCall first io (SkipsIdle shard now) before after = after ≡ with_filed_call (SkipsIdle (shard_called shard) now) before

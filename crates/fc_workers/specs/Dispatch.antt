@@ -3,8 +3,8 @@ use Rattle.std.specs.Prelude.{◌≡◌, ◌≢◌, ◌⊎◌, ◌+◌, ◌&&◌
 use Rattle.coap_msg.specs.declared.types.Emission.{Emission}
 use Rattle.coap_msg.specs.declared.types.Endpoint.{Endpoint}
 use Rattle.fc_book.specs.Tracks.{first_own}
-use Rattle.fc_core.specs.declared.front.Delivered.{Delivered}
-use Rattle.fc_core.specs.declared.front.Delivered.TheVariants.{Job as Brings, Signal}
+use Rattle.fc_core.specs.declared.by_value.Delivered.{Delivered}
+use Rattle.fc_core.specs.declared.by_value.Delivered.TheVariants.{Job as Brings, Signal}
 use Rattle.fc_core.specs.declared.front.Handled.{Handled}
 use Rattle.fc_core.specs.Receiving.{handled}
 use Rattle.fc_core.specs.Timers.{timer_job}

@@ -1,7 +1,9 @@
 -- When the one order of a server's calls is a legal history: the tracks of its jobs are right, and
 -- the number of a job is its key minus that of the first job.
-use Rattle.std.specs.Prelude.{◌≡◌, ◌≢◌, ℕ, ◌+◌, ◌≤◌, true, List, [], length}
+use Rattle.std.specs.Prelude.{◌≡◌, ◌≢◌, ℕ, ◌+◌, ◌≤◌, true, List, [], None, length}
 use Rattle.std.specs.List.{All, Any}
+use Rattle.fc_store.specs.declared.store.Store.{Ghosts}
+use Rattle.fc_store.specs.Stored.{StoredSlots}
 use Rattle.fc_core.specs.History.{History}
 use Rattle.fc_server.specs.Serving.{Serves}
 use Rattle.fc_server.specs.States.{ServerState}
@@ -10,6 +12,7 @@ use Rattle.fc_linear.specs.Operations.{LogEntry, Logged}
 use Rattle.fc_linear.specs.Parts.{HaveNextNumbers, IsHistoryOf, RightByParts, bringing, history_on}
 use Rattle.fc_filed.specs.declared.entry.FiledEntry.{FiledEntry}
 use Rattle.fc_filed.specs.Entries.{is_of_job, log_of}
+use Rattle.fc_filed.specs.Recovered.{HaveSavedOrder}
 use Rattle.fc_workers.specs.declared.closed.ClosedServer.{ClosedServer}
 use Rattle.fc_workers.specs.Filed.{HasRightJobs}
 use Rattle.fc_workers.specs.Logs.{TrackedLog}
@@ -41,8 +44,8 @@ pub record BringsInOrder (first dispatcher : ℕ) (log : TrackedLog) : Type 0 wh
 -- the tracks of jobs in these logs are right. Each is right for its job, and no call is filed on
 -- one with a key below `first`. One thread has produced all jobs, in the order of their keys.
 pub record HaveRightTracks (first : ℕ) (logs : List TrackedLog) : Type 0 where
-  pub above : 9 + length logs ≤ first
-  pub jobs : All (λ (log : TrackedLog). HasRightJobs (9 + length logs) log.tracks) logs
+  pub above : 10 + length logs ≤ first
+  pub jobs : All (λ (log : TrackedLog). HasRightJobs (10 + length logs) log.tracks) logs
   pub from : All (FilesFrom first) logs
   pub dispatcher : ℕ
   pub has_log : Any (λ (log : TrackedLog). log.who ≡ dispatcher) logs
@@ -58,9 +61,15 @@ pub record HaveRightTracks (first : ℕ) (logs : List TrackedLog) : Type 0 where
 -- order, and a shard that was skipped was idle at that place.
 pub record HaveLegalOrder (first : ServerState) (logs : List TrackedLog) (closed : ClosedServer) : Type 0 where
   pub order : HaveOneOrder first logs closed
-  pub right : RightByParts (server_with closed order.words) first [] (log_of (first_brought (9 + length logs)) order.calls)
-  pub history : (before : History) → Serves before first [] → IsHistoryOf (history_on before (log_of (first_brought (9 + length logs)) order.calls)) (server_with closed order.words)
+  pub right : RightByParts (server_with closed order.words) first [] (log_of (first_brought (10 + length logs)) order.calls)
+  pub history : (before : History) → Serves before first [] → IsHistoryOf (history_on before (log_of (first_brought (10 + length logs)) order.calls)) (server_with closed order.words)
 
--- the entry of a timer that fired at time 0: the call is by thread 9, and the job has this key.
+-- the saves of the server's store have their place in the legal order. `g` has the ghosts of the
+-- store's type. The store's first slots are `stored`.
+pub record HaveSavedLegalOrder {S : Type 0} (g : Ghosts S) (first : ServerState) (stored : StoredSlots) (logs : List TrackedLog) (closed : ClosedServer) : Type 0 where
+  pub legal : HaveLegalOrder first logs closed
+  pub saved : HaveSavedOrder g first stored closed.shards legal.order.calls
+
+-- the entry of a timer that fired at time 0: the call is by thread 10, and the job has this key.
 abbrev pub timer_entry : ℕ → ℕ → FiledEntry
-timer_entry job slot = record { who = 9; job = job; operation = Logged (FiresTimer slot 0) }
+timer_entry job slot = record { who = 10; job = job; operation = Logged (FiresTimer slot 0); save = None }

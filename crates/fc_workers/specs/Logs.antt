@@ -1,10 +1,14 @@
 -- The log of a worker: that of its calls, and its tracks in the server's book.
-use Rattle.std.specs.Prelude.{◌≡◌, ℕ, Bool, false}
+use Rattle.std.specs.Prelude.{◌≡◌, ℕ, Bool, false, List, Option, Some}
 use Rattle.fc_book.specs.declared.view.BookView.{BookView}
 use Rattle.fc_calls.specs.Logged.{LoggedCall}
-use Rattle.fc_linear.specs.Operations.{Logged, Operation}
+use Rattle.fc_linear.specs.Operations.{FailsToSave, Logged, Operation}
 use Rattle.fc_filed.specs.declared.entry.FiledEntry.{FiledEntry}
-use Rattle.fc_filed.specs.Threads.{HasJobFirst, HasOwnTrack, did_by, did_if}
+use Rattle.fc_registry.specs.Changes.{Change}
+use Rattle.fc_registry.specs.Slots.{Slot}
+use Rattle.fc_store.specs.Recovery.{Save}
+use Rattle.fc_filed.specs.Saves.{refused_save, update_of}
+use Rattle.fc_filed.specs.Threads.{HasJobFirst, HasOwnTrack, did_by, did_if, did_with}
 use Rattle.fc_workers.specs.declared.call_log.CallLog.{CallLog}
 
 -- the log of its calls, the key of its own track, and its tracks.
@@ -25,6 +29,19 @@ pub record MayFileAll (first_job who : ℕ) (v : BookView FiledEntry) : Type 0 w
 -- log of its calls is unchanged.
 abbrev pub with_filed_call : LoggedCall → TrackedLog → TrackedLog
 with_filed_call call log = record log { tracks = did_by log.who (Logged call) log.tracks }
+
+-- the log after the worker has filed the operation with this save.
+abbrev pub with_filed : Option Save → Operation → TrackedLog → TrackedLog
+with_filed save operation log = record log { tracks = did_with save log.who operation log.tracks }
+
+-- the worker has filed the operation, with a save or without.
+abbrev pub FilesMaybeSaved : Operation → TrackedLog → TrackedLog → Type 0
+FilesMaybeSaved operation before after = (save : Option Save) × (after ≡ with_filed save operation before)
+
+-- the worker has filed that the store refuses to save the update of this change of slot n. An
+-- install's has this image.
+abbrev pub FilesRefusal : ℕ → Change → List ℕ → TrackedLog → TrackedLog → Type 0
+FilesRefusal n change image before after = (slot : Slot) × (let update = update_of slot n change image in after ≡ with_filed (Some (refused_save update)) (FailsToSave update) before)
 
 -- the log after a call that the worker has filed as this operation, or hasn't filed.
 abbrev pub with_filed_if : Bool → Operation → TrackedLog → TrackedLog

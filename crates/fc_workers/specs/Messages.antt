@@ -16,7 +16,7 @@ pub record TrackedJob : Type 0 where
 -- those of the threads' own tracks. The keys from `first_job` to this one belong to empty tracks,
 -- one for each thread.
 abbrev pub first_brought : ℕ → ℕ
-first_brought first_job = first_job + (first_job - 9)
+first_brought first_job = first_job + (first_job - 10)
 
 -- the message's only track is the job's. It has one entry: the call that produced the job.
 pub record IsNewJob (first_job : ℕ) (m : TrackedJob) : Type 0 where

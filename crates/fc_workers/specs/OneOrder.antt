@@ -3,6 +3,8 @@ use Rattle.std.specs.Prelude.{◌≡◌, ◌≢◌, ℕ, ◌+◌, ◌<◌, ◌�
 use Rattle.std.specs.List.{All, AllPairs, Any, flat_map}
 use Rattle.fc_book.specs.declared.view.BookView.{BookView}
 use Rattle.fc_book.specs.Tracks.{AreOn, HasKey, entries_at, on}
+use Rattle.fc_store.specs.declared.store.Store.{Ghosts}
+use Rattle.fc_store.specs.Stored.{StoredSlots}
 use Rattle.fc_registry.specs.Shards.{shard_at}
 use Rattle.fc_server.specs.States.{ServerState}
 use Rattle.fc_linear.specs.Operations.{FrontDoes, ShardDoes}
@@ -10,6 +12,7 @@ use Rattle.fc_filed.specs.declared.entry.FiledEntry.{FiledEntry}
 use Rattle.fc_filed.specs.Books.{IsRightForJob}
 use Rattle.fc_filed.specs.Entries.{AreKeyed, ChangesWords, OperationsLead, entries_by, entry_keys, front_entries, shard_entries}
 use Rattle.fc_filed.specs.Idle.{AreSkipsIdle}
+use Rattle.fc_filed.specs.Recovered.{HaveSavedOrder}
 use Rattle.fc_filed.specs.Threads.{HasOwnTrack}
 use Rattle.fc_workers.specs.declared.closed.ClosedServer.{ClosedServer}
 use Rattle.fc_workers.specs.Logs.{TrackedLog}
@@ -51,6 +54,12 @@ pub record HaveOneOrder (first : ServerState) (logs : List TrackedLog) (closed :
   pub words : List ℕ
   pub heads_led : OperationsLead ChangesWords calls first.words words
   pub skips : AreSkipsIdle first calls
-  pub keyed : AreKeyed (9 + length logs) calls
+  pub keyed : AreKeyed (10 + length logs) calls
   pub tracks_on : All (λ (log : TrackedLog). AreOn entry_keys calls log.tracks.own) logs
-  pub lost : (k : ℕ) → 9 + length logs ≤ k → All (λ (log : TrackedLog). HasKey k log.tracks.own → ⊥) logs → IsRightForJob (9 + length logs) (on entry_keys k calls)
+  pub lost : (k : ℕ) → 10 + length logs ≤ k → All (λ (log : TrackedLog). HasKey k log.tracks.own → ⊥) logs → IsRightForJob (10 + length logs) (on entry_keys k calls)
+
+-- the saves of the server's store have their place in the one order. `g` has the ghosts of the
+-- store's type. The store's first slots are `stored`.
+pub record HaveSavedOneOrder {S : Type 0} (g : Ghosts S) (first : ServerState) (stored : StoredSlots) (logs : List TrackedLog) (closed : ClosedServer) : Type 0 where
+  pub order : HaveOneOrder first logs closed
+  pub saved : HaveSavedOrder g first stored closed.shards order.calls

@@ -1,12 +1,13 @@
 -- The store of a server with locks, and the changes that it saves. The store has a lock of its own,
--- so contracts don't state in which state a save finds it. It is ready then.
+-- so a save's own contract doesn't state the store's state before it. The store is ready then. The
+-- one order of the server has all its states (`HaveSavedOrder`).
 use Rattle.std.specs.Prelude.{◌≡◌, ℕ, Bool, true, false, List, [], ◌∷◌}
 use Rattle.fc_store.specs.declared.store.SlotUpdate.{SlotUpdate}
 use Rattle.fc_store.specs.declared.store.Store.{Ghosts}
 use Rattle.fc_registry.specs.Changes.{Change}
 use Rattle.fc_registry.specs.Plans.{IsPlanned, SavesImage}
 use Rattle.fc_registry.specs.Slots.{Shard, Slot, slot_in}
-use Rattle.fc_durable.specs.Saved.{SavesUpdate}
+use Rattle.fc_store.specs.Saves.{SavesUpdate}
 
 -- in some state in which it is ready, a store saves the update with this result.
 pub record SavesWhileReady {S : Type 0} (g : Ghosts S) (u : SlotUpdate) (made : Bool) : Type 0 where

@@ -25,9 +25,9 @@ use Rattle.fc_core.specs.Stages.{asked_stage, image_of, snapshots}
 use Rattle.fc_core.specs.Steps.{Call, Matches, Lists, Takes, Commits, Installs, Rejects, Refuses, RefusesChange, Removes, Describes, Raises, called_at, next_stage}
 use Rattle.fc_workers.specs.Answers.{IsSnapshotWith, IsSomeCommit, IsSomeInstall, IsSomeReceipt, IsSomeRemoval, AreTallied, HasRisen, commit_overtakings, snapshot_refusals}
 use Rattle.fc_calls.specs.Kept.{commit_changes, install_changes, removal_changes}
-use Rattle.fc_workers.specs.Logs.{TrackedLog}
+use Rattle.fc_workers.specs.Logs.{FilesRefusal, TrackedLog}
 use Rattle.fc_calls.specs.Logged.{CommitsRun, InstallsProgram, LooksAt, RaisesWord, RemovesProgram, TellsReceipt}
-use Rattle.fc_linear.specs.Operations.{FailsToSave, RefusesInstall, RejectsImage}
+use Rattle.fc_linear.specs.Operations.{RefusesInstall, RejectsImage}
 use Rattle.fc_workers.specs.Called.{EndsJob, RefusesSave, WorkerView}
 use Rattle.fc_workers.specs.Filed.{HasFiled}
 use Rattle.fc_workers.specs.Outgoing.{GivesAnswer, IsSent, IsTurnReply}
@@ -82,7 +82,7 @@ module _ {T : Type 0} (s : WorkerView T) where
     pub commit : IsSomeCommit (run_of t) t committed
 
   -- the run of a ticket wants to write. The gate let the job with this number through, and then the
-  -- time was requested. The commit can't be saved, and this is filed.
+  -- time was requested. The commit can't be saved, and this is filed with its update.
   pub record IsCommitRefused (number : ℕ) (job : Job) (t : Ticket) (before after : TrackedLog) : Type 0 where
     pub passed : TrackedLog
     pub gate : s.gate number before passed
@@ -91,19 +91,26 @@ module _ {T : Type 0} (s : WorkerView T) where
     pub time : s.time now passed asked
     pub wants : wants t ≡ true
     pub refuses : s.bench (RefusesSave t.origin.slot (Wrote (commit_of t)))
-    pub filed : HasFiled (FailsToSave job) asked after
+    pub filed : FilesRefusal job.origin.slot (Wrote (commit_of t)) [] asked after
 
-  -- the change that the job would make at this stage can't be saved. This is filed.
+  -- the change that the job would make at this stage can't be saved. This is filed with its update.
   abbrev pub IsChangeRefused : ℕ → Job → Stage → TrackedLog → TrackedLog → Type 0
   IsChangeRefused number job (ToCommit count t) before after = IsCommitRefused number job t before after
-  IsChangeRefused number job ToRemove before after = s.bench (RefusesSave job.origin.slot Removed) × HasFiled (FailsToSave job) before after
+  IsChangeRefused number job ToRemove before after = s.bench (RefusesSave job.origin.slot Removed) × FilesRefusal job.origin.slot Removed [] before after
   IsChangeRefused number job other before after = ⊥
 
+  -- the install of this program can't be saved. This is filed with its update, which has the job's
+  -- image.
+  abbrev pub IsInstallUnsaved : Job → Program → TrackedLog → TrackedLog → Type 0
+  IsInstallUnsaved job p before after =
+      let change = Installed p (initial_vars_of job.ask) in
+      (judged (image_of job.ask) ≡ Accepts p) × s.bench (RefusesSave job.origin.slot change) × FilesRefusal job.origin.slot change (image_of job.ask) before after
+
   -- the program of the job's image isn't installed: memory is refused, or the install can't be
-  -- saved.
-  abbrev pub IsInstallRefused : Job → Type 0
-  IsInstallRefused job = IsRefusal (image_of job.ask) NoMemory
-      ⊎ ((p : Program) × (judged (image_of job.ask) ≡ Accepts p) × s.bench (RefusesSave job.origin.slot (Installed p (initial_vars_of job.ask))))
+  -- saved. This is filed.
+  abbrev pub IsInstallRefused : Job → TrackedLog → TrackedLog → Type 0
+  IsInstallRefused job before after = (IsRefusal (image_of job.ask) NoMemory × HasFiled (RefusesInstall job) before after)
+      ⊎ ((p : Program) × IsInstallUnsaved job p before after)
 
   -- a call for the job with this number leads from the log `before` to the log `after`. A match
   -- reads the head word of the job's slot, for the request's ETags. A list reads the head word of
@@ -120,7 +127,7 @@ module _ {T : Type 0} (s : WorkerView T) where
       (judged (image_of job.ask) ≡ Accepts p) × IsSafe p × (initial ≡ initial_vars_of job.ask) × s.logged (InstallsProgram job p answer) before after × IsSomeInstall initial p answer
   IsCallOf number job (Rejects content) before after =
       ((f : Fault) × IsRefusal (image_of job.ask) (Broken f) × (content ≡ refused (Broken f))) × HasFiled (RejectsImage job content) before after
-  IsCallOf number job Refuses before after = IsInstallRefused job × HasFiled (RefusesInstall job) before after
+  IsCallOf number job Refuses before after = IsInstallRefused job before after
   IsCallOf number job (RefusesChange at) before after = IsChangeRefused number job at before after
   IsCallOf number job (Removes removal) before after = s.logged (RemovesProgram job removal) before after × IsSomeRemoval removal
   IsCallOf number job (Describes receipt) before after = s.logged (TellsReceipt job receipt) before after × IsSomeReceipt receipt

@@ -10,6 +10,7 @@ ghost use Rattle.fc_core.specs.Timers.{timer_job};
 ghost use Rattle.fc_calls.specs.Doings.{AdvancesTo, AnswersAt, DrawsAt, FiresAt, HandlesAt, TellsGauges};
 ghost use Rattle.fc_calls.specs.Logged.{AdvancesFront, AnswersRequest, DrawsId, FiresTimer, HandlesDatagram};
 ghost use Rattle.fc_linear.specs.Operations.{FrontDoes};
+ghost use Rattle.fc_filed.specs.Entries.{OperationsLead};
 ghost use Rattle.fc_filed.specs.Tracked.{IsPartClosed};
 ghost use Rattle.fc_workers.specs.Asked.{IsFrontAsked, IsFrontCall};
 ghost use Rattle.fc_workers.specs.Fronts.{BeganAt};
@@ -147,7 +148,7 @@ impl<B: Books> BegunFront<B> {
         book: &ServerBook<ServerOf<B>>,
         tracks: &mut ServerTracks<ServerOf<B>>,
     ) -> Front
-        ensures { IsPartClosed FrontDoes 0 B.first.front result tracks.old tracks.new }
+        ensures { IsPartClosed (OperationsLead FrontDoes) 0 B.first.front result tracks.old tracks.new }
     {
         self.filed.close(book, tracks)
     }

@@ -1,7 +1,8 @@
 //! The backend: a server's shared parts, as workers call them.
-ghost use Rattle.std.specs.Prelude.{◌≡◌, ℕ, ◌+◌, ◌<◌, ◌≤◌, max, true, ⊤, None, Some, IfErr, IfOk, IfSome, MatchBool};
+ghost use Rattle.std.specs.Prelude.{◌≡◌, ℕ, ◌+◌, ◌<◌, ◌≤◌, [], max, true, ⊤, None, Some, IfErr, IfOk, IfSome, MatchBool};
 ghost use Rattle.fc_core.specs.Timers.{timer_job};
 ghost use Rattle.fc_core.specs.Contents.{IsOf};
+ghost use Rattle.fc_core.specs.Stages.{image_of};
 ghost use Rattle.fc_core.specs.Receiving.{emission_if, handled};
 ghost use Rattle.fc_registry.specs.Calls.{commit_of, initial_vars_of, wants};
 ghost use Rattle.fc_registry.specs.Changes.{Committed as Wrote, Installed, Removed};
@@ -15,9 +16,9 @@ ghost use Rattle.fc_calls.specs.Logged.{AdvancesFront, AdvancesIdle, FiresTimer,
 ghost use Rattle.fc_calls.specs.Logged.{AdvancesShard, AnswersRequest, CommitsRun, DrawsId, GivesTurn, GivesUpTurn, HandlesDatagram};
 ghost use Rattle.fc_calls.specs.Logged.{InstallsProgram};
 ghost use Rattle.fc_calls.specs.Logged.{LoggedCall, NotesTurn, RaisesWord, ReadsCost, RemovesProgram, SkipsIdle, TakesForJob, TellsReceipt};
-ghost use Rattle.fc_linear.specs.Operations.{FailsToSave, RefusesInstall, RejectsImage};
+ghost use Rattle.fc_linear.specs.Operations.{RefusesInstall, RejectsImage};
 ghost use Rattle.fc_workers.specs.Filed.{FilesEach, HasFiled};
-ghost use Rattle.fc_workers.specs.Logs.{TrackedLog as Log};
+ghost use Rattle.fc_workers.specs.Logs.{FilesRefusal, TrackedLog as Log};
 ghost use Rattle.fc_workers.specs.Answers.{AreTallied, IsSomeAnswer, IsSomeCommit, IsSomeDelivery, IsSomeDraw, IsSomeInstall, IsSomeNote};
 ghost use Rattle.fc_workers.specs.Answers.{IsSomeIdle, IsSomeReceipt, IsSomeRemoval, IsSomeSnapshot, IsSomeTick, IsSomeTurn};
 ghost use Rattle.fc_calls.specs.Kept.{commit_changes, install_changes, removal_changes};
@@ -176,7 +177,7 @@ pub trait Bench {
     /// Commits the run of `ticket` with this outcome, at a time in milliseconds.
     ///
     /// Returns `None` if the commit can't be saved: then the run wants to write, no slot changes,
-    /// and the log doesn't have the call. See [`Shard::commit`](fc_registry::Shard::commit).
+    /// and the refusal is filed. See [`Shard::commit`](fc_registry::Shard::commit).
     fn commit<R: Wait>(
         &self,
         rt: &R,
@@ -189,15 +190,15 @@ pub trait Bench {
         ensures committed { IfSome result (IsSomeCommit outcome.now ticket.now) }
         ensures logged { IfSome result (λ committed. logged (CommitsRun now outcome.now ticket.now committed) log.old log.new) }
         ensures refused { result ≡ None → called (RefusesSave ticket.now.origin.slot (Wrote (commit_of ticket.now)))
-            × (wants ticket.now ≡ true) × (log.new ≡ log.old) }
+            × (wants ticket.now ≡ true) × FilesRefusal ticket.now.origin.slot (Wrote (commit_of ticket.now)) [] log.old log.new }
         ensures changes { AreTallied (changes tallies.old) (changes tallies.new)
             ticket.now.origin.slot (changes_if commit_changes result) }
         ensures ended { ended tallies.new ≡ ended tallies.old };
 
     /// Installs a program in `job`'s slot.
     ///
-    /// Returns `None` if the install can't be saved: then no slot changes, and the log doesn't have
-    /// the call. See [`Shard::install`](fc_registry::Shard::install).
+    /// Returns `None` if the install can't be saved: then no slot changes, and the refusal is filed,
+    /// with the job's image. See [`Shard::install`](fc_registry::Shard::install).
     fn install<R: Wait>(
         &self,
         rt: &R,
@@ -209,15 +210,15 @@ pub trait Bench {
         ensures made { IfSome result (IsSomeInstall (initial_vars_of job.now.ask) program.value) }
         ensures logged { IfSome result (λ made. logged (InstallsProgram job.now program.value made) log.old log.new) }
         ensures refused { result ≡ None → called (RefusesSave job.now.origin.slot (Installed program.value (initial_vars_of job.now.ask)))
-            × (log.new ≡ log.old) }
+            × FilesRefusal job.now.origin.slot (Installed program.value (initial_vars_of job.now.ask)) (image_of job.now.ask) log.old log.new }
         ensures changes { AreTallied (changes tallies.old) (changes tallies.new)
             job.now.origin.slot (changes_if install_changes result) }
         ensures ended { ended tallies.new ≡ ended tallies.old };
 
     /// Removes the program in `job`'s slot.
     ///
-    /// Returns `None` if the removal can't be saved: then no slot changes, and the log doesn't have
-    /// the call. See [`Shard::remove`](fc_registry::Shard::remove).
+    /// Returns `None` if the removal can't be saved: then no slot changes, and the refusal is filed.
+    /// See [`Shard::remove`](fc_registry::Shard::remove).
     fn remove<R: Wait>(
         &self,
         rt: &R,
@@ -227,7 +228,8 @@ pub trait Bench {
     ) -> Option<Removal>
         ensures removal { IfSome result IsSomeRemoval }
         ensures logged { IfSome result (λ removal. logged (RemovesProgram job.now removal) log.old log.new) }
-        ensures refused { result ≡ None → called (RefusesSave job.now.origin.slot Removed) × (log.new ≡ log.old) }
+        ensures refused { result ≡ None → called (RefusesSave job.now.origin.slot Removed)
+            × FilesRefusal job.now.origin.slot Removed [] log.old log.new }
         ensures changes { AreTallied (changes tallies.old) (changes tallies.new)
             job.now.origin.slot (changes_if removal_changes result) }
         ensures ended { ended tallies.new ≡ ended tallies.old };
@@ -421,15 +423,9 @@ pub trait Bench {
 
     /// Files that the program of `job`, an install, isn't installed.
     ///
-    /// Memory can't be allocated, or the install can't be saved. No part of the server is called.
+    /// Memory can't be allocated. No part of the server is called.
     fn refuse_install(&self, job: &Job, log: &mut TrackLog<Self::Book>)
         ensures { HasFiled (RefusesInstall job.now) log.old log.new };
-
-    /// Files that the change of `job`'s slot, a commit or a removal, can't be saved.
-    ///
-    /// No part of the server is called.
-    fn fail_to_save(&self, job: &Job, log: &mut TrackLog<Self::Book>)
-        ensures { HasFiled (FailsToSave job.now) log.old log.new };
 
     /// Answers a job, at a time in milliseconds, and ends it.
     ///

@@ -1,18 +1,21 @@
 //! Filed shards whose changes are counted.
 //!
 //! A server with locks has one under each shard's lock.
-ghost use Rattle.std.specs.Prelude.{◌≡◌, ℕ, ◌+◌, ◌<◌, [], ◌∷◌, true, false, MatchOption, replicate};
+ghost use Rattle.std.specs.Prelude.{◌≡◌, ℕ, ◌+◌, ◌<◌, [], ◌∷◌, true, false, None, IfSome, MatchOption, replicate};
 ghost use Rattle.fc_registry.specs.Shards.{shard_at};
 ghost use Rattle.fc_registry.specs.Slots.{Shard as Called, slot_in};
 ghost use Rattle.fc_server.specs.States.{confirm_after_of};
 ghost use Rattle.fc_calls.specs.Kept.{HasEightSlots, confirm_times, serials};
 ghost use Rattle.fc_calls.specs.Doings.{PassesIfIdle};
 ghost use Rattle.fc_calls.specs.Logged.{AdvancesIdle};
-ghost use Rattle.fc_linear.specs.Operations.{Logged, ShardDoes};
+ghost use Rattle.fc_linear.specs.Operations.{Logged};
+ghost use Rattle.fc_filed.specs.Entries.{EntriesLead};
+ghost use Rattle.fc_filed.specs.Parts.{KeepsShard};
+ghost use Rattle.fc_filed.specs.Saves.{ShardSteps};
 ghost use Rattle.fc_filed.specs.Tracked.{IsPartClosed};
 ghost use Rattle.fc_workers.specs.Answers.{changes_if};
 ghost use Rattle.fc_workers.specs.Counts.{counts};
-ghost use Rattle.fc_workers.specs.Logs.{with_filed_if};
+ghost use Rattle.fc_workers.specs.Logs.{FilesMaybeSaved, FilesRefusal, with_filed_if};
 ghost use Rattle.fc_workers.specs.SharedStores.{HasSaved, LeavesUnsaved, WithSave};
 
 use crate::books::{Books, ServerOf};
@@ -21,7 +24,7 @@ use crate::tally::Tally;
 use crate::track_log::TrackLog;
 use fc_book::Part;
 use fc_calls::{Change, ShardCall};
-use fc_filed::{FiledCall, FiledShard, FiledTrack, ServerBook, ServerTracks};
+use fc_filed::{FiledCall, FiledChange, FiledShard, FiledTrack, ServerBook, ServerTracks};
 use fc_registry::Shard;
 use fc_store::Store;
 use std::marker::Model;
@@ -144,45 +147,14 @@ impl<B: Books, P: Part, L: Ledger> Counted<B, P, L> {
         let _shard = self.filed.shard();
     }
 
-    // Saves the update of the change that `call` makes in the shard, if there is one. Returns
-    // whether the call may be made. If the store isn't persistent, no update is planned. Before the
-    // save it notes in the book until when the shard is idle: other threads can skip the shard
-    // meanwhile.
-    fn save<C: Change, K: Store, R: Wait>(
-        &mut self,
-        rt: &R,
-        store: &SharedStore<K>,
-        book: &ServerBook<ServerOf<B>>,
-        call: &C,
-    ) -> bool
-        requires same { P.table ≡ B.table }
-        requires may { C.may_ask call.now self.old.shard }
-        ensures unchanged { self.new ≡ self.old }
-        ensures saved { result ≡ true → (answer : C.Answer) (room : C.Room) (after : Called) → C.does call.now self.old.shard answer room after
-            → HasSaved K.Store (C.is_verified call.now) (slot_in self.old.shard (C.slot call.now)) (C.slot call.now) (C.made call.now answer) true }
-        ensures refused { result ≡ false → HasSaved K.Store ⊥ (slot_in self.old.shard (C.slot call.now)) (C.slot call.now) (C.change call.now ∷ []) false }
-        ensures may_change { result ≡ false → C.may_change call.now }
-    {
-        if !store.is_persistent() {
-            return true;
-        }
-        if call.plan(self.filed.shard()).is_some() {
-            self.filed.note_if_idle(book);
-        }
-        match call.plan(self.filed.shard()) {
-            Some(update) => store.save(rt, &update),
-            None => true,
-        }
-    }
-
-    /// Saves the change that a call makes, runs the call, and files it if its answer says so.
+    /// Saves the change that a call makes, makes the call, and files it with its save.
     ///
-    /// Returns `None` if the change can't be saved: then the shard is unchanged. The tally counts
-    /// the changes that the result reports.
-    pub(crate) fn change<C: Change + FiledCall + Drop, K: Store, R: Wait>(
+    /// Returns `None` if the change can't be saved: then the shard is unchanged, and the refusal is
+    /// filed. The tally counts the changes that the result reports.
+    pub(crate) fn change<C: FiledChange + Drop, K: Store, R: Wait>(
         &mut self,
         rt: &R,
-        store: &SharedStore<K>,
+        store: &SharedStore<B, K>,
         book: &ServerBook<ServerOf<B>>,
         log: &mut TrackLog<ServerOf<B>>,
         call: C,
@@ -193,23 +165,21 @@ impl<B: Books, P: Part, L: Ledger> Counted<B, P, L> {
         requires is_of { C.is_of call self.old.shard }
         requires may { C.may_ask call self.old.shard }
         ensures changed { MatchOption result
-            (LeavesUnsaved (HasSaved K.Store) (C.slot call) (C.change call) self.old.shard self.new.shard × C.may_change call × (log.new ≡ log.old))
+            (LeavesUnsaved (HasSaved K.Store) (C.slot call) (C.change call) self.old.shard self.new.shard × C.may_change call
+            × FilesRefusal (C.slot call) (C.change call) (C.image call) log.old log.new)
             (λ answer. WithSave (HasSaved K.Store) (C.is_verified call) (C.slot call) (C.made call answer) (λ before after. C.does call before answer room.new after) self.old.shard self.new.shard
-            × (log.new ≡ with_filed_if (C.files answer) (C.operation self.old.shard.index call answer room.new) log.old)) }
+            × FilesMaybeSaved (C.operation self.old.shard.index call answer room.new) log.old log.new) }
         ensures index { self.new.shard.index ≡ self.old.shard.index }
         ensures confirms { confirm_times self.old.shard ≡ replicate 8 (confirm_after_of B.first) }
         ensures tally { tally.new ≡ counts tally.old (changes_if C.changes result) }
     {
         self.keeps_confirm_times();
-        if !self.save(rt, store, book, &call) {
-            return None;
+        let changed = change_saved(&mut self.filed, rt, store, book, log, call, room);
+        match &changed {
+            Some(answer) if C::has_changed(answer) => tally.count(&mut self.ledger),
+            _ => {}
         }
-        let tracks = &mut log.tracks;
-        let answer = self.filed.ask(book, tracks, log.who, call, room);
-        if C::has_changed(&answer) {
-            tally.count(&mut self.ledger);
-        }
-        Some(answer)
+        changed
     }
 
     /// Closes the shard and its ledger, with the tally `all` of all the ledger's parts.
@@ -227,7 +197,7 @@ impl<B: Books, P: Part, L: Ledger> Counted<B, P, L> {
         ensures shard { result ≡ self.shard }
         ensures risen { serials result ≡ serials (shard_at B.first.shards result.index) + all.old.changes }
         ensures tally { all.new ≡ all.old }
-        ensures closed { IsPartClosed ShardDoes P.key (shard_at B.first.shards result.index) result tracks.old tracks.new }
+        ensures closed { IsPartClosed (EntriesLead (ShardSteps B.persistent)) P.key (shard_at B.first.shards result.index) result tracks.old tracks.new }
     {
         let Counted {
             filed,
@@ -236,5 +206,58 @@ impl<B: Books, P: Part, L: Ledger> Counted<B, P, L> {
         } = self;
         all.audit(&mut ledger);
         filed.close(book, tracks)
+    }
+}
+
+// Returns the slot that a call changes in a shard, if the change has to be saved: if the store is
+// persistent. The shard isn't changed.
+fn slot_to_save<C: Change, B: Books, K: Store>(
+    store: &SharedStore<B, K>,
+    shard: &Shard,
+    call: &C,
+) -> Option<u8>
+    requires { C.may_ask call.now shard.now }
+    ensures none { result ≡ None → K.persistent ≡ true → (answer : C.Answer) (room : C.Room) (after : Called) → C.does call.entry.now shard.entry.now answer room after
+        → (C.made call.entry.now answer ≡ []) × (after.slots ≡ shard.entry.now.slots) }
+    ensures some { IfSome result (λ slot. K.persistent ≡ true) }
+{
+    if !store.is_persistent() {
+        return None;
+    }
+    call.plan(shard).map(|update| update.slot)
+}
+
+// Saves the change that a call makes in a shard, makes the call, and files it with its save. Before
+// the save it notes in the book until when the shard is idle: other threads can skip the shard
+// meanwhile.
+fn change_saved<C: FiledChange + Drop, B: Books, P: Part, K: Store, R: Wait>(
+    filed: &mut FiledShard<ServerOf<B>, P>,
+    rt: &R,
+    store: &SharedStore<B, K>,
+    book: &ServerBook<ServerOf<B>>,
+    log: &mut TrackLog<ServerOf<B>>,
+    call: C,
+    room: &mut C::Room,
+) -> Option<C::Answer>
+    requires same { P.table ≡ B.table }
+    requires is_of { C.is_of call filed.old.shard }
+    requires may { C.may_ask call filed.old.shard }
+    ensures changed { let n = C.slot call in let slot = slot_in filed.old.shard n in
+        MatchOption result
+        ((filed.new.shard ≡ filed.old.shard) × HasSaved K.Store ⊥ slot n (C.change call ∷ []) false × C.may_change call
+        × FilesRefusal n (C.change call) (C.image call) log.old log.new)
+        (λ answer. C.does call filed.old.shard answer room.new filed.new.shard × KeepsShard (C.changes answer) filed.old.shard filed.new.shard
+        × HasSaved K.Store (C.is_verified call) slot n (C.made call answer) true
+        × FilesMaybeSaved (C.operation filed.old.shard.index call answer room.new) log.old log.new) }
+{
+    match slot_to_save(store, filed.shard(), &call) {
+        None => {
+            let tracks = &mut log.tracks;
+            Some(filed.ask(book, tracks, log.who, call, room))
+        }
+        Some(slot) => {
+            filed.note_if_idle(book);
+            store.change(rt, slot, filed, book, log, call, room)
+        }
     }
 }

@@ -1,13 +1,14 @@
 //! Laws about workers and their server.
 //!
 //! Each law is the contract of an empty function.
-ghost use Rattle.std.specs.Prelude.{◌≡◌, ◌<◌, ◌≤◌, ◌⊎◌, ⊤, ℕ, Bool, true, false, None, Option, Some, List, [], ◌∷◌, ◌++◌, slice_index};
+ghost use Rattle.std.specs.Prelude.{◌≡◌, ◌+◌, ◌<◌, ◌≤◌, ◌⊎◌, ⊤, ℕ, Bool, true, false, None, Option, Some, List, [], ◌∷◌, ◌++◌, length, slice_index};
 ghost use Rattle.coap_msg.specs.declared.types.Endpoint.{Endpoint};
-ghost use Rattle.fc_core.specs.declared.front.Delivered.TheVariants.{Signal};
+ghost use Rattle.fc_core.specs.declared.by_value.Delivered.TheVariants.{Signal};
 ghost use Rattle.fc_core.specs.Heads.{word_at};
 ghost use Rattle.fc_core.specs.History.{History};
 ghost use Rattle.fc_calls.specs.Logged.{DrawsId, HandsSignal, InstallsProgram, LoggedCall, LooksAt, NotesTurn, RaisesWord, ReadsCost, SkipsIdle};
 ghost use Rattle.fc_core.specs.declared.policy.Policy.{Policy};
+ghost use Rattle.fc_store.specs.Recovery.{Save};
 ghost use Rattle.fc_filed.specs.Entries.{front_entries, shard_entries, word_entries};
 ghost use Rattle.fc_filed.specs.Threads.{known_word};
 ghost use Rattle.fc_filed.specs.declared.entry.FiledEntry.{FiledEntry};
@@ -53,6 +54,7 @@ ghost use Rattle.fc_workers.specs.Shares.{AreTurns};
 ghost use Rattle.fc_workers.specs.Work.{IsReplied};
 ghost use Rattle.fc_workers.specs.Dispatch.{HasReadCost, IsDone, IsHeldUp, IsWorkedHere, MayGo, may_change_slot, unsent};
 ghost use Rattle.fc_filed.specs.Entries.{log_of};
+ghost use Rattle.fc_filed.specs.Recovered.{AreStoredAtFirst, FindsHistory};
 ghost use Rattle.fc_linear.specs.Parts.{HaveNextNumbers, IsHistoryOf, RightByParts, bringing, history_on};
 ghost use Rattle.fc_server.specs.Serving.{Serves};
 ghost use Rattle.fc_server.specs.States.{ServerState, confirm_after_of, first_server, server_over};
@@ -61,7 +63,7 @@ ghost use Rattle.fc_store.specs.Updates.{AreSameSlots, slots_after, with_stored_
 ghost use Rattle.fc_workers.specs.SharedStores.{HasSaved, SavesChange};
 ghost use Rattle.fc_verify.specs.Accepted.{Accepts};
 ghost use Rattle.fc_verify.specs.Judged.{judged};
-ghost use Rattle.fc_workers.specs.LegalOrder.{HaveRightTracks, server_with, timer_entry};
+ghost use Rattle.fc_workers.specs.LegalOrder.{HaveRightTracks, HaveSavedLegalOrder, server_with, timer_entry};
 ghost use Rattle.fc_workers.specs.Logs.{TrackedLog as Log};
 ghost use Rattle.fc_workers.specs.OneOrder.{HaveOneOrder, filed_in};
 ghost use Rattle.fc_workers.specs.Workers.{Dispatched, Share as Done};
@@ -107,8 +109,8 @@ pub fn locked_shards_confirm_in_time<B: Books, D: Device, K: Store>()
 /// pending notification.
 pub fn skipped_shards_do_nothing()
     ensures { (begin : ServerState) (logs : List Log) (closed : ClosedServer) (order : HaveOneOrder begin logs closed) (who job index now : ℕ) (earlier later : List FiledEntry)
-        (is : order.calls ≡ earlier ++ record { who = who; job = job; operation = Logged (SkipsIdle index now) } ∷ later)
-        → let shard = at_time (order.skips earlier later (record { who = who; job = job; operation = Logged (SkipsIdle index now) }) is).shard now in
+        (is : order.calls ≡ earlier ++ record { who = who; job = job; operation = Logged (SkipsIdle index now); save = None } ∷ later)
+        → let shard = at_time (order.skips earlier later (record { who = who; job = job; operation = Logged (SkipsIdle index now); save = None }) is).shard now in
         (ticked_in (overdue_place shard) shard ≡ Quiet) × (due_job (due_place shard) shard ≡ None) }
 {
     idle_shards_do_nothing();
@@ -121,8 +123,8 @@ pub fn skipped_shards_do_nothing()
 pub fn two_threads_draw_two_ids()
     ensures { (policy : Policy) (serial : ℕ) (one other : Log) (j k a b : ℕ) (closed : ClosedServer)
         → HaveOneOrder (first_server (record { serial = serial; id = 7; policy = policy })) (one ∷ other ∷ []) closed
-        → front_entries (filed_in one) ≡ record { who = one.who; job = j; operation = Logged (DrawsId 0 (Some a)) } ∷ []
-        → front_entries (filed_in other) ≡ record { who = other.who; job = k; operation = Logged (DrawsId 0 (Some b)) } ∷ []
+        → front_entries (filed_in one) ≡ record { who = one.who; job = j; operation = Logged (DrawsId 0 (Some a)); save = None } ∷ []
+        → front_entries (filed_in other) ≡ record { who = other.who; job = k; operation = Logged (DrawsId 0 (Some b)); save = None } ∷ []
         → ((a ≡ 7) × (b ≡ 8)) ⊎ ((a ≡ 8) × (b ≡ 7)) }
 {}
 
@@ -132,18 +134,18 @@ pub fn two_threads_draw_two_ids()
 /// installs gets serial 8, and the other gets 9. If slot 13 is stored at serial 5, with a program
 /// or without one, they get 6 and 7.
 pub fn two_threads_install_at_two_serials()
-    ensures new { (policy : Policy) (id : ℕ) (one other : Log) (job also : Job) (p q : Program) (j k a b : ℕ) (c d : Bool) (closed : ClosedServer)
+    ensures new { (policy : Policy) (id : ℕ) (one other : Log) (job also : Job) (p q : Program) (j k a b : ℕ) (c d : Bool) (v w : Option Save) (closed : ClosedServer)
         → job.origin.slot ≡ 13 → also.origin.slot ≡ 13
         → HaveOneOrder (first_server (record { serial = 7; id = id; policy = policy })) (one ∷ other ∷ []) closed
-        → shard_entries 5 (filed_in one) ≡ record { who = one.who; job = j; operation = Logged (InstallsProgram job p (Raised a c)) } ∷ []
-        → shard_entries 5 (filed_in other) ≡ record { who = other.who; job = k; operation = Logged (InstallsProgram also q (Raised b d)) } ∷ []
+        → shard_entries 5 (filed_in one) ≡ record { who = one.who; job = j; operation = Logged (InstallsProgram job p (Raised a c)); save = v } ∷ []
+        → shard_entries 5 (filed_in other) ≡ record { who = other.who; job = k; operation = Logged (InstallsProgram also q (Raised b d)); save = w } ∷ []
         → ((a ≡ 8) × (b ≡ 9)) ⊎ ((a ≡ 9) × (b ≡ 8)) }
     ensures stored { (stored : StoredSlots) (o : Option StoredProgram) (policy : Policy) (id : ℕ) → stored 13 ≡ record { serial = 5; program = o }
-        → (one other : Log) (job also : Job) (p q : Program) (j k a b : ℕ) (c d : Bool) (closed : ClosedServer)
+        → (one other : Log) (job also : Job) (p q : Program) (j k a b : ℕ) (c d : Bool) (v w : Option Save) (closed : ClosedServer)
         → job.origin.slot ≡ 13 → also.origin.slot ≡ 13
         → HaveOneOrder (server_over stored id policy) (one ∷ other ∷ []) closed
-        → shard_entries 5 (filed_in one) ≡ record { who = one.who; job = j; operation = Logged (InstallsProgram job p (Raised a c)) } ∷ []
-        → shard_entries 5 (filed_in other) ≡ record { who = other.who; job = k; operation = Logged (InstallsProgram also q (Raised b d)) } ∷ []
+        → shard_entries 5 (filed_in one) ≡ record { who = one.who; job = j; operation = Logged (InstallsProgram job p (Raised a c)); save = v } ∷ []
+        → shard_entries 5 (filed_in other) ≡ record { who = other.who; job = k; operation = Logged (InstallsProgram also q (Raised b d)); save = w } ∷ []
         → ((a ≡ 6) × (b ≡ 7)) ⊎ ((a ≡ 7) × (b ≡ 6)) }
 {}
 
@@ -193,31 +195,43 @@ pub fn right_tracks_make_a_legal_order()
         → RightByParts (server_with closed order.words) begin [] (log_of first order.calls) }
 {}
 
+/// At each place of a server's one order, a start finds the history's slots.
+///
+/// The order is that of the calls of a server whose store is persistent. The store begins with the
+/// programs of the server's first state, which some history leaves without jobs. At each place of
+/// the order, the slots that are stored are those of the history of the calls up to there. If the
+/// medium was clean, a start finds them, maybe with one refused update.
+pub fn starts_find_the_saved_order<S: Store>()
+    ensures { (first : ServerState) (stored : StoredSlots) (logs : List Log) (closed : ClosedServer) (order : HaveSavedLegalOrder S.Store first stored logs closed) (before : History) (earlier later : List FiledEntry)
+        → S.persistent ≡ true → Serves before first [] → AreStoredAtFirst first stored → order.legal.order.calls ≡ earlier ++ later
+        → FindsHistory S.Store first stored order.saved.before order.saved.after earlier later (history_on before (log_of (first_brought (10 + length logs)) earlier)) }
+{}
+
 /// The timers of slots 5 and 6 fired in the one thread of a server, and each job has a right track.
 ///
 /// The thread's own track has both calls. The track of the second job may be sent to a worker: it
 /// has the call that produced the job, and no other. Three messages are refused: a track with the
 /// key of the thread's empty track, a track with a second call, and two tracks. One track of both
 /// jobs is right for no job. In the other order the jobs don't have the next numbers. With three
-/// threads, their own tracks have keys 9 to 11, their empty ones 12 to 14, and the first job's 15.
+/// threads, their own tracks have keys 10 to 12, their empty ones 13 to 15, and the first job's 16.
 pub fn two_timers_have_right_tracks()
-    ensures right { (calls : CallLog) → HaveRightTracks 10 (record {
+    ensures right { (calls : CallLog) → HaveRightTracks 11 (record {
       calls = calls;
-      who = 9;
+      who = 10;
       tracks = record {
         locked = [];
         may_begin = false;
         next = 0;
-        own = track 11 (timer_entry 11 6 ∷ []) ∷ track 10 (timer_entry 10 5 ∷ []) ∷ track 9 (timer_entry 10 5 ∷ timer_entry 11 6 ∷ []) ∷ [];
+        own = track 12 (timer_entry 12 6 ∷ []) ∷ track 11 (timer_entry 11 5 ∷ []) ∷ track 10 (timer_entry 11 5 ∷ timer_entry 12 6 ∷ []) ∷ [];
       };
     } ∷ []) }
-    ensures new { IsNewJob 10 (record { job = timer_job 6; tracks = own_view 11 (timer_entry 11 6 ∷ []) }) }
-    ensures low { IsNewJob 10 (record { job = timer_job 6; tracks = own_view 10 (timer_entry 10 6 ∷ []) }) → ⊥ }
-    ensures begun { (e : FiledEntry) → IsNewJob 10 (record { job = timer_job 6; tracks = own_view 11 (timer_entry 11 6 ∷ e ∷ []) }) → ⊥ }
-    ensures two { IsNewJob 10 (record { job = timer_job 6; tracks = record (own_view 11 (timer_entry 11 6 ∷ [])) { own = track 11 (timer_entry 11 6 ∷ []) ∷ track 10 [] ∷ [] } }) → ⊥ }
-    ensures shared { IsRightForJob 10 (timer_entry 10 5 ∷ timer_entry 10 6 ∷ []) → ⊥ }
-    ensures keys { first_brought 12 ≡ 15 }
-    ensures turned { HaveNextNumbers 0 (bringing (log_of 10 (timer_entry 11 6 ∷ timer_entry 10 5 ∷ []))) → ⊥ }
+    ensures new { IsNewJob 11 (record { job = timer_job 6; tracks = own_view 12 (timer_entry 12 6 ∷ []) }) }
+    ensures low { IsNewJob 11 (record { job = timer_job 6; tracks = own_view 11 (timer_entry 11 6 ∷ []) }) → ⊥ }
+    ensures begun { (e : FiledEntry) → IsNewJob 11 (record { job = timer_job 6; tracks = own_view 12 (timer_entry 12 6 ∷ e ∷ []) }) → ⊥ }
+    ensures two { IsNewJob 11 (record { job = timer_job 6; tracks = record (own_view 12 (timer_entry 12 6 ∷ [])) { own = track 12 (timer_entry 12 6 ∷ []) ∷ track 11 [] ∷ [] } }) → ⊥ }
+    ensures shared { IsRightForJob 11 (timer_entry 11 5 ∷ timer_entry 11 6 ∷ []) → ⊥ }
+    ensures keys { first_brought 13 ≡ 16 }
+    ensures turned { HaveNextNumbers 0 (bringing (log_of 11 (timer_entry 12 6 ∷ timer_entry 11 5 ∷ []))) → ⊥ }
 {}
 
 /// A worker still knows each head word that it knew before a logged call.
@@ -235,8 +249,8 @@ pub fn workers_forget_no_head_word<B: Bench>()
 pub fn two_threads_raise_and_look()
     ensures { (begin : Begin) (one other : Log) (j k a : ℕ) (closed : ClosedServer)
         → HaveOneOrder (first_server begin) (one ∷ other ∷ []) closed
-        → word_entries (filed_in one) ≡ record { who = one.who; job = j; operation = Logged (RaisesWord 5 3) } ∷ []
-        → word_entries (filed_in other) ≡ record { who = other.who; job = k; operation = Logged (LooksAt 5 a) } ∷ []
+        → word_entries (filed_in one) ≡ record { who = one.who; job = j; operation = Logged (RaisesWord 5 3); save = None } ∷ []
+        → word_entries (filed_in other) ≡ record { who = other.who; job = k; operation = Logged (LooksAt 5 a); save = None } ∷ []
         → (a ≡ 0) ⊎ (a ≡ 3) }
 {}
 
@@ -249,22 +263,22 @@ pub fn two_threads_raise_and_look()
 /// slot 5's first word. It is 11 if the slot is stored at serial 5 with a program that is accepted.
 pub fn a_look_finds_the_raises_before_it()
     ensures least { (begin : Begin) (logs : List Log) (closed : ClosedServer) (order : HaveOneOrder (first_server begin) logs closed) (j k who by a : ℕ) (earlier between later : List FiledEntry)
-        → order.calls ≡ earlier ++ record { who = who; job = j; operation = Logged (RaisesWord 5 7) } ∷ between ++ record { who = by; job = k; operation = Logged (LooksAt 5 a) } ∷ later
+        → order.calls ≡ earlier ++ record { who = who; job = j; operation = Logged (RaisesWord 5 7); save = None } ∷ between ++ record { who = by; job = k; operation = Logged (LooksAt 5 a); save = None } ∷ later
         → 7 ≤ a }
     ensures before { (begin : Begin) (logs : List Log) (closed : ClosedServer) (order : HaveOneOrder (first_server begin) logs closed) (k by a : ℕ) (earlier later : List FiledEntry)
-        → order.calls ≡ earlier ++ record { who = by; job = k; operation = Logged (LooksAt 5 a) } ∷ later → word_entries earlier ≡ [] → a ≡ 0 }
+        → order.calls ≡ earlier ++ record { who = by; job = k; operation = Logged (LooksAt 5 a); save = None } ∷ later → word_entries earlier ≡ [] → a ≡ 0 }
     ensures first { (begin : ServerState) (logs : List Log) (closed : ClosedServer) (order : HaveOneOrder begin logs closed) (k by a : ℕ) (earlier later : List FiledEntry)
-        → order.calls ≡ earlier ++ record { who = by; job = k; operation = Logged (LooksAt 5 a) } ∷ later → word_entries earlier ≡ [] → a ≡ word_at begin.words 5 }
+        → order.calls ≡ earlier ++ record { who = by; job = k; operation = Logged (LooksAt 5 a); save = None } ∷ later → word_entries earlier ≡ [] → a ≡ word_at begin.words 5 }
     ensures stored { (stored : StoredSlots) (id : ℕ) (policy : Policy) (program : StoredProgram) (accepted : Program) → judged program.image ≡ Accepts accepted
         → stored 5 ≡ record { serial = 5; program = Some program }
         → (logs : List Log) (closed : ClosedServer) (order : HaveOneOrder (server_over stored id policy) logs closed) (k by a : ℕ) (earlier later : List FiledEntry)
-        → order.calls ≡ earlier ++ record { who = by; job = k; operation = Logged (LooksAt 5 a) } ∷ later → word_entries earlier ≡ [] → a ≡ 11 }
+        → order.calls ≡ earlier ++ record { who = by; job = k; operation = Logged (LooksAt 5 a); save = None } ∷ later → word_entries earlier ≡ [] → a ≡ 11 }
     ensures other { (begin : Begin) (logs : List Log) (closed : ClosedServer) (order : HaveOneOrder (first_server begin) logs closed) (j k who by a : ℕ) (earlier later : List FiledEntry)
-        → order.calls ≡ earlier ++ record { who = by; job = k; operation = Logged (LooksAt 5 a) } ∷ later
-        → word_entries earlier ≡ record { who = who; job = j; operation = Logged (RaisesWord 6 7) } ∷ [] → a ≡ 0 }
+        → order.calls ≡ earlier ++ record { who = by; job = k; operation = Logged (LooksAt 5 a); save = None } ∷ later
+        → word_entries earlier ≡ record { who = who; job = j; operation = Logged (RaisesWord 6 7); save = None } ∷ [] → a ≡ 0 }
     ensures greatest { (begin : Begin) (logs : List Log) (closed : ClosedServer) (order : HaveOneOrder (first_server begin) logs closed) (i j k one other by a : ℕ) (earlier later : List FiledEntry)
-        → order.calls ≡ earlier ++ record { who = by; job = k; operation = Logged (LooksAt 5 a) } ∷ later
-        → word_entries earlier ≡ record { who = one; job = i; operation = Logged (RaisesWord 5 7) } ∷ record { who = other; job = j; operation = Logged (RaisesWord 5 4) } ∷ [] → a ≡ 7 }
+        → order.calls ≡ earlier ++ record { who = by; job = k; operation = Logged (LooksAt 5 a); save = None } ∷ later
+        → word_entries earlier ≡ record { who = one; job = i; operation = Logged (RaisesWord 5 7); save = None } ∷ record { who = other; job = j; operation = Logged (RaisesWord 5 4); save = None } ∷ [] → a ≡ 7 }
 {}
 
 /// A read of a cost finds the cost of the program that was installed before it.
@@ -273,12 +287,12 @@ pub fn a_look_finds_the_raises_before_it()
 /// slot 13 and a read of the cost there, and no other call. The two may be by any threads. If the
 /// slots begin empty, a read before all other calls of shard 5 finds slot 13 empty.
 pub fn costs_are_of_earlier_installs()
-    ensures after { (stored : StoredSlots) (id : ℕ) (policy : Policy) (logs : List Log) (closed : ClosedServer) (order : HaveOneOrder (server_over stored id policy) logs closed) (who by j k serial : ℕ) (job : Job) (p : Program) (created : Bool) (cost : Option ℕ)
+    ensures after { (stored : StoredSlots) (id : ℕ) (policy : Policy) (logs : List Log) (closed : ClosedServer) (order : HaveOneOrder (server_over stored id policy) logs closed) (who by j k serial : ℕ) (job : Job) (p : Program) (created : Bool) (v : Option Save) (cost : Option ℕ)
         → job.origin.slot ≡ 13
-        → shard_entries 5 order.calls ≡ record { who = who; job = j; operation = Logged (InstallsProgram job p (Raised serial created)) } ∷ record { who = by; job = k; operation = Logged (ReadsCost 13 cost) } ∷ []
+        → shard_entries 5 order.calls ≡ record { who = who; job = j; operation = Logged (InstallsProgram job p (Raised serial created)); save = v } ∷ record { who = by; job = k; operation = Logged (ReadsCost 13 cost); save = None } ∷ []
         → cost ≡ Some p.cost }
     ensures before { (begin : Begin) (logs : List Log) (closed : ClosedServer) (order : HaveOneOrder (first_server begin) logs closed) (by k : ℕ) (cost : Option ℕ) (later : List FiledEntry)
-        → shard_entries 5 order.calls ≡ record { who = by; job = k; operation = Logged (ReadsCost 13 cost) } ∷ later → cost ≡ None }
+        → shard_entries 5 order.calls ≡ record { who = by; job = k; operation = Logged (ReadsCost 13 cost); save = None } ∷ later → cost ≡ None }
 {}
 
 /// The table of a new server's book has the head words of the server's programs.

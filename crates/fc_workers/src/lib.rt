@@ -13,8 +13,8 @@
 //! report. Each call that may change something, or whose result is soon out of date, gets the
 //! worker's log. So contracts state that these calls were made in this order, and no others with
 //! this log. A [`TrackLog`] also has the worker's tracks in the server's book. The server files on
-//! them the calls of its front, shards and head words, and images that aren't installed. Gates,
-//! transmitters and clocks get its [`CallLog`] alone.
+//! them the calls of its front, shards and head words, images that aren't installed, and updates
+//! that its store refuses. Gates, transmitters and clocks get its [`CallLog`] alone.
 //!
 //! The contracts don't say which slot a call meets: a backend's implementation has to take the
 //! snapshot of the job's own slot. Nor do they say that a call returns, or when.
@@ -118,21 +118,22 @@
 //!   That of an install has an image of the program, if the program is that of the job's image.
 //!   While the medium returns the data that was written to it, a start right after the save finds
 //!   this change (`laws`). It finds a commit's variables only if this store had the slot's program.
-//!   If the update can't be saved, the shard is unchanged, nothing is filed for the shard, and the
-//!   job is answered with 5.03.
+//!   If the update can't be saved, the shard is unchanged, the refusal is filed with the update,
+//!   and the job is answered with 5.03.
 //! - A delivery, a draw of a message ID, a lease, a tick, a notification and an answer have the
 //!   result of some front or shard. The time of the result is the given one or a later one. Each
 //!   change of a slot is counted on the worker's tally. Once the server is closed, the serials of
 //!   each shard have risen by exactly what was counted.
 //! - Each call of the front, each call that may change a shard, each receipt and each read of a
 //!   cost is filed in the server's book, once, by its caller. The entry has the call's arguments
-//!   and its result. It is then the last one on the tracks of its part and of the caller. The
-//!   part's entries lead from the server's first front, or first shard of the index, to the one
-//!   under the lock. So two calls of a part are of one part, the server's own, in one order. A skip
-//!   is filed on the caller's track.
+//!   and its result. It is then the last one on the tracks of its part and of the caller. If a
+//!   persistent store has saved a change, or refuses its update, the entry is also the last one on
+//!   the store's track. The part's entries lead from the server's first front, or first shard of
+//!   the index, to the one under the lock. So two calls of a part are of one part, the server's
+//!   own, in one order. A skip is filed on the caller's track.
 //! - Each look at a head word and each raise is filed too, by the step that reads or raises the
-//!   word. A worker also files that an image breaks a rule, that its program isn't installed, or
-//!   that another change can't be saved. No other call is filed.
+//!   word. A worker also files that an image breaks a rule, or that memory for its program can't be
+//!   allocated. No other call is filed.
 //! - **One order**: at the end of a server there is one list of all filed calls. Each thread has
 //!   filed exactly the calls in the list with its key, in that order, and no call is of another
 //!   thread. The calls of the front lead from the server's first front to its last, and those of
@@ -141,6 +142,17 @@
 //!   one message ID each get different ones, and two that install a program each in one slot get
 //!   two serials (`laws`). A look finds exactly the word that the raises before it left, by
 //!   `HaveOneOrder`.
+//! - **Saves in the order**: with a persistent store, each change of a slot is one entry of the
+//!   order, together with the save of its update. So is each update that the store refuses; it
+//!   changes no slot, and isn't stored. No other entry changes a slot or has a save. The saves lead
+//!   the store from some opened state, in the order of the entries. That state has the stored slots
+//!   of the store that the server got (`HaveSavedOneOrder`, by `Locked::close`).
+//! - **A start over saved slots**: at each place of a legal order, each stored slot is that of the
+//!   history up to there, or neither has changed since the start. While the medium returns the data
+//!   that was written to it, a start finds the stored slots. It may also find one update that was
+//!   refused since the last stored one, and unchanged slots at a higher serial. The law supposes
+//!   that the store begins with the programs of the first state, and that some history leaves this
+//!   state without jobs (`starts_find_the_saved_order`).
 //! - **Tracks of jobs**: a job's track is right if its first entry produces the job, and the others
 //!   are the operations that its stages need. Each job's track in a dispatcher's log is right. The
 //!   jobs that the dispatcher produced have the next keys, in order (`Dispatcher::close`). A job
@@ -163,10 +175,10 @@
 //! - A look at a head word returns at least every word of the slot that the worker knows. A worker
 //!   knows the words that it read, and those to which it raised the word. Neither a look nor a
 //!   raise takes a lock.
-//! - Not claimed of saves: in which state a save finds the store, except that it is ready; that a
-//!   save comes before its change; that its store is the server's own; that nothing else is saved;
-//!   and that a refused change was offered to the store, or isn't stored. Tests show all but the
-//!   first.
+//! - Not claimed of saves: that a save comes before its change; that it is made once; that a
+//!   refused update was offered to the store; which slots a start finds after a crash during a
+//!   save, or between its return and its filing; and that the places of the order are points in
+//!   time. Tests show the second and the third.
 //! - Not claimed either: which locks a call holds; whether a shard that is found being saved is (a
 //!   test shows it); which readings a server returns; and that a call returns.
 //!

@@ -7,12 +7,14 @@ ghost use Rattle.fc_server.specs.States.{CanBeginWith};
 ghost use Rattle.fc_calls.specs.Kept.{serials};
 ghost use Rattle.fc_calls.specs.Doings.{PassesIfIdle};
 ghost use Rattle.fc_calls.specs.Logged.{AdvancesIdle};
-ghost use Rattle.fc_linear.specs.Operations.{Logged, ShardDoes};
+ghost use Rattle.fc_linear.specs.Operations.{Logged};
+ghost use Rattle.fc_filed.specs.Entries.{EntriesLead};
+ghost use Rattle.fc_filed.specs.Saves.{ShardSteps};
 ghost use Rattle.fc_filed.specs.Tracked.{IsPartClosed};
 ghost use Rattle.fc_workers.specs.Answers.{changes_if};
 ghost use Rattle.fc_workers.specs.Asked.{IsAsked};
 ghost use Rattle.fc_workers.specs.Counts.{counts};
-ghost use Rattle.fc_workers.specs.Logs.{with_filed_if};
+ghost use Rattle.fc_workers.specs.Logs.{FilesMaybeSaved, FilesRefusal, with_filed_if};
 ghost use Rattle.fc_workers.specs.SharedStores.{HasSaved, LeavesUnsaved, WithSave};
 
 use crate::books::{BookOf, Books, ServerOf};
@@ -21,8 +23,8 @@ use crate::new_server::NewServer;
 use crate::shared_store::SharedStore;
 use crate::tally::Tally;
 use crate::track_log::TrackLog;
-use fc_calls::{Change, ShardCall};
-use fc_filed::{FiledCall, ServerBook, ServerTracks, ShardOf};
+use fc_calls::ShardCall;
+use fc_filed::{FiledCall, FiledChange, ServerBook, ServerTracks, ShardOf};
 use fc_registry::Shard;
 use fc_store::Store;
 use std::sync::ledger::Blank;
@@ -121,12 +123,12 @@ impl<const INDEX: u8, B: Books> LockedShard<INDEX, B> {
 
     /// Saves the change that a call makes, runs the call, and files it, under the shard's lock.
     ///
-    /// Returns `None` if the change can't be saved: then the shard is unchanged. The tally counts
-    /// the changes that the result reports. The call may write to `room`.
-    pub(crate) fn change<C: Change + FiledCall + Drop, K: Store, R: Wait>(
+    /// Returns `None` if the change can't be saved: then the shard is unchanged, and the refusal is
+    /// filed. The tally counts the changes that the result reports. The call may write to `room`.
+    pub(crate) fn change<C: FiledChange + Drop, K: Store, R: Wait>(
         &self,
         rt: &R,
-        store: &SharedStore<K>,
+        store: &SharedStore<B, K>,
         book: &ServerBook<ServerOf<B>>,
         log: &mut TrackLog<ServerOf<B>>,
         call: C,
@@ -136,9 +138,10 @@ impl<const INDEX: u8, B: Books> LockedShard<INDEX, B> {
         requires may { (shard : Seen) → shard.index ≡ INDEX → C.may_ask call shard }
         requires is_of { (shard : Seen) → shard.index ≡ INDEX → C.is_of call shard }
         ensures changed { MatchOption result
-            (IsAsked B.first INDEX (LeavesUnsaved (HasSaved K.Store) (C.slot call) (C.change call)) × C.may_change call × (log.new ≡ log.old))
+            (IsAsked B.first INDEX (LeavesUnsaved (HasSaved K.Store) (C.slot call) (C.change call)) × C.may_change call
+            × FilesRefusal (C.slot call) (C.change call) (C.image call) log.old log.new)
             (λ answer. IsAsked B.first INDEX (WithSave (HasSaved K.Store) (C.is_verified call) (C.slot call) (C.made call answer) (λ before after. C.does call before answer room.new after))
-            × (log.new ≡ with_filed_if (C.files answer) (C.operation INDEX call answer room.new) log.old)) }
+            × FilesMaybeSaved (C.operation INDEX call answer room.new) log.old log.new) }
         ensures tally { tally.new ≡ counts tally.old (changes_if C.changes result) }
     {
         let mut state = self.state.lock(rt);
@@ -160,7 +163,7 @@ impl<const INDEX: u8, B: Books> LockedShard<INDEX, B> {
         requires { all.old.parts ≡ B.parts }
         ensures risen { serials result ≡ serials (shard_at B.first.shards INDEX) + all.old.changes }
         ensures tally { all.new ≡ all.old }
-        ensures closed { IsPartClosed ShardDoes (INDEX + 1) (shard_at B.first.shards INDEX) result tracks.old tracks.new }
+        ensures closed { IsPartClosed (EntriesLead (ShardSteps B.persistent)) (INDEX + 1) (shard_at B.first.shards INDEX) result tracks.old tracks.new }
     {
         let ShardState { counted } = self.state.into_inner();
         counted.close(book, tracks, all)

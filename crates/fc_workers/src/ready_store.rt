@@ -1,30 +1,38 @@
-//! A store that is ready (`Store::is_ready`).
-ghost use Rattle.std.specs.Prelude.{◌≡◌, ◌<◌};
-ghost use Rattle.fc_durable.specs.Saved.{SavesUpdate};
+//! A store that is opened and ready (`Store::is_ready`).
+ghost use Rattle.std.specs.Prelude.{◌≡◌, []};
+ghost use Rattle.fc_filed.specs.Saves.{FindsRaised};
 
-use fc_store::{SlotUpdate, Store};
+use fc_filed::{FiledStore, FiledTrack, ServerName, StoreOf};
+use fc_store::Store;
 use std::marker::Model;
 
-/// A store that is ready to save updates, also after each save.
+/// A store that is opened, and ready to save updates.
 ///
-/// A clause sees the store.
+/// If its medium has returned the data that was written to it, a start would find the stored
+/// programs, each at its stored serial or a higher one. A clause sees the store.
 #[derive(Drop)]
 pub struct ReadyStore<K: Store> {
     store: K,
 }
 
 impl<K: Store> Model for ReadyStore<K> {
+    ghost use Rattle.fc_filed.specs.Saves.{IsOpened};
+
     ghost Value = { K };
 
     ghost view = { λ s. s.store };
 
-    ghost invariant = { λ s. K.is_ready s.store };
+    ghost invariant = { λ s. IsOpened K.Store s.store };
 }
 
 impl<K: Store> ReadyStore<K> {
     /// Takes a store that is ready.
+    ///
+    /// While its medium is clean, a start would find the stored programs. A serial may be higher
+    /// than the stored one: that of a start whose save was refused.
     pub fn new(store: K) -> ReadyStore<K>
-        requires { K.is_ready store }
+        requires ready { K.is_ready store }
+        requires settled { K.is_clean store → FindsRaised K.Store store }
         ensures { result ≡ store }
     {
         ReadyStore { store }
@@ -38,12 +46,12 @@ impl<K: Store> ReadyStore<K> {
         self.store.is_persistent()
     }
 
-    /// Saves an update, and returns whether it is stored.
-    pub(crate) fn save(&mut self, update: &SlotUpdate<'_>) -> bool
-        requires { update.now.slot < 64 }
-        ensures ready { K.is_ready self.old }
-        ensures saves { SavesUpdate K.Store update.now result self.old self.new }
+    /// Adds the track of a server's saves, which has no entry yet.
+    pub(crate) fn with_track<J: ServerName>(self, track: FiledTrack<StoreOf<J>>) -> FiledStore<J, K>
+        requires stored { K.stored self ≡ J.stored }
+        requires track { track ≡ [] }
+        ensures { result ≡ record { store = self; calls = [] } }
     {
-        self.store.save(update)
+        FiledStore::new(self.store, track)
     }
 }

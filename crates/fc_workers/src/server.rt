@@ -37,10 +37,10 @@ ghost use Rattle.fc_workers.specs.SharedStores.{HasSaved, LeavesUnsaved, WithSav
 ghost use Rattle.fc_workers.specs.Filed.{locked_files};
 ghost use Rattle.fc_server.specs.States.{CanBeginWith};
 ghost use Rattle.fc_workers.specs.Closing.{each_shard};
-ghost use Rattle.fc_workers.specs.Logs.{TrackedLog, with_filed_if};
+ghost use Rattle.fc_workers.specs.Logs.{FilesMaybeSaved, FilesRefusal, TrackedLog, with_filed_if};
 ghost use Rattle.fc_workers.specs.Messages.{first_brought};
 ghost use Rattle.fc_workers.specs.Naming.{AreNamed};
-ghost use Rattle.fc_workers.specs.OneOrder.{HasTracksOf, HaveOneOrder, IsNewLog, logs_of};
+ghost use Rattle.fc_workers.specs.OneOrder.{HasTracksOf, HaveSavedOneOrder, IsNewLog, logs_of};
 ghost use Rattle.fc_workers.specs.Counts.{no_changes, sums};
 ghost use Rattle.fc_calls.specs.Kept.{commit_changes, install_changes, removal_changes, serials};
 ghost use Rattle.fc_workers.specs.Answers.{AreTallied, IsSomeCommit, IsSomeInstall, IsSomeNote, IsSomeReceipt, IsSomeRemoval, IsSomeSnapshot};
@@ -63,14 +63,14 @@ use crate::tally::Tally;
 use crate::track_log::{TrackLog, begin_logs};
 use crate::unassigned::Unassigned;
 use coap_msg::{Emission, Endpoint};
+use fc_calls::ShardCall;
 use fc_calls::calls::{
     Commit, CountObservers, Describe, GiveUp, IdleUntil, Install, NextDue, Note, ReadCost, Remove,
     Signal, Take, Tick,
 };
-use fc_calls::{Change, ShardCall};
 use fc_core::{Answer, FrontGauges, Handled, Responded};
 use fc_filed::calls::TakeIfCheap;
-use fc_filed::{FiledCall, NewServerBook, ServerBook, ServerTracks};
+use fc_filed::{FiledCall, FiledChange, NewServerBook, ServerBook, ServerTracks};
 use fc_help::Readings;
 use fc_machine::Outcome;
 use fc_observe::{Ticked, Turn};
@@ -156,13 +156,13 @@ fn shard_of(slot: SlotNumber) -> u8
 /// A server with a lock for its front, a lock for each shard, and a lock for its store.
 ///
 /// A call holds the lock of the front or of one shard. A call that changes a slot saves the change
-/// first: it takes the store's lock inside the shard's, and no lock inside the store's. If the
+/// first: it takes the store's lock inside the shard's, until it is filed. If the
 /// store isn't persistent, nothing is saved, and the store's lock isn't taken. No lock guards the
 /// head words or the device. No lock is held while a program runs or an image is verified.
 #[derive(Drop)]
 pub struct Locked<'a, B: Books, D: Device, K: Store> {
     device: &'a D,
-    store: SharedStore<K>,
+    store: SharedStore<B, K>,
     book: ServerBook<ServerOf<B>>,
     front: Mutex<BegunFront<B>>,
     shard0: LockedShard<0, B>,
@@ -207,8 +207,10 @@ impl<'a, B: Books, D: Device, K: Store + Drop> Locked<'a, B, D, K> {
         requires table { book.table ≡ B.table }
         requires threads { book.first_job ≡ B.first_job }
         requires server { book.first ≡ B.first }
+        requires persistent { B.persistent ≡ K.persistent }
+        requires stored { K.stored store ≡ B.stored }
         ensures unassigned { IfOk result (λ r. r.1 ≡ record { parts = blanks.parts; changes = no_changes; ended = 0 }) }
-        ensures logs { IfOk result (λ r. 9 + vec_len r.2 ≡ B.first_job) }
+        ensures logs { IfOk result (λ r. 10 + vec_len r.2 ≡ B.first_job) }
         ensures new_logs { IfOk result (λ r. All IsNewLog r.2.items) }
         ensures keys { IfOk result (λ r. r.3 ≡ first_brought B.first_job) }
     {
@@ -230,11 +232,12 @@ impl<'a, B: Books, D: Device, K: Store + Drop> Locked<'a, B, D, K> {
         let (shard5, tally5) = LockedShard::new(shard5, blanks.blank5, &mut new_server);
         let (shard6, tally6) = LockedShard::new(shard6, blanks.blank6, &mut new_server);
         let (shard7, tally7) = LockedShard::new(shard7, blanks.blank7, &mut new_server);
+        let store = SharedStore::new(store, &mut new_server);
         let NewServer { book, mut first } = new_server;
         let logs = begin_logs(alloc, &book, &mut first, threads)?;
         let server = Locked {
             device,
-            store: SharedStore::new(store),
+            store,
             book,
             front: Mutex::new(front),
             shard0,
@@ -336,9 +339,10 @@ impl<'a, B: Books, D: Device, K: Store + Drop> Locked<'a, B, D, K> {
     }
 
     // Saves the change that a call makes in `slot`, runs the call at the shard that owns the slot,
-    // and files it in `log`. It holds that shard's lock, and inside it the store's for the save.
-    // Returns `None` if the change can't be saved. The tallies count the change.
-    fn change<C: Change + FiledCall + Drop, R: Wait>(
+    // and files it in `log`. It holds that shard's lock, and inside it the store's if the change has
+    // to be saved. Returns `None` if it can't be saved; the refusal is filed. The tallies count the
+    // change.
+    fn change<C: FiledChange + Drop, R: Wait>(
         &self,
         rt: &R,
         slot: SlotNumber,
@@ -350,9 +354,10 @@ impl<'a, B: Books, D: Device, K: Store + Drop> Locked<'a, B, D, K> {
         requires may { (shard : Seen) → IsOwned shard slot → C.may_ask call shard }
         requires is_of { (shard : Seen) → IsOwned shard slot → C.is_of call shard }
         ensures changed { MatchOption result
-            (IsAsked B.first (slot % 8) (LeavesUnsaved (HasSaved K.Store) (C.slot call) (C.change call)) × C.may_change call × (log.new ≡ log.old))
+            (IsAsked B.first (slot % 8) (LeavesUnsaved (HasSaved K.Store) (C.slot call) (C.change call)) × C.may_change call
+            × FilesRefusal (C.slot call) (C.change call) (C.image call) log.old log.new)
             (λ answer. IsAsked B.first (slot % 8) (WithSave (HasSaved K.Store) (C.is_verified call) (C.slot call) (C.made call answer) (λ before after. C.does call before answer room.new after))
-            × (log.new ≡ with_filed_if (C.files answer) (C.operation (slot % 8) call answer room.new) log.old)) }
+            × FilesMaybeSaved (C.operation (slot % 8) call answer room.new) log.old log.new) }
         ensures changes { AreTallied (slice_index tallies.old.changes) (slice_index tallies.new.changes)
             slot (changes_if C.changes result) }
         ensures ended { tallies.new.ended ≡ tallies.old.ended }
@@ -365,7 +370,7 @@ impl<'a, B: Books, D: Device, K: Store + Drop> Locked<'a, B, D, K> {
     }
 
     // Does what `change` does, in a slot of one of the shards 0 to 3.
-    fn change_low<C: Change + FiledCall + Drop, R: Wait>(
+    fn change_low<C: FiledChange + Drop, R: Wait>(
         &self,
         rt: &R,
         slot: SlotNumber,
@@ -378,9 +383,10 @@ impl<'a, B: Books, D: Device, K: Store + Drop> Locked<'a, B, D, K> {
         requires is_of { (shard : Seen) → IsOwned shard slot → C.is_of call shard }
         requires low { slot % 8 < 4 }
         ensures changed { MatchOption result
-            (IsAsked B.first (slot % 8) (LeavesUnsaved (HasSaved K.Store) (C.slot call) (C.change call)) × C.may_change call × (log.new ≡ log.old))
+            (IsAsked B.first (slot % 8) (LeavesUnsaved (HasSaved K.Store) (C.slot call) (C.change call)) × C.may_change call
+            × FilesRefusal (C.slot call) (C.change call) (C.image call) log.old log.new)
             (λ answer. IsAsked B.first (slot % 8) (WithSave (HasSaved K.Store) (C.is_verified call) (C.slot call) (C.made call answer) (λ before after. C.does call before answer room.new after))
-            × (log.new ≡ with_filed_if (C.files answer) (C.operation (slot % 8) call answer room.new) log.old)) }
+            × FilesMaybeSaved (C.operation (slot % 8) call answer room.new) log.old log.new) }
         ensures changes { AreTallied (slice_index tallies.old.changes) (slice_index tallies.new.changes)
             slot (changes_if C.changes result) }
         ensures ended { tallies.new.ended ≡ tallies.old.ended }
@@ -404,7 +410,7 @@ impl<'a, B: Books, D: Device, K: Store + Drop> Locked<'a, B, D, K> {
     }
 
     // Does what `change` does, in a slot of one of the shards 4 to 7.
-    fn change_high<C: Change + FiledCall + Drop, R: Wait>(
+    fn change_high<C: FiledChange + Drop, R: Wait>(
         &self,
         rt: &R,
         slot: SlotNumber,
@@ -417,9 +423,10 @@ impl<'a, B: Books, D: Device, K: Store + Drop> Locked<'a, B, D, K> {
         requires is_of { (shard : Seen) → IsOwned shard slot → C.is_of call shard }
         requires high { 4 ≤ slot % 8 }
         ensures changed { MatchOption result
-            (IsAsked B.first (slot % 8) (LeavesUnsaved (HasSaved K.Store) (C.slot call) (C.change call)) × C.may_change call × (log.new ≡ log.old))
+            (IsAsked B.first (slot % 8) (LeavesUnsaved (HasSaved K.Store) (C.slot call) (C.change call)) × C.may_change call
+            × FilesRefusal (C.slot call) (C.change call) (C.image call) log.old log.new)
             (λ answer. IsAsked B.first (slot % 8) (WithSave (HasSaved K.Store) (C.is_verified call) (C.slot call) (C.made call answer) (λ before after. C.does call before answer room.new after))
-            × (log.new ≡ with_filed_if (C.files answer) (C.operation (slot % 8) call answer room.new) log.old)) }
+            × FilesMaybeSaved (C.operation (slot % 8) call answer room.new) log.old log.new) }
         ensures changes { AreTallied (slice_index tallies.old.changes) (slice_index tallies.new.changes)
             slot (changes_if C.changes result) }
         ensures ended { tallies.new.ended ≡ tallies.old.ended }
@@ -465,6 +472,9 @@ impl<'a, B: Books, D: Device, K: Store + Drop> Locked<'a, B, D, K> {
 
     /// Closes the server, and drops its store. All parts must be unassigned again.
     ///
+    /// The one order has the saves of the store too: with a persistent store each change of a slot
+    /// is saved, and the saves lead from the opened store, in the order.
+    ///
     /// The serials of each shard have risen by the changes that were counted. The result has these
     /// counts. If `tracks` has the tracks of all threads' logs, the filed calls have one order.
     /// Each thread's calls are in its order. Those of the front, and those of each shard, lead from
@@ -477,7 +487,7 @@ impl<'a, B: Books, D: Device, K: Store + Drop> Locked<'a, B, D, K> {
         requires { unassigned.old.parts ≡ B.parts }
         ensures risen { map serials result.shards ≡ sums (map serials B.first.shards) unassigned.old.changes }
         ensures shown { result.changes ≡ map saturated unassigned.old.changes }
-        ensures order { (logs : List TrackedLog) → HasTracksOf B.first_job logs tracks → 9 + length logs ≡ B.first_job → HaveOneOrder B.first logs result }
+        ensures order { (logs : List TrackedLog) → HasTracksOf B.first_job logs tracks → 10 + length logs ≡ B.first_job → HaveSavedOneOrder K.Store B.first B.stored logs result }
     {
         let front = self.front.into_inner().close(&self.book, &mut tracks);
         let shard0 = self
@@ -504,6 +514,7 @@ impl<'a, B: Books, D: Device, K: Store + Drop> Locked<'a, B, D, K> {
         let shard7 = self
             .shard7
             .close(&self.book, &mut tracks, &mut unassigned.tally7);
+        self.store.close(&self.book, &mut tracks);
         tracks.attest(&self.book);
         ClosedServer {
             front,
@@ -518,8 +529,8 @@ impl<'a, B: Books, D: Device, K: Store + Drop> Locked<'a, B, D, K> {
 /// A call of the front or of a shard locks that part and calls it.
 ///
 /// A change of a slot is saved before the call, under the shard's lock. Reads and raises of head
-/// words and skips of idle shards take no lock. Neither do a call of the device, the filing of a
-/// change that isn't made, and the question whether a shard is being saved.
+/// words and skips of idle shards take no lock. Neither do a call of the device, the filing of an
+/// image that isn't installed, and the question whether a shard is being saved.
 impl<'a, B: Books, D: Device, K: Store + Drop> Bench for Locked<'a, B, D, K> {
     ghost called = { IsServerCall B.first (peripherals D.are_readings K.Store) };
 
@@ -792,10 +803,6 @@ impl<'a, B: Books, D: Device, K: Store + Drop> Bench for Locked<'a, B, D, K> {
 
     fn refuse_install(&self, job: &Job, log: &mut TrackLog<ServerOf<B>>) {
         log.tracks.refuse_install(&self.book, log.who, job);
-    }
-
-    fn fail_to_save(&self, job: &Job, log: &mut TrackLog<ServerOf<B>>) {
-        log.tracks.fail_to_save(&self.book, log.who, job);
     }
 
     fn respond<R: Wait>(

@@ -20,8 +20,8 @@ use std::marker::Model;
 
 /// The key of the first thread's track.
 ///
-/// Keys 0 to 8 are those of the tracks of the front and of eight shards.
-const FIRST_THREAD: u64 = 9;
+/// Keys 0 to 9 are those of the tracks of the front, of eight shards and of the store.
+const FIRST_THREAD: u64 = 10;
 
 /// A worker's log: that of its calls, and its tracks in the server's book.
 ///
@@ -54,7 +54,7 @@ impl<J: ServerName> Model for TrackLog<J> {
 struct ThreadTrack<J: ServerName> {
     who: u64,
     tracks: ServerTracks<J>,
-    ghost key: { (9 ≤ who) × (who < J.first_job) },
+    ghost key: { (10 ≤ who) × (who < J.first_job) },
     ghost own: { tracks ≡ own_view who [] },
 }
 
@@ -178,8 +178,8 @@ pub(crate) fn begin_logs<J: ServerName>(
     threads: u16,
 ) -> Result<Vec<TrackLog<J>>, AllocError>
     requires may_begin { first.old.may_begin ≡ true }
-    requires next { first.old.next ≡ 9 }
-    requires threads { J.first_job ≡ 9 + threads }
+    requires next { first.old.next ≡ 10 }
+    requires threads { J.first_job ≡ 10 + threads }
     ensures count { IfOk result (λ v. vec_len v ≡ threads) }
     ensures new_logs { IfOk result (λ v. All IsNewLog v.items) }
     ensures next { IfOk result (λ v. first.new ≡ record first.old { next = first_brought J.first_job }) }
@@ -200,8 +200,8 @@ fn begin_threads<J: ServerName>(
     threads: u16,
 ) -> Result<Vec<ThreadTrack<J>>, AllocError>
     requires may_begin { first.old.may_begin ≡ true }
-    requires next { first.old.next ≡ 9 }
-    requires threads { J.first_job ≡ 9 + threads }
+    requires next { first.old.next ≡ 10 }
+    requires threads { J.first_job ≡ 10 + threads }
     ensures next { IfOk result (λ v. first.new ≡ record first.old { next = J.first_job }) }
     ensures count { IfOk result (λ v. vec_len v ≡ threads) }
 {

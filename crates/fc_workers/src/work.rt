@@ -8,7 +8,7 @@ ghost use Rattle.fc_core.specs.Contents.{Unavailable};
 ghost use Rattle.fc_core.specs.Ends.{refused};
 ghost use Rattle.fc_core.specs.Stages.{image_of};
 ghost use Rattle.fc_core.specs.Stage.{ToAnswer, ToInstall, ToRemove};
-ghost use Rattle.fc_linear.specs.Operations.{FailsToSave, RefusesInstall, RejectsImage};
+ghost use Rattle.fc_linear.specs.Operations.{RefusesInstall, RejectsImage};
 ghost use Rattle.fc_workers.specs.Answers.{saturated};
 ghost use Rattle.fc_workers.specs.Dispatch.{MayGo};
 ghost use Rattle.fc_workers.specs.declared.dispatcher.Offload.TheVariants.{Expensive};
@@ -193,7 +193,7 @@ impl<'a, B: Bench, G: Gate, W: Wire, M: TimeSource> Context<'a, B, G, W, M> {
         let log = &mut share.log;
         match self.bench.remove(rt, job, &mut share.tallies, log) {
             Some(removal) => stage.removed(removal),
-            None => self.answer_unsaved(job, stage, share),
+            None => self.answer_unsaved(stage, share),
         }
     }
 
@@ -263,7 +263,7 @@ impl<'a, B: Bench, G: Gate, W: Wire, M: TimeSource> Context<'a, B, G, W, M> {
                 let answer = &mut stage.answer;
                 stage.step = Step::committed(*count, &outcome, &ticket, committed, answer);
             }
-            None => self.answer_unsaved(job, stage, share),
+            None => self.answer_unsaved(stage, share),
         }
     }
 
@@ -320,7 +320,7 @@ impl<'a, B: Bench, G: Gate, W: Wire, M: TimeSource> Context<'a, B, G, W, M> {
                     .install(rt, job, program, &mut share.tallies, log)
                 {
                     Some(made) => stage.made(receipt, made),
-                    None => self.answer_uninstalled(job, stage, share),
+                    None => self.answer_unsaved(stage, share),
                 }
             }
             Err(_) => self.answer_uninstalled(job, stage, share),
@@ -346,7 +346,7 @@ impl<'a, B: Bench, G: Gate, W: Wire, M: TimeSource> Context<'a, B, G, W, M> {
         self.bench.reject_image(job, answer, log);
     }
 
-    // Sets the answer of an install to `Unavailable`, since the program isn't installed. Counts and
+    // Sets the answer of an install to `Unavailable`, since memory for it is refused. Counts and
     // files the refusal.
     fn answer_uninstalled(
         &self,
@@ -363,14 +363,12 @@ impl<'a, B: Bench, G: Gate, W: Wire, M: TimeSource> Context<'a, B, G, W, M> {
         stage.unavailable();
     }
 
-    // Sets the job's answer to `Unavailable`, since the change of its slot, a commit or a removal,
-    // can't be saved. Counts and files the refusal.
-    fn answer_unsaved(&self, job: &Job, stage: &mut Stage, share: &mut ShareOf<B::Tallies, B::Book>)
+    // Sets the job's answer to `Unavailable`, since the change of its slot can't be saved. Counts
+    // the refusal.
+    fn answer_unsaved(&self, stage: &mut Stage, share: &mut ShareOf<B::Tallies, B::Book>)
         ensures answer { stage.new ≡ ToAnswer Unavailable }
-        ensures filed { HasFiled (FailsToSave job.now) share.old.log share.new.log }
-        ensures counted { share.new ≡ record share.old { log = share.new.log; refusals = saturated (share.old.refusals + 1) } }
+        ensures counted { share.new ≡ record share.old { refusals = saturated (share.old.refusals + 1) } }
     {
-        self.bench.fail_to_save(job, &mut share.log);
         share.count_refusal();
         stage.unavailable();
     }

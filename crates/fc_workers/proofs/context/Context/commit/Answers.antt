@@ -1,18 +1,18 @@
-use Rattle.std.proofs.Common.{◌≡◌, ◌∙◌, ap, refl, subst, sym}
+use Rattle.std.proofs.Common.{◌≡◌, ◌∙◌, [], ap, refl, subst, sym}
 use Rattle.fc_machine.specs.Ran.{Ran}
 use Rattle.fc_kinds.specs.Meaning.{Program}
 use Rattle.fc_registry.specs.declared.job.Origin.{Origin}
+use Rattle.fc_registry.specs.Calls.{commit_of}
+use Rattle.fc_registry.specs.Changes.{Committed as Wrote}
 use Rattle.fc_registry.specs.Slots.{Ticket}
 use Rattle.fc_registry.specs.Taken.{ticket_with}
 use Rattle.fc_core.specs.Room.{stage_of}
 use Rattle.fc_core.specs.Stage.{Stage, ToCommit}
 use Rattle.fc_core.specs.declared.stage.Step.TheVariants as steps
-use Rattle.fc_linear.specs.Operations.{FailsToSave}
 use Rattle.fc_workers.specs.Answers.{AreTallied, IsSomeCommit}
 use Rattle.fc_calls.specs.Logged.{CommitsRun}
 use Rattle.fc_workers.specs.Called.{worker_view}
-use Rattle.fc_workers.specs.Filed.{HasFiled}
-use Rattle.fc_workers.specs.Logs.{TrackedLog}
+use Rattle.fc_workers.specs.Logs.{FilesRefusal, TrackedLog}
 use Rattle.fc_workers.specs.Steps.{IsReady, IsStep}
 use Rattle.fc_workers.specs.Work.{IsCommitRefused, IsCommitted}
 use Rattle.fc_workers.proofs.Steps.{commit_step, from_stage, is_run, stands_at, unsaved_step}
@@ -68,9 +68,9 @@ returns-in-None-clause-step g c =
     ∙ ap (λ (x : Ticket). ToCommit count x) (ap (λ (p : Program). ticket_with p room.found) (sym c.deref.ensures) ∙ sym c.of-ticket.ensures) in
     let ready = subst (λ (x : Stage). IsReady c.args.job.now x) at c.requires.ready in
     let refused = c.in-None.ensures.refused refl in
-    let after = c.answer_unsaved.new.share.log in
+    let after = c.commit.new.log in
     let tallies = c.commit.new.tallies in
-    let filed = subst (λ (l : TrackedLog). HasFiled (FailsToSave c.args.job.now) l after) refused.2 c.answer_unsaved.ensures.filed in
+    let filed = subst (λ (o : Origin). FilesRefusal o.slot (Wrote (commit_of t)) [] c.now-now.new.log after) ready.1 refused.2 in
     let is : IsCommitRefused s c.args.number c.args.job.now t c.args.share.now.log after = record {
       passed = c.between.new.log;
       gate = c.between.ensures;

@@ -20,5 +20,5 @@ returns-in-Err-NoMemory-clause-step g c number =
     let is = subst (λ (r : Refusal). IsRefusal (image_of c.args.job.now.ask) r) c.in-Err-NoMemory.field-0-is here in
     refuse_step (worker_view g.B.Bench.changes g.B.Bench.ended g.B.Bench.called g.B.Bench.logged
     g.M.TimeSource.is_time g.M.TimeSource.is_random g.G.Gate.passed g.W.Wire.called) number c.args.job.now
-    c.args.share.now c.args.share.now.tallies c.answer_uninstalled.new.share.log (inl is) c.answer_uninstalled.ensures.filed (same_tallies (g.B.Bench.changes c.args.share.now.tallies) c.args.job.now.origin.slot)
+    c.args.share.now c.args.share.now.tallies c.answer_uninstalled.new.share.log (inl (is, c.answer_uninstalled.ensures.filed)) (same_tallies (g.B.Bench.changes c.args.share.now.tallies) c.args.job.now.origin.slot)
     c.answer_uninstalled.ensures.answer c.answer_uninstalled.ensures.counted

@@ -4,13 +4,11 @@ use Rattle.fc_registry.specs.Calls.{initial_vars_of}
 use Rattle.fc_registry.specs.Changes.{Installed}
 use Rattle.fc_registry.specs.declared.receipt.Receipt.{Receipt}
 use Rattle.fc_core.specs.Fits.{IsSafe}
-use Rattle.fc_core.specs.Stages.{made}
-use Rattle.fc_linear.specs.Operations.{RefusesInstall}
+use Rattle.fc_core.specs.Stages.{image_of, made}
 use Rattle.fc_workers.specs.Answers.{IsSomeInstall}
 use Rattle.fc_calls.specs.Logged.{InstallsProgram}
 use Rattle.fc_workers.specs.Called.{RefusesSave, worker_view}
-use Rattle.fc_workers.specs.Filed.{HasFiled}
-use Rattle.fc_workers.specs.Logs.{TrackedLog}
+use Rattle.fc_workers.specs.Logs.{FilesRefusal}
 use Rattle.fc_workers.proofs.Steps.{install_step, refuse_step, same_tallies}
 use Rattle.fc_workers.proofs.context.Context.install_program.Goals as goal
 
@@ -30,18 +28,18 @@ returns-in-Some-clause-step g c number =
 pub returns-in-Ok-clause-step : goal.returns-in-Ok-clause-step
 returns-in-Ok-clause-step g c number =
     let job = c.args.job.now in
-    let after = c.answer_uninstalled.new.share.log in
-    let refused = c.in-None.ensures.refused refl in
-    let refuses = subst (λ (p : Program). g.B.Bench.called (RefusesSave job.origin.slot (Installed p (initial_vars_of job.ask)))) c.in-Ok.ensures.ok refused.0 in
-    let filed = subst (λ (l : TrackedLog). HasFiled (RefusesInstall job) l after) refused.1 c.answer_uninstalled.ensures.filed in
+    let before = c.args.share.now.log in
+    let after = c.install.new.log in
+    let refused = subst (λ (p : Program). g.B.Bench.called (RefusesSave job.origin.slot (Installed p (initial_vars_of job.ask))) × FilesRefusal job.origin.slot (Installed p (initial_vars_of job.ask)) (image_of job.ask) before after)
+    c.in-Ok.ensures.ok (c.in-None.ensures.refused refl) in
     refuse_step (worker_view g.B.Bench.changes g.B.Bench.ended g.B.Bench.called g.B.Bench.logged
     g.M.TimeSource.is_time g.M.TimeSource.is_random g.G.Gate.passed g.W.Wire.called) number job
-    c.args.share.now c.install.new.tallies after (inr (c.args.program, c.requires.judged, refuses)) filed c.in-None.ensures.changes c.answer_uninstalled.ensures.answer c.answer_uninstalled.ensures.counted
+    c.args.share.now c.install.new.tallies after (inr (c.args.program, (c.requires.judged, refused.0, refused.1))) c.in-None.ensures.changes c.answer_unsaved.ensures.answer c.answer_unsaved.ensures.counted
 
 pub returns-clause-step : goal.returns-clause-step
 returns-clause-step g c number =
     let share = c.args.share.now in
-    let refused = c.answer_uninstalled-in-Err in
+    let refused = c.answer_uninstalled in
     refuse_step (worker_view g.B.Bench.changes g.B.Bench.ended g.B.Bench.called g.B.Bench.logged
     g.M.TimeSource.is_time g.M.TimeSource.is_random g.G.Gate.passed g.W.Wire.called) number c.args.job.now
-    share share.tallies refused.new.share.log (inl c.requires.accepted.shapely.program.head) refused.ensures.filed (same_tallies (g.B.Bench.changes share.tallies) c.args.job.now.origin.slot) refused.ensures.answer refused.ensures.counted
+    share share.tallies refused.new.share.log (inl (c.requires.accepted.shapely.program.head, refused.ensures.filed)) (same_tallies (g.B.Bench.changes share.tallies) c.args.job.now.origin.slot) refused.ensures.answer refused.ensures.counted

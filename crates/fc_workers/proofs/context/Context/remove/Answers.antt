@@ -1,9 +1,6 @@
 use Rattle.std.proofs.Common.{refl, subst}
 use Rattle.fc_core.specs.Stage.{ToRemove}
-use Rattle.fc_linear.specs.Operations.{FailsToSave}
 use Rattle.fc_workers.specs.Called.{worker_view}
-use Rattle.fc_workers.specs.Filed.{HasFiled}
-use Rattle.fc_workers.specs.Logs.{TrackedLog}
 use Rattle.fc_workers.proofs.Steps.{remove_step, unsaved_step}
 use Rattle.fc_workers.proofs.context.Context.remove.Goals as goal
 
@@ -19,6 +16,4 @@ returns-in-None-clause-step g c number =
     let s = (worker_view g.B.Bench.changes g.B.Bench.ended g.B.Bench.called g.B.Bench.logged
     g.M.TimeSource.is_time g.M.TimeSource.is_random g.G.Gate.passed g.W.Wire.called) in
     let refused = c.in-None.ensures.refused refl in
-    let after = c.answer_unsaved.new.share.log in
-    let filed = subst (λ (l : TrackedLog). HasFiled (FailsToSave c.args.job.now) l after) refused.1 c.answer_unsaved.ensures.filed in
-    unsaved_step s number c.args.job.now ToRemove c.args.share.now c.remove.new.tallies after tt (refused.0, filed) c.in-None.ensures.changes c.answer_unsaved.ensures.answer c.answer_unsaved.ensures.counted
+    unsaved_step s number c.args.job.now ToRemove c.args.share.now c.remove.new.tallies c.remove.new.log tt refused c.in-None.ensures.changes c.answer_unsaved.ensures.answer c.answer_unsaved.ensures.counted

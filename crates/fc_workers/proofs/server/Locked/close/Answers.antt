@@ -18,7 +18,8 @@ returns-clause-risen g c =
 
 pub returns-clause-order : goal.returns-clause-order
 returns-clause-order g c = λ logs has count.
-    one_order g.B.Books.first_job g.B.Books.first logs c.args.tracks c.close-front.new.tracks c.close-shard7.new.tracks _ has count c.close-front.ensures (
+    let store = c.close.ensures.led in
+    one_order g.B.Books.first_job g.K.Store g.B.Books.persistent c.close.ensures.persistent g.B.Books.first g.B.Books.stored logs c.args.tracks c.close-front.new.tracks c.close-shard7.new.tracks c.close.new.tracks _ store.0 store.1 has count c.close-front.ensures (
       c.close-shard0.new.tracks,
       c.close-shard0.ensures.closed,
       (
@@ -43,4 +44,4 @@ returns-clause-order g c = λ logs has count.
         ),
       ),
     )
-    refl c.attest.ensures.one
+    refl store.2 store.3 store.4 c.attest.ensures.one
