@@ -6,6 +6,7 @@ use Rattle.coap_msg.specs.declared.types.Emission.{Emission}
 use Rattle.coap_msg.specs.declared.types.Endpoint.{Endpoint}
 use Rattle.fc_calls.specs.Logged.{AdvancesFront, AdvancesIdle, AdvancesShard, SkipsIdle}
 use Rattle.fc_core.specs.declared.front.Handled.{Handled}
+use Rattle.fc_registry.specs.Slots.{Shard}
 use Rattle.fc_filed.specs.declared.entry.FiledEntry.{FiledEntry}
 use Rattle.fc_host.specs.Clocks.{AreReadAt}
 use Rattle.fc_host.specs.Sockets.{Incoming, Receive}
@@ -293,18 +294,18 @@ module _ (sensors : List ℕ → Type 0) (e : RoundCalls)
         (timed_counts (By who) calls (pooled_counts view files who)) (readies_firing Ready)
         (λ now old new w. ready now old.ingress new.ingress w.0)
 
-  module _ (Reported : Report → CallLog → CallLog → Type 0) (workers limit : ℕ) (persistent : Bool) (start : ServerState)
+  module _ (Reported : Report → CallLog → CallLog → Type 0) (workers limit : ℕ) (persistent : Bool) (start : ServerState) (Kept : List Shard → List FiledEntry → Type 0)
       (before after : Option (List Receive)) (replies : Replies) where
     abbrev Served : List Timer → Option ℕ → Type 0
     Served timers every =
-        HasServedPooled view timers every Reported e workers limit persistent start before after replies
+        HasServedPooled view timers every Reported e workers limit persistent start Kept before after replies
 
     -- the deliveries of the rounds are those of the one order.
     in_order : (timers : List Timer) (every : Option ℕ) (w : Served timers every)
         (ds : List Delivery) (last : Pool) → w.last ≡ last → By w.new.log.who ds w.first last
         → deliveries_in w.order.order.calls ≡ ds
     in_order timers every w ds last is by =
-        delivered_in_order view files (9 + (workers + 1)) w.channel
+        delivered_in_order view files (10 + (workers + 1)) w.channel
         (offload_where w.has_workers (offload_of persistent)) w.first w.last w.new ds
         (subst (λ (d : Pool). By w.new.log.who ds w.first d) (sym is) by)
         w.shares w.worked start w.closed w.order

@@ -7,9 +7,9 @@ use Rattle.fc_store.specs.declared.store.Store.{Ghosts}
 use Rattle.fc_store.specs.Stored.{StoredProgram, StoredSlot, StoredSlots, stored_in}
 use Rattle.fc_store.specs.Updates.{AreSameSlots, slot_after, slots_after}
 use Rattle.fc_registry.specs.Slots.{last_serial}
-use Rattle.fc_durable.specs.Recovery.{HasRefusedUpdate, MayBeFound, Save, SavesAll, stored_after}
-use Rattle.fc_durable.specs.Saved.{SavesBy, SavesUpdate}
-use Rattle.fc_durable.proofs.Recovery.{found_are, stored_are}
+use Rattle.fc_store.specs.Recovery.{HasRefusedUpdate, MayBeFound, Save, SavesAll, stored_after}
+use Rattle.fc_store.specs.Saves.{SavesBy, SavesUpdate}
+use Rattle.fc_store.proofs.Recovery.{found_are, stored_are}
 use Rattle.fc_service.specs.Serials.{serial_over}
 use Rattle.fc_service.specs.Starting.{AreRising, SavesSerial}
 use Rattle.fc_service.proofs.FirstSerials.{starts_above_from}

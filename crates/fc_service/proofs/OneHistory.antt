@@ -8,8 +8,8 @@ use Rattle.coap_msg.specs.declared.types.Emission.{Emission}
 use Rattle.coap_msg.specs.declared.types.Endpoint.{Endpoint}
 use Rattle.fc_core.specs.declared.event.Event.{Event}
 use Rattle.fc_core.specs.declared.event.Event.TheVariants.{Answer, Commit, Deliver, Due, Fresh, GiveUp, Install, Note, Peek, Raise, Receipt, Remove, ShardTick, Signal, Take, Tick}
-use Rattle.fc_core.specs.declared.front.Delivered.{Delivered}
-use Rattle.fc_core.specs.declared.front.Delivered.TheVariants.{Job as Brings, Signal as Signals}
+use Rattle.fc_core.specs.declared.by_value.Delivered.{Delivered}
+use Rattle.fc_core.specs.declared.by_value.Delivered.TheVariants.{Job as Brings, Signal as Signals}
 use Rattle.fc_core.specs.declared.stage.Task.{Task}
 use Rattle.fc_core.specs.Exchanges.{advanced}
 use Rattle.fc_core.specs.History.{Entry, History, Then, did}

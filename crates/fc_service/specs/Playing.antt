@@ -150,4 +150,4 @@ pub record IsFedByLines {S : Type 0} (calls : IngressCalls S) (had : Option (Lis
 abbrev pub IsPlayedBeside : Saving → Begin → Offload → ℕ → Option (List ℕ) → Replies → Type 0
 IsPlayedBeside Saves begin offload workers had replies =
     (closed : ClosedServer) × IsFedBeside (locked_view (first_server begin) (λ readings before after. ⊤) Saves (λ now before after. ⊤) (λ random. ⊤) (λ call before after. ⊤) (λ change before after. after ≡ before))
-    (λ calls lines first last given. IsFedByLines calls lines first last) (first_server begin) offload workers had (tt {0}) replies closed
+    (λ calls lines first last given. IsFedByLines calls lines first last) (first_server begin) (λ shards calls. ⊤) offload workers had (tt {0}) replies closed

@@ -6,6 +6,7 @@ use Rattle.coap_msg.specs.declared.types.Emission.{Emission}
 use Rattle.coap_msg.specs.declared.types.Endpoint.{Endpoint}
 use Rattle.fc_core.specs.declared.front.Handled.{Handled}
 use Rattle.fc_observe.specs.declared.observers.Ticked.{Ticked}
+use Rattle.fc_registry.specs.Slots.{Shard}
 use Rattle.fc_server.specs.Notified.{Notified, is_given, notification_in}
 use Rattle.fc_workers.specs.Answers.{IsSomeTick}
 use Rattle.fc_workers.specs.Asked.{IsLoggedCall, IsServerCall, Peripherals}
@@ -19,6 +20,7 @@ use Rattle.fc_jobs.specs.Ends.{Channel, nothing_got, nothing_sent}
 use Rattle.fc_workers.specs.declared.call_log.CallLog.{CallLog}
 use Rattle.fc_workers.specs.declared.closed.ClosedServer.{ClosedServer}
 use Rattle.fc_workers.specs.Logs.{TrackedLog}
+use Rattle.fc_filed.specs.declared.entry.FiledEntry.{FiledEntry}
 use Rattle.fc_filed.specs.Threads.{HasJobFirst, HasOwnTrack}
 use Rattle.fc_workers.specs.LegalOrder.{HaveLegalOrder}
 use Rattle.fc_workers.specs.Messages.{TrackedJob}
@@ -129,14 +131,16 @@ module _ {T : Type 0} (s : WorkerView T) where
   -- the driver fed the dispatcher in this way, with this number of workers. The replies are those
   -- of the dispatcher's own jobs and of the workers'. The calls that the workers and the dispatcher
   -- filed have one order, from the server's first state to the closed server. It legally continues
-  -- each history that leaves this state without jobs.
-  pub record IsFedBeside {F X : Type 0} (Drives : IngressCalls (PooledIngress T) → F → PooledIngress T → PooledIngress T → X → Type 0) (first : ServerState) (offload : Offload) (workers : ℕ) (driver : F) (given : X) (replies : Replies) (closed : ClosedServer) : Type 0 where
+  -- each history that leaves this state without jobs. The store's saves have their place in the
+  -- order (`Kept`).
+  pub record IsFedBeside {F X : Type 0} (Drives : IngressCalls (PooledIngress T) → F → PooledIngress T → PooledIngress T → X → Type 0) (first : ServerState) (Kept : List Shard → List FiledEntry → Type 0) (offload : Offload) (workers : ℕ) (driver : F) (given : X) (replies : Replies) (closed : ClosedServer) : Type 0 where
     pub own : Share T
     pub shares : List (Share T)
-    pub fed : IsFed (9 + (workers + 1)) Drives offload driver given own shares
+    pub fed : IsFed (10 + (workers + 1)) Drives offload driver given own shares
     pub count : length shares ≡ workers
     pub counted : replies ≡ both_replies (replies_of shares) (replies_by own)
     pub order : HaveLegalOrder first (logs_of shares own) closed
+    pub saved : Kept closed.shards order.order.calls
 
 -- a worker context whose jobs are never delayed.
 abbrev pub open_view : {T : Type 0} → (T → ℕ → ℕ) → (T → ℕ) → (BenchCall → Type 0) → (LoggedCall → TrackedLog → TrackedLog → Type 0)

@@ -2,6 +2,8 @@
 use Rattle.std.specs.Prelude.{◌≡◌, ◌+◌, ◌-◌, ◌<◌, ◌⊎◌, ⊤, ℕ, max, min, nat_lt, if◌then◌else◌, List, [], ◌∷◌, ◌++◌, length, map, Bool, false, true, Option, Some, None, is_none}
 use Rattle.std.specs.Option.{option_to_list}
 use Rattle.coap_msg.specs.declared.types.Emission.{Emission}
+use Rattle.fc_registry.specs.Slots.{Shard}
+use Rattle.fc_filed.specs.declared.entry.FiledEntry.{FiledEntry}
 use Rattle.fc_workers.specs.Counts.{Tallies}
 use Rattle.fc_workers.specs.declared.dispatcher.Offload.{Offload}
 use Rattle.fc_workers.specs.declared.dispatcher.Offload.TheVariants.{ChangesAndExpensive, Expensive}
@@ -270,21 +272,22 @@ offload_of false = Expensive 6000
 -- replies are those of the rounds, of the jobs of this number of workers, and of the dispatcher's
 -- jobs. The calls that the workers and the dispatcher filed have one order, from the state in which
 -- the server started to a closed server. It legally continues each history that leaves this state
--- without jobs.
-pub record HasServedPooled (s : WorkerView Tallies) (timers : List Timer) (every : Option ℕ) (Reported : Report → CallLog → CallLog → Type 0) (e : RoundCalls) (workers limit : ℕ) (persistent : Bool) (start : ServerState) (before after : Option (List Receive)) (replies : Replies) : Type 0 where
+-- without jobs. The store's saves have their place in the order (`Kept`).
+pub record HasServedPooled (s : WorkerView Tallies) (timers : List Timer) (every : Option ℕ) (Reported : Report → CallLog → CallLog → Type 0) (e : RoundCalls) (workers limit : ℕ) (persistent : Bool) (start : ServerState) (Kept : List Shard → List FiledEntry → Type 0) (before after : Option (List Receive)) (replies : Replies) : Type 0 where
   pub channel : Channel TrackedJob
   pub first : PooledIngress Tallies
   pub last : PooledIngress Tallies
   pub has_workers : Bool
-  pub new : IsNew (9 + (workers + 1)) channel (offload_where has_workers (offload_of persistent)) first
+  pub new : IsNew (10 + (workers + 1)) channel (offload_where has_workers (offload_of persistent)) first
   pub at_once : Replies
   pub run : HasReceivedWith timers every Reported (λ now old new. new ≡ old) (pooled_calls s) e limit before after first last at_once
   pub shares : List (Share Tallies)
-  pub worked : AreSharesAt s (9 + (workers + 1)) channel shares
+  pub worked : AreSharesAt s (10 + (workers + 1)) channel shares
   pub count : length shares ≡ workers
   pub all : replies ≡ both_replies at_once (both_replies (replies_of shares) (replies_by last.done.share))
   pub closed : ClosedServer
   pub order : HaveLegalOrder start (logs_of shares last.done.share) closed
+  pub saved : Kept closed.shards order.order.calls
 
 -- ---- a server with this number of workers
 
@@ -294,8 +297,8 @@ abbrev pub IsOneThread : (workers : ℕ) → (persistent : Bool) → Type 0
 IsOneThread workers persistent = (workers ≡ 1) × (persistent ≡ false)
 
 -- a server that started in this state has run on the receiving thread, or with its workers, which
--- saved changes in this way.
-abbrev pub IsServed : List Timer → (List ℕ → Type 0) → RoundCalls → (Requested → CallLog → CallLog → Type 0) → Option ℕ → (Report → CallLog → CallLog → Type 0) → Extent → Saving → (persistent : Bool) → (start : ServerState) → Option (List Receive) → Option (List Receive) → Replies → Type 0
-IsServed timers sensors e Recorded every Reported extent Saves persistent start before after replies =
+-- saved changes in this way, and whose saves have their place in the order of the calls.
+abbrev pub IsServed : List Timer → (List ℕ → Type 0) → RoundCalls → (Requested → CallLog → CallLog → Type 0) → Option ℕ → (Report → CallLog → CallLog → Type 0) → Extent → Saving → (persistent : Bool) → (start : ServerState) → (List Shard → List FiledEntry → Type 0) → Option (List Receive) → Option (List Receive) → Replies → Type 0
+IsServed timers sensors e Recorded every Reported extent Saves persistent start Kept before after replies =
     (IsOneThread extent.workers persistent × HasServedBy timers every Reported sensors e Recorded extent.limit start before after replies)
-    ⊎ ((IsOneThread extent.workers persistent → ⊥) × HasServedPooled (served_view sensors e Recorded Saves start) timers every Reported e extent.workers extent.limit persistent start before after replies)
+    ⊎ ((IsOneThread extent.workers persistent → ⊥) × HasServedPooled (served_view sensors e Recorded Saves start) timers every Reported e extent.workers extent.limit persistent start Kept before after replies)

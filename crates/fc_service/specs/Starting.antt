@@ -4,9 +4,10 @@ use Rattle.fc_store.specs.Stored.{StoredProgram, StoredSlot, StoredSlots, stored
 use Rattle.fc_store.specs.Updates.{AreSameSlots, program_after}
 use Rattle.fc_store.specs.declared.store.ProgramUpdate.{ProgramUpdate}
 use Rattle.fc_store.specs.declared.store.Store.{Ghosts}
+use Rattle.fc_registry.specs.Starts.{CanRestore}
 use Rattle.fc_core.specs.declared.policy.Policy.{Policy}
-use Rattle.fc_durable.specs.Recovery.{Save, stored_after}
-use Rattle.fc_durable.specs.Saved.{SavesBy}
+use Rattle.fc_store.specs.Recovery.{Save, stored_after}
+use Rattle.fc_store.specs.Saves.{SavesBy}
 use Rattle.fc_server.specs.States.{ServerState, server_over}
 use Rattle.fc_service.specs.Serials.{raised_slots}
 
@@ -16,13 +17,15 @@ pub record StartingSlots (S : Type 0) : Type 0 where
   pub store : S
 
 -- the slots of this first state are restored from the stored ones, at some serial that isn't below
--- a stored one. The server draws some message ID first, and has some policy.
+-- a stored one. Each of them can be restored. The server draws some message ID first, and has some
+-- policy.
 pub record IsRestoredFrom (stored : StoredSlots) (first : ServerState) : Type 0 where
   pub slots : List StoredSlot
   pub count : length slots ≡ 64
   pub same : AreSameSlots (stored_in slots) stored
   pub serial : ℕ
   pub reached : (n : ℕ) → n < 64 → (stored n).serial ≤ serial
+  pub can : (n : ℕ) → n < 64 → CanRestore (raised_slots serial slots n)
   pub id : ℕ
   pub policy : Policy
   pub first_is : first ≡ server_over (raised_slots serial slots) id policy

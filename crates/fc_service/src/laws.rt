@@ -1,7 +1,11 @@
 //! Consequences of the service's definitions: each function's contract is a law.
-ghost use Rattle.std.specs.Prelude.{◌≡◌, ◌≢◌, ◌+◌, ◌-◌, ◌*◌, ◌/◌, ◌%◌, ◌<◌, ◌≤◌, ◌↔◌, ◌⊎◌, ℕ, Bool, List, [], ◌∷◌, None, Option, Some, codes, false, flat_map, is_none, length, map, true};
+ghost use Rattle.std.specs.Prelude.{◌≡◌, ◌≢◌, ◌+◌, ◌-◌, ◌*◌, ◌/◌, ◌%◌, ◌<◌, ◌≤◌, ◌++◌, ◌↔◌, ◌⊎◌, ℕ, Bool, List, [], ◌∷◌, None, Option, Some, codes, false, flat_map, is_none, length, map, true};
 ghost use Rattle.coap_msg.specs.declared.types.Emission.{Emission};
 ghost use Rattle.fc_calls.specs.Doings.{AnswersAt};
+ghost use Rattle.fc_filed.specs.Recovered.{AreStoredAtFirst, FindsHistory, HaveSavedOrder};
+ghost use Rattle.fc_filed.specs.Entries.{log_of};
+ghost use Rattle.fc_filed.specs.declared.entry.FiledEntry.{FiledEntry};
+ghost use Rattle.fc_linear.specs.Parts.{history_on};
 ghost use Rattle.fc_core.specs.Contents.{Content};
 ghost use Rattle.fc_core.specs.Exchanges.{FrontState, advanced};
 ghost use Rattle.fc_core.specs.History.{History};
@@ -39,6 +43,7 @@ ghost use Rattle.fc_server.specs.Serving.{Serves};
 ghost use Rattle.fc_server.specs.States.{ServerState, begin_of, first_server};
 ghost use Rattle.fc_workers.specs.Deliveries.{deliveries_in};
 ghost use Rattle.fc_workers.specs.LegalOrder.{HaveLegalOrder};
+ghost use Rattle.fc_workers.specs.Messages.{first_brought};
 ghost use Rattle.fc_workers.specs.OneOrder.{logs_of};
 ghost use Rattle.fc_workers.specs.SharedStores.{HasSaved};
 ghost use Rattle.fc_workers.specs.Workers.{Share};
@@ -48,8 +53,8 @@ ghost use Rattle.fc_service.specs.Pooled.{PooledIngress, pooled_calls};
 ghost use Rattle.fc_service.specs.Rounds.{EndsInTime, HasServed, HasServedPooled, HasServedReported, HasServedTimed, IsOneThread, Round, WaitsAfter, deliveries_of, offload_of, round_calls, sendings_in, served_view, until_due};
 ghost use Rattle.fc_server.specs.Flushing.{most_steps};
 ghost use Rattle.fc_service.specs.Serials.{IsNewerNumber, raised_at, serial_of_start, serial_over};
-ghost use Rattle.fc_service.specs.Starting.{AreRising, SavesSerial};
-ghost use Rattle.fc_durable.specs.Recovery.{Save, SavesAll};
+ghost use Rattle.fc_service.specs.Starting.{AreRising, IsRestoredFrom, SavesSerial};
+ghost use Rattle.fc_store.specs.Recovery.{Save, SavesAll};
 ghost use Rattle.fc_store.specs.Stored.{StoredProgram, StoredSlot, StoredSlots, stored_in};
 ghost use Rattle.fc_store.specs.Updates.{AreSameSlots};
 ghost use Rattle.fc_server.specs.declared.alone.SingleThread.{SingleThread};
@@ -403,8 +408,8 @@ pub fn replies_of_all_threads_are_counted<
     Q: Reporter,
     P: Store,
 >()
-    ensures { (first : ServerState) (timers : List Timer) (every : Option ℕ) (limit : ℕ) (persistent : Bool) (start : ServerState) (before after : Option (List Receive)) (replies : Replies) (one : Share Tallies)
-        → (w : HasServedPooled (served_view Z.are_sensed (round_calls S.received M.is_time K.went) C.recorded (HasSaved P.Store) first) timers every Q.reported (round_calls S.received M.is_time K.went) 1 limit persistent start before after replies)
+    ensures { (first : ServerState) (timers : List Timer) (every : Option ℕ) (limit : ℕ) (persistent : Bool) (start : ServerState) (stored : StoredSlots) (before after : Option (List Receive)) (replies : Replies) (one : Share Tallies)
+        → (w : HasServedPooled (served_view Z.are_sensed (round_calls S.received M.is_time K.went) C.recorded (HasSaved P.Store) first) timers every Q.reported (round_calls S.received M.is_time K.went) 1 limit persistent start (HaveSavedOrder P.Store start stored) before after replies)
         → w.shares ≡ one ∷ [] → w.at_once ≡ record { sent = 1; failed = 0 } → one.sent ≡ 2 → one.failed ≡ 8
         → w.last.done.share.sent ≡ 4 → w.last.done.share.failed ≡ 16 → replies ≡ record { sent = 7; failed = 24 } }
 {}
@@ -424,14 +429,14 @@ pub fn the_order_has_the_dispatchers_calls<
     Q: Reporter,
     P: Store,
 >()
-    ensures reported { (first : ServerState) (every workers limit : ℕ) (persistent : Bool) (start : ServerState) (before after : Option (List Receive)) (replies : Replies)
-        → (w : HasServedPooled (served_view Z.are_sensed (round_calls S.received M.is_time K.went) C.recorded (HasSaved P.Store) first) [] (Some every) Q.reported (round_calls S.received M.is_time K.went) workers limit persistent start before after replies)
+    ensures reported { (first : ServerState) (every workers limit : ℕ) (persistent : Bool) (start : ServerState) (stored : StoredSlots) (before after : Option (List Receive)) (replies : Replies)
+        → (w : HasServedPooled (served_view Z.are_sensed (round_calls S.received M.is_time K.went) C.recorded (HasSaved P.Store) first) [] (Some every) Q.reported (round_calls S.received M.is_time K.went) workers limit persistent start (HaveSavedOrder P.Store start stored) before after replies)
         → HaveLegalOrder start (logs_of w.shares w.run.reporting.ingress.done.share) w.closed }
-    ensures timed { (first : ServerState) (t : Timer) (ts : List Timer) (workers limit : ℕ) (persistent : Bool) (start : ServerState) (before after : Option (List Receive)) (replies : Replies)
-        → (w : HasServedPooled (served_view Z.are_sensed (round_calls S.received M.is_time K.went) C.recorded (HasSaved P.Store) first) (t ∷ ts) None Q.reported (round_calls S.received M.is_time K.went) workers limit persistent start before after replies)
+    ensures timed { (first : ServerState) (t : Timer) (ts : List Timer) (workers limit : ℕ) (persistent : Bool) (start : ServerState) (stored : StoredSlots) (before after : Option (List Receive)) (replies : Replies)
+        → (w : HasServedPooled (served_view Z.are_sensed (round_calls S.received M.is_time K.went) C.recorded (HasSaved P.Store) first) (t ∷ ts) None Q.reported (round_calls S.received M.is_time K.went) workers limit persistent start (HaveSavedOrder P.Store start stored) before after replies)
         → HaveLegalOrder start (logs_of w.shares w.run.firing.ingress.done.share) w.closed }
-    ensures both { (first : ServerState) (t : Timer) (ts : List Timer) (every workers limit : ℕ) (persistent : Bool) (start : ServerState) (before after : Option (List Receive)) (replies : Replies)
-        → (w : HasServedPooled (served_view Z.are_sensed (round_calls S.received M.is_time K.went) C.recorded (HasSaved P.Store) first) (t ∷ ts) (Some every) Q.reported (round_calls S.received M.is_time K.went) workers limit persistent start before after replies)
+    ensures both { (first : ServerState) (t : Timer) (ts : List Timer) (every workers limit : ℕ) (persistent : Bool) (start : ServerState) (stored : StoredSlots) (before after : Option (List Receive)) (replies : Replies)
+        → (w : HasServedPooled (served_view Z.are_sensed (round_calls S.received M.is_time K.went) C.recorded (HasSaved P.Store) first) (t ∷ ts) (Some every) Q.reported (round_calls S.received M.is_time K.went) workers limit persistent start (HaveSavedOrder P.Store start stored) before after replies)
         → HaveLegalOrder start (logs_of w.shares w.run.run.reporting.ingress.ingress.done.share) w.closed }
 {}
 
@@ -450,17 +455,17 @@ pub fn received_datagrams_are_delivered<
     Q: Reporter,
     P: Store,
 >()
-    ensures untimed { (first : ServerState) (workers limit : ℕ) (persistent : Bool) (start : ServerState) (before after : Option (List Receive)) (replies : Replies)
-        → (w : HasServedPooled (served_view Z.are_sensed (round_calls S.received M.is_time K.went) C.recorded (HasSaved P.Store) first) [] None Q.reported (round_calls S.received M.is_time K.went) workers limit persistent start before after replies)
+    ensures untimed { (first : ServerState) (workers limit : ℕ) (persistent : Bool) (start : ServerState) (stored : StoredSlots) (before after : Option (List Receive)) (replies : Replies)
+        → (w : HasServedPooled (served_view Z.are_sensed (round_calls S.received M.is_time K.went) C.recorded (HasSaved P.Store) first) [] None Q.reported (round_calls S.received M.is_time K.went) workers limit persistent start (HaveSavedOrder P.Store start stored) before after replies)
         → deliveries_in w.order.order.calls ≡ deliveries_of w.run.rounds }
-    ensures reported { (first : ServerState) (every : ℕ) (workers limit : ℕ) (persistent : Bool) (start : ServerState) (before after : Option (List Receive)) (replies : Replies)
-        → (w : HasServedPooled (served_view Z.are_sensed (round_calls S.received M.is_time K.went) C.recorded (HasSaved P.Store) first) [] (Some every) Q.reported (round_calls S.received M.is_time K.went) workers limit persistent start before after replies)
+    ensures reported { (first : ServerState) (every : ℕ) (workers limit : ℕ) (persistent : Bool) (start : ServerState) (stored : StoredSlots) (before after : Option (List Receive)) (replies : Replies)
+        → (w : HasServedPooled (served_view Z.are_sensed (round_calls S.received M.is_time K.went) C.recorded (HasSaved P.Store) first) [] (Some every) Q.reported (round_calls S.received M.is_time K.went) workers limit persistent start (HaveSavedOrder P.Store start stored) before after replies)
         → deliveries_in w.order.order.calls ≡ deliveries_of w.run.run.rounds }
-    ensures timed { (first : ServerState) (t : Timer) (ts : List Timer) (workers limit : ℕ) (persistent : Bool) (start : ServerState) (before after : Option (List Receive)) (replies : Replies)
-        → (w : HasServedPooled (served_view Z.are_sensed (round_calls S.received M.is_time K.went) C.recorded (HasSaved P.Store) first) (t ∷ ts) None Q.reported (round_calls S.received M.is_time K.went) workers limit persistent start before after replies)
+    ensures timed { (first : ServerState) (t : Timer) (ts : List Timer) (workers limit : ℕ) (persistent : Bool) (start : ServerState) (stored : StoredSlots) (before after : Option (List Receive)) (replies : Replies)
+        → (w : HasServedPooled (served_view Z.are_sensed (round_calls S.received M.is_time K.went) C.recorded (HasSaved P.Store) first) (t ∷ ts) None Q.reported (round_calls S.received M.is_time K.went) workers limit persistent start (HaveSavedOrder P.Store start stored) before after replies)
         → deliveries_in w.order.order.calls ≡ deliveries_of w.run.run.rounds }
-    ensures both { (first : ServerState) (t : Timer) (ts : List Timer) (every : ℕ) (workers limit : ℕ) (persistent : Bool) (start : ServerState) (before after : Option (List Receive)) (replies : Replies)
-        → (w : HasServedPooled (served_view Z.are_sensed (round_calls S.received M.is_time K.went) C.recorded (HasSaved P.Store) first) (t ∷ ts) (Some every) Q.reported (round_calls S.received M.is_time K.went) workers limit persistent start before after replies)
+    ensures both { (first : ServerState) (t : Timer) (ts : List Timer) (every : ℕ) (workers limit : ℕ) (persistent : Bool) (start : ServerState) (stored : StoredSlots) (before after : Option (List Receive)) (replies : Replies)
+        → (w : HasServedPooled (served_view Z.are_sensed (round_calls S.received M.is_time K.went) C.recorded (HasSaved P.Store) first) (t ∷ ts) (Some every) Q.reported (round_calls S.received M.is_time K.went) workers limit persistent start (HaveSavedOrder P.Store start stored) before after replies)
         → deliveries_in w.order.order.calls ≡ deliveries_of w.run.run.run.rounds }
 {}
 
@@ -530,4 +535,28 @@ pub fn reports_have_their_periods()
     ensures minute { IsReportText (codes "report:60") 60000 }
     ensures day { (text : List ℕ) (period : ℕ) → IsReportText text period → period ≤ 24 * 60 * 60 * 1000 }
     ensures last { ArePeriods (codes "report:60" ∷ codes "info" ∷ codes "report:5" ∷ []) None (Some 5000) }
+{}
+
+/// A start after a crash finds the slots that a server with workers has served.
+///
+/// The server was restored from its persistent store, so the program of each slot is the stored one
+/// (`begun`). Some history leaves the server's first state without jobs, and the one order of the
+/// calls continues it. The machine stops at some place of the order: after the calls `earlier`, and
+/// before `later`. So far the medium has returned the data that was written to it. Then a start
+/// finds the slots of the longer history, which has the calls up to there. It may also find one
+/// update that was refused since the last one was stored (`found`).
+pub fn starts_find_what_was_served<
+    Z: Sensors,
+    S: Source,
+    M: TimeSource,
+    K: Sink,
+    C: Recorder,
+    Q: Reporter,
+    P: Store,
+>()
+    ensures begun { (stored : StoredSlots) (start : ServerState) → IsRestoredFrom stored start → AreStoredAtFirst start stored }
+    ensures found { (timers : List Timer) (every : Option ℕ) (workers limit : ℕ) (start : ServerState) (stored : StoredSlots) (before after : Option (List Receive)) (replies : Replies) (h : History) (earlier later : List FiledEntry)
+        → (w : HasServedPooled (served_view Z.are_sensed (round_calls S.received M.is_time K.went) C.recorded (HasSaved P.Store) start) timers every Q.reported (round_calls S.received M.is_time K.went) workers limit P.persistent start (HaveSavedOrder P.Store start stored) before after replies)
+        → P.persistent ≡ true → AreStoredAtFirst start stored → Serves h start [] → w.order.order.calls ≡ earlier ++ later
+        → FindsHistory P.Store start stored w.saved.before w.saved.after earlier later (history_on h (log_of (first_brought (10 + length (logs_of w.shares w.last.done.share))) earlier)) }
 {}

@@ -92,6 +92,14 @@
 //!   closed server. With reports and timers too, the dispatcher's log is the one that its last
 //!   round left (`laws`). Exactly the rounds' datagrams are delivered in this history, in order,
 //!   each whole, from its sender and at its round's time (`laws`).
+//! - **Saves** of a persistent store have their place in this order: each change of a slot is one
+//!   entry with the save of its update, and so is each refused update. No other entry changes a
+//!   slot or has a save. The saves lead from some opened store, with the stored slots of the store
+//!   that is passed (`run_pool`, `serve_at` and `serve`, by `HaveSavedOrder`). At each place of the
+//!   order, a start finds the programs and variables of the history up to there. It may also find
+//!   one update that was refused since the last stored one (`starts_find_what_was_served`). This
+//!   supposes that the medium returns the data that was written to it. The contracts say nothing
+//!   about a crash during a save.
 //! - **A pool** begins with the first state that its caller passes: empty slots, or slots restored
 //!   from stored states. It returns at its end the front and eight shards. For each shard it also
 //!   returns the number of changes of its slots. The serials of each shard have risen by exactly

@@ -4,14 +4,16 @@
 //! socket, unless it has one worker and no store.
 ghost use Rattle.std.specs.Prelude.{◌≡◌, ◌+◌, ◌<◌, ◌≤◌, ℕ, ⊤, List, vec_len, IfOk};
 ghost use Rattle.std.specs.List.{All};
+ghost use Rattle.fc_filed.specs.Recovered.{HaveSavedOrder};
 ghost use Rattle.fc_jobs.specs.Ends.{nothing_got, nothing_sent};
 ghost use Rattle.fc_service.specs.Counting.{both_replies, replies_by, replies_of};
 ghost use Rattle.fc_server.specs.Ingresses.{IngressCalls};
+ghost use Rattle.fc_store.specs.Stored.{blank_slot};
 ghost use Rattle.fc_service.specs.Pooled.{DrivesTo, IsFed, IsFedBeside, offload_where, locked_view, open_view, pooled_calls};
 ghost use Rattle.fc_workers.specs.Called.{worker_view};
 ghost use Rattle.fc_workers.specs.Closing.{HasCountedAll};
 ghost use Rattle.fc_workers.specs.Naming.{AreNamed};
-ghost use Rattle.fc_workers.specs.LegalOrder.{HaveLegalOrder};
+ghost use Rattle.fc_workers.specs.LegalOrder.{HaveSavedLegalOrder};
 ghost use Rattle.fc_workers.specs.Messages.{first_brought};
 ghost use Rattle.fc_workers.specs.OneOrder.{IsNewLog, logs_of};
 ghost use Rattle.fc_workers.specs.Producing.{HasRightOrder, IsRightWorker};
@@ -27,7 +29,7 @@ use fc_registry::{PLACES, SlotNumber};
 use fc_server::FirstServer;
 pub use fc_server::Ingress;
 use fc_server::engine::{FireOutcome, NotifyOutcome};
-use fc_store::Store;
+use fc_store::{NoStore, Store};
 use fc_workers::{
     Bench, Blanks, Books, CallLog, ClosedServer, Context, Device, Dispatcher, Gate, JobKeys,
     JobMessage, Locked, Offload, ReadyStore, ServerOf, Share, ShareOf, Tallies, TimeSource,
@@ -252,6 +254,13 @@ impl Gate for Open {
     }
 }
 
+/// Returns the store of a server whose changes aren't saved. Each of its slots is blank.
+pub fn no_store() -> ReadyStore<NoStore>
+    ensures { (n : ℕ) → ⟦<NoStore as Store>⟧.stored result n ≡ blank_slot }
+{
+    ReadyStore::new(NoStore)
+}
+
 /// Makes a server that begins as `first`, and runs its workers and a driver to their end.
 ///
 /// Each change of a slot is saved in `store` before it is made, if the store is persistent.
@@ -260,8 +269,9 @@ impl Gate for Open {
 /// closed: the serials of each shard have risen by exactly the counted changes. The filed calls of
 /// the driver's dispatcher and of some shares of the workers have one order. If a history leaves
 /// `first` without jobs, the order continues it legally, up to the closed server
-/// (`HaveLegalOrder`). If no thread can be created for a worker, the driver's thread runs all jobs,
-/// and this is written to `err`.
+/// (`HaveLegalOrder`). The saves of `store` have their place in the order: with a persistent store
+/// each change of a slot is saved (`HaveSavedOrder`). If no thread can be created for a worker, the
+/// driver's thread runs all jobs, and this is written to `err`.
 ///
 /// # Errors
 /// Returns `AllocError` if memory for the server, the workers or their statistics can't be
@@ -287,7 +297,7 @@ pub fn run_pool<
 ) -> Result<Fed<X>, AllocError>
     ensures counted { IfOk result (λ fed. HasCountedAll first.shards fed.closed) }
     ensures fed { let worker_view = locked_view first D.are_readings (HasSaved K.Store) M.is_time M.is_random W.called C.recorded in
-        IfOk result (λ fed. IsFedBeside worker_view (F.drives _) first (offload_where fed.has_workers pool.now.offload) pool.now.workers driver fed.given fed.replies fed.closed) }
+        IfOk result (λ fed. IsFedBeside worker_view (F.drives _) first (HaveSavedOrder K.Store first (K.stored store)) (offload_where fed.has_workers pool.now.offload) pool.now.workers driver fed.given fed.replies fed.closed) }
 {
     let blanks = Blanks::new(u64::from(pool.workers) + 2);
     let book = NewServerBook::new(alloc, u16::from(pool.workers) + 1, first)?;
@@ -321,12 +331,14 @@ fn run_named<
     requires names { AreNamed blanks B.names }
     requires books { blanks.parts ≡ B.parts }
     requires table { book.table ≡ B.table }
-    requires book_threads { book.first_job ≡ 9 + pool.now.workers + 1 }
+    requires book_threads { book.first_job ≡ 10 + pool.now.workers + 1 }
     requires threads { book.first_job ≡ B.first_job }
     requires server { book.first ≡ B.first }
+    requires persistent { B.persistent ≡ K.persistent }
+    requires stored { K.stored store ≡ B.stored }
     ensures counted { IfOk result (λ fed. HasCountedAll B.first.shards fed.closed) }
     ensures fed { let worker_view = locked_view B.first D.are_readings (HasSaved K.Store) M.is_time M.is_random W.called C.recorded in
-        IfOk result (λ fed. IsFedBeside worker_view (F.drives _) B.first (offload_where fed.has_workers pool.now.offload) pool.now.workers driver fed.given fed.replies fed.closed) }
+        IfOk result (λ fed. IsFedBeside worker_view (F.drives _) B.first (HaveSavedOrder K.Store B.first B.stored) (offload_where fed.has_workers pool.now.offload) pool.now.workers driver fed.given fed.replies fed.closed) }
 {
     let Begun {
         server,
@@ -357,9 +369,11 @@ fn begin<'a, B: Books, D: Device, K: Store + Drop>(
     requires names { AreNamed blanks B.names }
     requires books { blanks.parts ≡ B.parts }
     requires table { book.table ≡ B.table }
-    requires book_threads { book.first_job ≡ 9 + workers + 1 }
+    requires book_threads { book.first_job ≡ 10 + workers + 1 }
     requires threads { book.first_job ≡ B.first_job }
     requires server { book.first ≡ B.first }
+    requires persistent { B.persistent ≡ K.persistent }
+    requires stored { K.stored store ≡ B.stored }
     ensures count { IfOk result (λ b. vec_len b.tallies ≡ workers + 1) }
     ensures logs { IfOk result (λ b. vec_len b.logs ≡ vec_len b.tallies) }
     ensures new_logs { IfOk result (λ b. All IsNewLog b.logs.items) }
@@ -391,8 +405,8 @@ fn close<B: Books, D: Device, K: Store + Drop, X: Drop>(
     ensures given { result.given ≡ ended.given }
     ensures workers { result.has_workers ≡ ended.has_workers }
     ensures replies { result.replies ≡ both_replies (replies_of ended.shares.items) (replies_by ended.own) }
-    ensures order { 9 + (vec_len ended.shares + 1) ≡ B.first_job → All (λ s. IsRightWorker B.first_job s.log) ended.shares.items → HasRightOrder B.first_job ended.own.log
-        → HaveLegalOrder B.first (logs_of ended.shares.items ended.own) result.closed }
+    ensures order { 10 + (vec_len ended.shares + 1) ≡ B.first_job → All (λ s. IsRightWorker B.first_job s.log) ended.shares.items → HasRightOrder B.first_job ended.own.log
+        → HaveSavedLegalOrder K.Store B.first B.stored (logs_of ended.shares.items ended.own) result.closed }
 {
     let Ended {
         given,

@@ -2,6 +2,7 @@
 //!
 //! One thread receives the datagrams. Their jobs run on worker threads or on the receiving thread.
 ghost use Rattle.std.specs.Prelude.{◌≡◌, ◌⊎◌, ⊤, [], false, if◌then◌else◌, true, IfOk, IfSome, None};
+ghost use Rattle.fc_filed.specs.Recovered.{HaveSavedOrder};
 ghost use Rattle.fc_host.specs.Clocks.{AreReadAt};
 ghost use Rattle.fc_service.specs.Pooled.{locked_view};
 ghost use Rattle.fc_service.specs.Rounds.{HasReceivedWith, HasServedBy, HasServedPooled, IsOneThread, IsServed, offload_of, round_calls};
@@ -107,7 +108,7 @@ pub fn serve<
     ensures status { (result ≡ Done) ⊎ (result ≡ Failed) }
     ensures starts { P.persistent ≡ true → IsRestoredFrom (P.stored slots.store) slots.first }
     ensures served { result ≡ Done → (replies : Counts) × IsServed timers.items Z.are_sensed
-        (round_calls (λ receive before after. after ≡ before) (λ now before after. after ≡ before) (λ emission out before after. ⊤)) C.recorded records.now.reports.every Q.reported extent (HasSaved P.Store) P.persistent slots.first None None replies }
+        (round_calls (λ receive before after. after ≡ before) (λ now before after. after ≡ before) (λ emission out before after. ⊤)) C.recorded records.now.reports.every Q.reported extent (HasSaved P.Store) P.persistent slots.first (HaveSavedOrder P.Store slots.first (P.stored slots.store)) None None replies }
 {
     let address = listening.address;
     match open(rt, address) {
@@ -184,7 +185,7 @@ pub fn serve_at<
 ) -> Option<S>
     ensures starts { P.persistent ≡ true → IsRestoredFrom (P.stored slots.store) slots.first }
     ensures served { IfSome result (λ left. (replies : Counts)
-        × IsServed [] Z.are_sensed (round_calls S.received (λ now before after. after ≡ before) K.went) C.recorded records.now.reports.every Q.reported extent (HasSaved P.Store) P.persistent slots.first (S.came source) (S.came left) replies) }
+        × IsServed [] Z.are_sensed (round_calls S.received (λ now before after. after ≡ before) K.went) C.recorded records.now.reports.every Q.reported extent (HasSaved P.Store) P.persistent slots.first (HaveSavedOrder P.Store slots.first (P.stored slots.store)) (S.came source) (S.came left) replies) }
 {
     let timers = Vec::new(alloc);
     serve_timed(
@@ -221,7 +222,7 @@ pub fn serve_timed<
 ) -> Option<S>
     ensures starts { P.persistent ≡ true → IsRestoredFrom (P.stored slots.store) slots.first }
     ensures served { IfSome result (λ left. (replies : Counts)
-        × IsServed timers.items Z.are_sensed (round_calls S.received (λ now before after. after ≡ before) K.went) C.recorded records.now.reports.every Q.reported extent (HasSaved P.Store) P.persistent slots.first (S.came source) (S.came left) replies) }
+        × IsServed timers.items Z.are_sensed (round_calls S.received (λ now before after. after ≡ before) K.went) C.recorded records.now.reports.every Q.reported extent (HasSaved P.Store) P.persistent slots.first (HaveSavedOrder P.Store slots.first (P.stored slots.store)) (S.came source) (S.came left) replies) }
 {
     match serve_counted(
         rt, alloc, records, err, sensors, source, sink, timers, slots, extent,
@@ -267,7 +268,7 @@ fn serve_counted<
     slots: Slots<P>,
     extent: Extent,
 ) -> Result<Received<S>, ServeStop>
-    ensures { IfOk result (λ r. IsServed timers.items Z.are_sensed (round_calls S.received (λ now before after. after ≡ before) K.went) C.recorded records.now.reports.every Q.reported extent (HasSaved P.Store) P.persistent slots.first (S.came source) (S.came r.source) r.replies) }
+    ensures { IfOk result (λ r. IsServed timers.items Z.are_sensed (round_calls S.received (λ now before after. after ≡ before) K.went) C.recorded records.now.reports.every Q.reported extent (HasSaved P.Store) P.persistent slots.first (HaveSavedOrder P.Store slots.first (P.stored slots.store)) (S.came source) (S.came r.source) r.replies) }
 {
     if records.reports.every.is_none() {
         return serve_to_end(
@@ -307,7 +308,7 @@ fn serve_to_end<
     slots: Slots<P>,
     extent: Extent,
 ) -> Result<Received<S>, ServeStop>
-    ensures { IfOk result (λ r. IsServed timers.items Z.are_sensed (round_calls S.received (λ now before after. after ≡ before) K.went) C.recorded records.now.reports.every Q.reported extent (HasSaved P.Store) P.persistent slots.first (S.came source) (S.came r.source) r.replies) }
+    ensures { IfOk result (λ r. IsServed timers.items Z.are_sensed (round_calls S.received (λ now before after. after ≡ before) K.went) C.recorded records.now.reports.every Q.reported extent (HasSaved P.Store) P.persistent slots.first (HaveSavedOrder P.Store slots.first (P.stored slots.store)) (S.came source) (S.came r.source) r.replies) }
 {
     let times = Elapsed::start(rt).map_err(ServeStop::Clock)?;
     let has_timers = !timers.is_empty();
@@ -437,7 +438,7 @@ fn serve_pooled<
     extent: Extent,
 ) -> Result<Received<S>, AllocError>
     ensures { let view = locked_view slots.first (AreReadAt M.is_time Z.are_sensed) (HasSaved P.Store) M.is_time M.is_random W.called C.recorded in
-        IfOk result (λ r. HasServedPooled view timers.entry.timers.items records.now.reports.every Q.reported (round_calls S.received M.is_time K.went) extent.workers extent.limit P.persistent slots.first (S.came source) (S.came r.source) r.replies) }
+        IfOk result (λ r. HasServedPooled view timers.entry.timers.items records.now.reports.every Q.reported (round_calls S.received M.is_time K.went) extent.workers extent.limit P.persistent slots.first (HaveSavedOrder P.Store slots.first (P.stored slots.store)) (S.came source) (S.came r.source) r.replies) }
 {
     let Slots { first, store } = slots;
     let pool = Pool {

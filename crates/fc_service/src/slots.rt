@@ -1,8 +1,10 @@
 //! The slots that a server starts with: their first state, and the store that saves their changes.
 ghost use Rattle.std.specs.Prelude.{◌≡◌, ◌<◌, ℕ, [], IfErr, IfOk, OnOk, length, map, true};
 ghost use Rattle.fc_registry.specs.Restored.{at_least};
-ghost use Rattle.fc_registry.specs.Starts.{IsStartError};
+ghost use Rattle.fc_registry.specs.Starts.{CanRestore, IsStartError};
 ghost use Rattle.fc_core.specs.History.{BeginsWith};
+ghost use Rattle.fc_store.specs.Saves.{FindsStored};
+ghost use Rattle.fc_filed.specs.Saves.{FindsRaised};
 ghost use Rattle.fc_server.specs.Serving.{Serves};
 ghost use Rattle.fc_server.specs.States.{begin_of, first_server, server_over};
 ghost use Rattle.fc_service.specs.Serials.{begin_by, raised_at, serial_over};
@@ -43,9 +45,11 @@ impl<P: Store + Drop> Model for Slots<P> {
 impl<P: Store + Drop> Slots<P> {
     /// Takes the first state of a server, and the store that saves the changes of its slots.
     ///
-    /// The store is ready. If it is persistent, `first` has its slots: see [`restored_slots`].
+    /// The store is ready, and a start would find the stored programs in it. If the store is
+    /// persistent, `first` has its slots: see [`restored_slots`].
     pub fn of(first: FirstServer, store: P) -> Slots<P>
         requires ready { P.is_ready store }
+        requires settled { P.is_clean store → FindsRaised P.Store store }
         requires restored { P.persistent ≡ true → IsRestoredFrom (P.stored store) first }
         ensures { result ≡ record { first = first; store = store } }
     {
@@ -57,9 +61,10 @@ impl<P: Store + Drop> Slots<P> {
 
     /// Restores the slots of a store, and saves the serial at which they start.
     ///
-    /// `stored` has the store's slots 0 to 63, which are restored as by [`restored_slots`]. If the
-    /// store is persistent, their serial is then saved with slot 0, whose program stays. After that
-    /// save, each later start over the store has a greater serial, even if the clock is set back.
+    /// `stored` has the store's slots 0 to 63, which are restored as by [`restored_slots`]. Another
+    /// start would find just these slots, as in a store that was opened. If the store is persistent,
+    /// their serial is then saved with slot 0, whose program stays. After that save, each later start
+    /// over the store has a greater serial, even if the clock is set back.
     ///
     /// Returns the slots, and `true` unless the store refuses the save. A server can start without
     /// it: a full disk, for example, doesn't prevent GETs.
@@ -77,6 +82,7 @@ impl<P: Store + Drop> Slots<P> {
         requires count { length stored.now ≡ 64 }
         requires same { AreSameSlots (stored_in stored.now) (P.stored store) }
         requires ready { P.is_ready store }
+        requires settled { P.is_clean store → FindsStored P.Store store }
         ensures first { IfOk result (λ r. r.0.first ≡ server_over (raised_at started stored.now) first_id policy.now) }
         ensures begins { IfOk result (λ r. Serves (BeginsWith (raised_at started stored.now) first_id policy.now) r.0.first []) }
         ensures saved { IfOk result (λ r. SavesSerial P.Store (serial_over started stored.now) (stored_in stored.now 0).program r.1 store r.0.store) }
@@ -137,6 +143,7 @@ pub fn restored_slots(
     ensures first { IfOk result (λ f. f ≡ server_over (raised_at started stored.now) first_id policy.now) }
     ensures begins { IfOk result (λ f. Serves (BeginsWith (raised_at started stored.now) first_id policy.now) f []) }
     ensures serials { OnOk result ((n : ℕ) → n < 64 → (raised_at started stored.now n).serial ≡ serial_over started stored.now) }
+    ensures can { OnOk result ((n : ℕ) → n < 64 → CanRestore (raised_at started stored.now n)) }
     ensures restored { IfOk result (IsRestoredFrom (stored_in stored.now)) }
     ensures cause { IfErr result (IsStartError (raised_at started stored.now)) }
 {

@@ -9,7 +9,7 @@ ghost use Rattle.fc_workers.specs.SharedStores.{HasSaved};
 ghost use Rattle.fc_workers.specs.declared.dispatcher.Offload.TheVariants.{Every};
 
 use crate::lines::play_lines;
-use crate::pool::{Driven, Driver, Ingress, Pool, run_pool};
+use crate::pool::{Driven, Driver, Ingress, Pool, no_store, run_pool};
 use crate::waiting::LockStep;
 use fc_cli::status::{Status, tell};
 use fc_cli::stop::Stop;
@@ -17,7 +17,7 @@ use fc_host::scripted::ScriptedHost;
 use fc_record::NoChanges;
 use fc_server::{Begin, FirstServer};
 use fc_store::{NoStore, Store};
-use fc_workers::{Offload, ReadyStore};
+use fc_workers::Offload;
 use std::alloc::Global;
 use std::io::{BufRead, Write};
 use std::sync::Wait;
@@ -114,6 +114,5 @@ fn play_in_pool<R: Threads + Wait + Sync, I: BufRead + Drop, W: Write, E: Write>
         scripted: &scripted,
     };
     let first = FirstServer::new(alloc, &begin)?;
-    let store = ReadyStore::new(NoStore);
-    run_pool(rt, alloc, err, &pool, first, store, player)?.given
+    run_pool(rt, alloc, err, &pool, first, no_store(), player)?.given
 }

@@ -278,6 +278,13 @@ impl CallTrace {
         self.end(None);
     }
 
+    /// Adds the refusal of a commit, which can't be saved, by a thread's job.
+    pub(crate) fn refuse(&mut self, thread: usize) {
+        let number = self.current(thread);
+        self.part("Refuse job=", number);
+        self.end(None);
+    }
+
     /// Adds the release of a thread's lease, which ends the lease's job.
     pub(crate) fn give_up(&mut self, thread: usize, now: u64) {
         self.timed_event("GiveUp job=", thread, now);

@@ -1,5 +1,6 @@
 //! The store of a traced pool, which refuses some updates.
 use fc_store::{MemoryStore, SlotUpdate, Store};
+use fc_workers::ReadyStore;
 use std::alloc::{AllocError, Global};
 
 /// The store refuses one update of this many.
@@ -13,15 +14,13 @@ pub(crate) struct RefusingStore {
 }
 
 impl RefusingStore {
-    /// Makes a store of blank slots.
+    /// Makes a store of blank slots, which is ready.
     ///
     /// # Errors
     /// Returns `AllocError` if memory can't be allocated.
-    pub(crate) fn new(alloc: Global) -> Result<RefusingStore, AllocError> {
-        Ok(RefusingStore {
-            memory: MemoryStore::new(alloc)?,
-            count: 0,
-        })
+    pub(crate) fn ready(alloc: Global) -> Result<ReadyStore<RefusingStore>, AllocError> {
+        let memory = MemoryStore::new(alloc)?;
+        Ok(ReadyStore::new(RefusingStore { memory, count: 0 }))
     }
 }
 

@@ -249,6 +249,8 @@ impl<'b, 't, 'w, B: Bench, W: Wait> Bench for TracedBench<'b, 't, 'w, B, W> {
         let committed = self.bench.commit(rt, now, outcome, ticket, tallies, log);
         if committed.is_some() {
             trace.timed_event("Commit job=", self.thread, now);
+        } else {
+            trace.refuse(self.thread);
         }
         committed
     }
@@ -263,9 +265,7 @@ impl<'b, 't, 'w, B: Bench, W: Wait> Bench for TracedBench<'b, 't, 'w, B, W> {
     ) -> Option<Made> {
         let mut trace = self.trace.lock(self.waits);
         let made = self.bench.install(rt, job, program, tallies, log);
-        if made.is_some() {
-            trace.install(self.thread, job, true);
-        }
+        trace.install(self.thread, job, made.is_some());
         made
     }
 
@@ -280,6 +280,8 @@ impl<'b, 't, 'w, B: Bench, W: Wait> Bench for TracedBench<'b, 't, 'w, B, W> {
         let removal = self.bench.remove(rt, job, tallies, log);
         if removal.is_some() {
             trace.job_event("Remove job=", self.thread, job);
+        } else {
+            trace.job_event("Refuse job=", self.thread, job);
         }
         removal
     }
@@ -327,12 +329,6 @@ impl<'b, 't, 'w, B: Bench, W: Wait> Bench for TracedBench<'b, 't, 'w, B, W> {
         let mut trace = self.trace.lock(self.waits);
         self.bench.refuse_install(job, log);
         trace.install(self.thread, job, false);
-    }
-
-    fn fail_to_save(&self, job: &Job, log: &mut TrackLog<B::Book>) {
-        let mut trace = self.trace.lock(self.waits);
-        self.bench.fail_to_save(job, log);
-        trace.job_event("Refuse job=", self.thread, job);
     }
 
     fn respond<R: Wait>(

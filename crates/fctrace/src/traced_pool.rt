@@ -13,6 +13,7 @@ use crate::traced_run::TracedRun;
 use fc_core::{DEFAULT_POLICY, Policy};
 use fc_filed::NewServerBook;
 use fc_server::{Begin, FirstServer};
+use fc_store::Store;
 use fc_workers::{
     Blanks, Books, ClosedServer, JobKeys, Locked, Offload, ReadyStore, ServerOf, Tallies, TrackLog,
     Unassigned,
@@ -76,7 +77,8 @@ pub(crate) fn run_traced<R: Threads + Wait + Clock + Sync>(
     let book = new_book(alloc)?;
     let blanks = Blanks::new(5);
     let run = TracedRun::new(alloc, requests, offload);
-    let Ended { closed, conflicts } = run_named::<Brand, R>(rt, &run, blanks, book)?;
+    let store = RefusingStore::ready(alloc)?;
+    let Ended { closed, conflicts } = run_named::<Brand, R>(rt, &run, store, blanks, book)?;
     Ok(Traced {
         trace: run.into_trace(),
         closed,
@@ -87,17 +89,18 @@ pub(crate) fn run_traced<R: Threads + Wait + Clock + Sync>(
 // Makes a new server, and the book of its calls: those of three workers and a driver. Returns
 // `AllocError` if memory can't be allocated.
 fn new_book(alloc: Global) -> Result<NewServerBook, AllocError>
-    ensures { IfOk result (λ b. b.first_job ≡ 9 + 4) }
+    ensures { IfOk result (λ b. b.first_job ≡ 10 + 4) }
 {
     let first = FirstServer::new(alloc, &BEGIN)?;
     NewServerBook::new(alloc, 4, first)
 }
 
-// Runs a pool, with a server that has these ledgers and this book of calls. Returns `AllocError` if
-// memory can't be allocated.
+// Runs a pool, with a server that has these ledgers, this store and this book of calls. Returns
+// `AllocError` if memory can't be allocated.
 fn run_named<B: Books + Send + Sync, R: Threads + Wait + Clock + Sync>(
     rt: &R,
     run: &TracedRun,
+    store: ReadyStore<RefusingStore>,
     blanks: Blanks,
     book: NewServerBook,
 ) -> Result<Ended, AllocError>
@@ -105,9 +108,11 @@ fn run_named<B: Books + Send + Sync, R: Threads + Wait + Clock + Sync>(
     requires names { AreNamed blanks B.names }
     requires books { blanks.parts ≡ B.parts }
     requires table { book.table ≡ B.table }
-    requires book_threads { book.first_job ≡ 9 + 4 }
+    requires book_threads { book.first_job ≡ 10 + 4 }
     requires threads { book.first_job ≡ B.first_job }
     requires server { book.first ≡ B.first }
+    requires persistent { B.persistent ≡ ⟦<RefusingStore as Store>⟧.persistent }
+    requires stored { ⟦<RefusingStore as Store>⟧.stored store ≡ B.stored }
 {
     let Begun {
         server,
@@ -115,7 +120,7 @@ fn run_named<B: Books + Send + Sync, R: Threads + Wait + Clock + Sync>(
         tallies,
         logs,
         keys,
-    } = begin::<B>(run, blanks, book)?;
+    } = begin::<B>(run, store, blanks, book)?;
     let shares = run_threads(rt, run, &server, tallies, logs, keys)?;
     Ok(close(server, unassigned, shares))
 }
@@ -124,6 +129,7 @@ fn run_named<B: Books + Send + Sync, R: Threads + Wait + Clock + Sync>(
 // unassigned shares. Returns `AllocError` if memory for them can't be allocated.
 fn begin<'c, B: Books>(
     run: &'c TracedRun,
+    store: ReadyStore<RefusingStore>,
     blanks: Blanks,
     book: NewServerBook,
 ) -> Result<Begun<'c, B>, AllocError>
@@ -131,16 +137,17 @@ fn begin<'c, B: Books>(
     requires names { AreNamed blanks B.names }
     requires books { blanks.parts ≡ B.parts }
     requires table { book.table ≡ B.table }
-    requires book_threads { book.first_job ≡ 9 + 4 }
+    requires book_threads { book.first_job ≡ 10 + 4 }
     requires threads { book.first_job ≡ B.first_job }
     requires server { book.first ≡ B.first }
+    requires persistent { B.persistent ≡ ⟦<RefusingStore as Store>⟧.persistent }
+    requires stored { ⟦<RefusingStore as Store>⟧.stored store ≡ B.stored }
     ensures count { IfOk result (λ b. vec_len b.tallies ≡ 4) }
     ensures logs { IfOk result (λ b. vec_len b.logs ≡ vec_len b.tallies) }
     ensures new_logs { IfOk result (λ b. All IsNewLog b.logs.items) }
     ensures keys { IfOk result (λ b. b.keys ≡ first_brought B.first_job) }
     ensures parts { IfOk result (λ b. b.unassigned.parts + vec_len b.tallies ≡ B.parts) }
 {
-    let store = ReadyStore::new(RefusingStore::new(run.alloc)?);
     let (server, mut unassigned, logs, keys) = Locked::<B, Clients, RefusingStore>::new(
         run.alloc,
         &run.clients,

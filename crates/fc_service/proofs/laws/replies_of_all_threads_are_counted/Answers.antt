@@ -14,7 +14,7 @@ pair : (a b c d : ℕ) → a ≡ c → b ≡ d → these a b ≡ these c d
 pair a b c d is also = ap (λ (n : ℕ). these n b) is ∙ ap (λ (n : ℕ). these c n) also
 
 pub returns : goal.returns
-returns g c first timers every limit persistent start before after replies one w is once sent failed own_sent own_failed =
+returns g c first timers every limit persistent start stored before after replies one w is once sent failed own_sent own_failed =
     w.all
     ∙ (ap (λ (r : Replies). both_replies r (both_replies (replies_of w.shares) (replies_by w.last.done.share))) once
     ∙ (ap (λ (shares : List (Share Tallies)). both_replies (these 1 0) (both_replies (replies_of shares) (replies_by w.last.done.share))) is

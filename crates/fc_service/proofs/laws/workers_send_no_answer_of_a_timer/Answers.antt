@@ -4,8 +4,8 @@ use Rattle.fc_core.specs.Contents.{Content}
 use Rattle.fc_core.specs.Exchanges.{advanced}
 use Rattle.fc_core.specs.Receiving.{id_in}
 use Rattle.fc_core.specs.Timers.{timer_job}
-use Rattle.fc_core.specs.declared.front.Answered.{Answered}
-use Rattle.fc_core.specs.declared.front.Answered.TheVariants.{Late, NoId, Sent}
+use Rattle.fc_core.specs.declared.by_value.Answered.{Answered}
+use Rattle.fc_core.specs.declared.by_value.Answered.TheVariants.{Late, NoId, Sent}
 use Rattle.fc_registry.specs.declared.job.Job.{Job}
 use Rattle.fc_service.proofs.laws.workers_send_no_answer_of_a_timer.Goals as goal
 

@@ -11,8 +11,9 @@ returns-clause-fed g c =
     let ended = c.in_ok-ended.ended in
     let offload = offload_where c.close.result.has_workers c.args.pool.now.offload in
     let has = subst (λ b. IsFed worker_view g.B.Books.first_job Drives (offload_where b c.args.pool.now.offload) c.args.driver ended.given ended.own ended.shares.items) (sym c.close.ensures.workers) c.in_ok-ended.ensures.fed in
-    let threads : 9 + (vec_len ended.shares + 1) ≡ g.B.Books.first_job = omega (arith, c.in_ok-ended.ensures.shares, c.in_ok-server.ensures.count, c.requires.book_threads, c.requires.threads) in
-    let keys : g.B.Books.first_job ≡ 9 + (c.args.pool.now.workers + 1) = omega (arith, c.requires.book_threads, c.requires.threads) in
+    let threads : 10 + (vec_len ended.shares + 1) ≡ g.B.Books.first_job = omega (arith, c.in_ok-ended.ensures.shares, c.in_ok-server.ensures.count, c.requires.book_threads, c.requires.threads) in
+    let keys : g.B.Books.first_job ≡ 10 + (c.args.pool.now.workers + 1) = omega (arith, c.requires.book_threads, c.requires.threads) in
+    let order = c.close.ensures.order threads c.in_ok-ended.ensures.right c.in_ok-ended.ensures.order in
     record {
       own = ended.own;
       shares = ended.shares.items;
@@ -20,5 +21,6 @@ returns-clause-fed g c =
           (subst (λ x. IsFed worker_view g.B.Books.first_job Drives offload c.args.driver x ended.own ended.shares.items) (sym c.close.ensures.given) has);
       count = omega (arith, c.in_ok-ended.ensures.shares, c.in_ok-server.ensures.count);
       counted = c.close.ensures.replies;
-      order = c.close.ensures.order threads c.in_ok-ended.ensures.right c.in_ok-ended.ensures.order;
+      order = order.legal;
+      saved = order.saved;
     }
