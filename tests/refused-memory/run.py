@@ -2,8 +2,9 @@
 """Runs tests and programs with ample memory, and again with each memory request refused.
 
 The tests are those of the assembler, the instructions, the tools and of each call that requests
-memory. Run it at the top of the repository, after `rt test` in crates/fctests and `rt run` in
-crates/fcd, crates/fcasm, crates/fcreplay and crates/fcvectors, which build the executables:
+memory. Run it at the top of the repository, after `rt test` in crates/bpftests and
+crates/pooltests, and `rt run` in crates/fcd, crates/fcasm, crates/fcreplay and crates/fcvectors,
+which build the executables:
 
     python3 tests/refused-memory/run.py [NAME..]
 
@@ -33,7 +34,7 @@ import tempfile
 import time
 
 HERE = os.path.dirname(os.path.realpath(__file__))
-TESTS = "crates/fctests/out/fctests_tests"
+TESTS = ("crates/bpftests/out/bpftests_tests", "crates/pooltests/out/pooltests_tests")
 FCASM = "crates/fcasm/out/fcasm"
 FCD = "crates/fcd/out/fcd"
 FCREPLAY = "crates/fcreplay/out/fcreplay"
@@ -263,10 +264,13 @@ def each_refused(name, run, judge, shim, times):
 
 
 def tests():
-    """Returns the names of the tests that are run."""
-    listed = subprocess.run([TESTS, "--list"], capture_output=True, text=True, check=True)
-    names = [line.removesuffix(": test") for line in (listed.stdout + listed.stderr).splitlines() if line.endswith(": test")]
-    return [it for it in names if it.startswith(TRIED) and it not in LEFT_OUT]
+    """Returns the tests that are run: the executable and the name of each."""
+    found = []
+    for executable in TESTS:
+        listed = subprocess.run([executable, "--list"], capture_output=True, text=True, check=True)
+        names = [line.removesuffix(": test") for line in (listed.stdout + listed.stderr).splitlines() if line.endswith(": test")]
+        found += [(executable, it) for it in names if it.startswith(TRIED) and it not in LEFT_OUT]
+    return found
 
 
 def programs():
@@ -297,7 +301,7 @@ def main():
     with tempfile.TemporaryDirectory() as room:
         shim = f"{room}/refuse.so"
         subprocess.run(["cc", "-shared", "-fPIC", "-O1", "-o", shim, f"{HERE}/refuse.c"], check=True)
-        tried_ones = [(it, command([TESTS, it], b""), of_test, 1) for it in tests()] + programs()
+        tried_ones = [(it, command([executable, it], b""), of_test, 1) for executable, it in tests()] + programs()
         print("| what was run | requests | what came of refusing each |\n| --- | --- | --- |")
         well = [each_refused(name, run, judge, shim, times) for name, run, judge, times in tried_ones if any(it in name for it in names)]
     return 0 if all(well) else 1

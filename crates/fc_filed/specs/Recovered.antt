@@ -54,7 +54,7 @@ IsStoredOrInitial first_slot first_stored slot stored = IsStoredOf slot stored â
 -- lead the store on to the closed one. The slots that are stored then are the history's. The machine
 -- stops at this place, and the medium has returned the data that was written to it. Then a start
 -- finds the stored slots, maybe with one update. This update was refused, and none was stored since.
--- The server began with the stored slots, or with some of them at a higher serial (`begun`).
+-- A slot without a stored update may be found at a higher serial than its first stored one (`begun`).
 pub record FindsHistory {S : Type 0} (g : Ghosts S) (first : ServerState) (stored : StoredSlots) (opened closed : S) (calls later : List FiledEntry) (h : History) : Type 0 where
   pub store : S
   pub led : EntriesLead (StoreSteps g) (store_entries calls) opened store

@@ -76,8 +76,8 @@ ChangesAsSaved operation None before after = after.slots ≡ before.slots
 ChangesAsSaved operation (Some save) before after = MakesIfStored save.is_stored operation save.update before after
 
 -- the entry's operation has its effect on the shard. If the server's store is persistent, each
--- change of a slot is saved. Otherwise nothing is saved. An update that can't be saved was refused
--- by the store.
+-- change of a slot is saved. Otherwise nothing is saved. The entry of a refused update has the
+-- refused save.
 pub record ShardSteps (persistent : Bool) (e : FiledEntry) (before after : Shard) : Type 0 where
   pub does : ShardDoes e.operation before after
   pub saved : persistent ≡ true → ChangesAsSaved e.operation e.save before after
@@ -122,8 +122,8 @@ pub record StoreCalls (S : Type 0) : Type 0 where
   pub store : S
   pub calls : List FiledEntry
 
--- a call makes at most one change of slot n, and its update is stored first, as this save. Without
--- a change nothing is saved.
+-- a call makes at most one change of slot n, and its update is stored, as this save. Without a
+-- change nothing is saved.
 abbrev pub IsSavedAs : {S : Type 0} → Ghosts S → Slot → ℕ → Change → (Verified : Type 0) → SlotUpdate → List Change → Option Save → S → S → Type 0
 IsSavedAs g slot n change Verified update made save old new =
     ((made ≡ []) × (save ≡ None) × (new ≡ old))

@@ -89,7 +89,8 @@ pub fn starts_find_the_history<S: Store>()
         → FindsHistory S.Store first stored saved.before saved.after earlier later (history_on before (log_of numbered_from earlier)) }
 {}
 
-/// With a persistent store, each change of a slot is saved first, and nothing else is changed.
+/// With a persistent store, each change of a slot is one entry with its save; no other entry changes
+/// a slot.
 ///
 /// An entry without a save changes no slot. Neither does one whose update was refused: it is the
 /// refusal of just this update, and each refusal has its save. The update of slot 13 at serial 7 was

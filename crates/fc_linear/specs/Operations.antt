@@ -8,6 +8,7 @@ use Rattle.fc_isa.specs.declared.rule.Fault.{Fault}
 use Rattle.fc_store.specs.declared.store.ProgramUpdate.{ProgramUpdate}
 use Rattle.fc_store.specs.declared.store.ProgramUpdate.TheVariants as saves
 use Rattle.fc_store.specs.declared.store.SlotUpdate.{SlotUpdate}
+use Rattle.fc_kinds.specs.Meaning.{Program}
 use Rattle.fc_verify.specs.Accepted.{Accepts}
 use Rattle.fc_verify.specs.Judged.{judged}
 use Rattle.fc_verify.specs.Refusals.{IsRefusal}
@@ -15,9 +16,10 @@ use Rattle.fc_verify.specs.declared.refusal.Refusal.TheVariants.{Broken}
 use Rattle.fc_observe.specs.declared.entry.Turn.{Turn}
 use Rattle.fc_registry.specs.declared.job.Job.{Job}
 use Rattle.fc_registry.specs.declared.receipt.Receipt.{Receipt as Facts}
-use Rattle.fc_registry.specs.Calls.{commit_of, receipt_of, run_of, wants}
+use Rattle.fc_registry.specs.Calls.{commit_of, initial_vars_of, receipt_of, run_of, wants}
+use Rattle.fc_registry.specs.Changes.{installed}
 use Rattle.fc_registry.specs.Notes.{sent_of}
-use Rattle.fc_registry.specs.Slots.{Shard, Ticket}
+use Rattle.fc_registry.specs.Slots.{Shard, Slot, Ticket}
 use Rattle.fc_core.specs.declared.event.Event.{Event}
 use Rattle.fc_core.specs.declared.event.Event.TheVariants.{Deliver, Peek, Take, Commit, Install, Remove, Refuse, Receipt, Raise, Answer, Due, Fire, Fresh, Note, GiveUp, Signal, Tick, ShardTick}
 use Rattle.fc_core.specs.declared.by_value.Delivered.{Delivered}
@@ -193,9 +195,12 @@ LookMoves slot word job s t =
     ⊎ ((seen : ArrayVec ℕ) × (slot ≡ length seen.items) × (s ≡ ToList seen) × (t ≡ listed (seen.items ++ word ∷ [])))
 
 -- a job at this stage makes the change of this update if it is saved. An install's image is the
--- job's. The variables of a commit are those that the ticket's run left, and the run wants to write.
+-- job's, and is accepted. Its variables are those that the install of this program leaves in a slot.
+-- The variables of a commit are those that the ticket's run left, and the run wants to write.
 abbrev pub MakesUpdate : Job → ProgramUpdate → Stage → Type 0
-MakesUpdate job (saves.Install image vars) s = (s ≡ ToInstall) × (image.now ≡ image_of job.ask)
+MakesUpdate job (saves.Install image vars) s =
+    (s ≡ ToInstall) × (image.now ≡ image_of job.ask) × (program : Program) × (judged (image_of job.ask) ≡ Accepts program)
+    × ((slot : Slot) × (vars.now ≡ (installed slot program (initial_vars_of job.ask)).vars))
 MakesUpdate job (saves.Commit vars) s = (count : ℕ) × ((ticket : Ticket) × ((s ≡ ToCommit count ticket) × (wants ticket ≡ true) × (vars.now ≡ (commit_of ticket).after)))
 MakesUpdate job saves.Remove s = s ≡ ToRemove
 

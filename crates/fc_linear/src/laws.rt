@@ -1,5 +1,5 @@
 //! Laws of logs of operations.
-ghost use Rattle.std.specs.Prelude.{◌≡◌, ◌<◌, ℕ, [], List, None, Some, false, length, true, ◌∷◌, Option};
+ghost use Rattle.std.specs.Prelude.{◌≡◌, ◌<◌, ℕ, [], List, None, Some, false, length, true, ◌∷◌, Option, replicate};
 ghost use Rattle.std.specs.Borrow.{Bor};
 ghost use Rattle.fc_calls.specs.Logged.{GivesReadings, ReadsCost, SkipsIdle};
 ghost use Rattle.fc_core.specs.Contents.{Content, Unavailable};
@@ -11,11 +11,12 @@ ghost use Rattle.fc_core.specs.declared.policy.Policy.{Policy};
 ghost use Rattle.fc_core.specs.declared.stage.Task.{Task};
 ghost use Rattle.fc_kinds.specs.Meaning.{Program};
 ghost use Rattle.fc_core.specs.Stages.{image_of};
-ghost use Rattle.fc_registry.specs.Calls.{commit_of, wants};
+ghost use Rattle.fc_registry.specs.Calls.{commit_of, initial_vars_of, wants};
 ghost use Rattle.fc_registry.specs.Restored.{restored_slot};
 ghost use Rattle.fc_registry.specs.Shards.{slot_in_shards};
 ghost use Rattle.fc_registry.specs.Slots.{Shard, Ticket};
 ghost use Rattle.fc_registry.specs.Starts.{CanRestore};
+ghost use Rattle.fc_registry.specs.declared.job.InitialVars.TheVariants.{Zeros};
 ghost use Rattle.fc_registry.specs.declared.job.Job.{Job};
 ghost use Rattle.fc_server.specs.declared.server.Begin.{Begin};
 ghost use Rattle.fc_server.specs.Serving.{Serves};
@@ -72,7 +73,8 @@ pub fn calls_continue_a_history()
 /// An image that isn't installed, or a change that isn't saved, is one of a job.
 ///
 /// An image breaks a rule, or memory for it is refused, at the stage of its install. The update of
-/// an install fails to be saved at that stage too, and has the job's image. The update of a commit
+/// an install fails to be saved at that stage too, and has the job's image, which is accepted. If the
+/// install keeps no variables, the update has zeros. The update of a commit
 /// fails at the stage of a commit that wants to write, and has the variables that its run left. The
 /// update of a removal fails at the stage of the removal. So the slot hasn't changed yet. The job's
 /// answer is then 5.03 (Service Unavailable), and the job's slot is that of the update.
@@ -86,6 +88,9 @@ pub fn filed_refusals_name_their_job()
     ensures unsaved { (u : SlotUpdate) (job : Job) (s t : Stage) → StageMoves (FailsToSave u) job s t → (u.slot ≡ job.origin.slot) × (t ≡ ToAnswer Unavailable) }
     ensures install { (slot serial : ℕ) (image vars : Bor (List ℕ)) (job : Job) (s t : Stage) →
         StageMoves (FailsToSave (record { slot = slot; serial = serial; program = saves.Install image vars })) job s t → (s ≡ ToInstall) × (image.now ≡ image_of job.ask) }
+    ensures accepted { (slot serial : ℕ) (image vars : Bor (List ℕ)) (job : Job) (s t : Stage) →
+        StageMoves (FailsToSave (record { slot = slot; serial = serial; program = saves.Install image vars })) job s t
+        → (program : Program) × (judged image.now ≡ Accepts program) × (initial_vars_of job.ask ≡ Zeros → vars.now ≡ replicate program.vars_size 0) }
     ensures commit { (slot serial : ℕ) (vars : Bor (List ℕ)) (job : Job) (s t : Stage) →
         StageMoves (FailsToSave (record { slot = slot; serial = serial; program = saves.Commit vars })) job s t
         → (count : ℕ) × ((ticket : Ticket) × ((s ≡ ToCommit count ticket) × (wants ticket ≡ true) × (vars.now ≡ (commit_of ticket).after))) }

@@ -1,5 +1,5 @@
 -- The slots that a server starts with, and the save of the serial at which they start.
-use Rattle.std.specs.Prelude.{◌≡◌, ◌<◌, ◌≤◌, ℕ, Bool, List, [], ◌∷◌, Option, length}
+use Rattle.std.specs.Prelude.{◌≡◌, ◌⊎◌, ◌<◌, ◌≤◌, ℕ, Bool, false, List, [], ◌∷◌, Option, length}
 use Rattle.fc_store.specs.Stored.{StoredProgram, StoredSlot, StoredSlots, stored_in}
 use Rattle.fc_store.specs.Updates.{AreSameSlots, program_after}
 use Rattle.fc_store.specs.declared.store.ProgramUpdate.{ProgramUpdate}
@@ -44,3 +44,9 @@ AreRising [] slots = Unit {0}
 AreRising (s ∷ earlier) slots =
     AreRising earlier slots
     × ((stored_after earlier slots s.update.slot).serial ≤ s.update.serial)
+
+-- one of these updates was refused, and is of slot n.
+abbrev pub RefusesSlot : List Save → ℕ → Type 0
+RefusesSlot [] n = ⊥
+RefusesSlot (s ∷ earlier) n =
+    ((s.is_stored ≡ false) × (s.update.slot ≡ n)) ⊎ RefusesSlot earlier n

@@ -2,18 +2,18 @@
 ghost use Rattle.std.specs.Prelude.{◌≡◌, ◌≢◌, ◌+◌, ◌-◌, ◌*◌, ◌/◌, ◌%◌, ◌<◌, ◌≤◌, ◌++◌, ◌↔◌, ◌⊎◌, ℕ, Bool, List, [], ◌∷◌, None, Option, Some, codes, false, flat_map, is_none, length, map, true};
 ghost use Rattle.coap_msg.specs.declared.types.Emission.{Emission};
 ghost use Rattle.fc_calls.specs.Doings.{AnswersAt};
-ghost use Rattle.fc_filed.specs.Recovered.{AreStoredAtFirst, FindsHistory, HaveSavedOrder};
+ghost use Rattle.fc_filed.specs.Recovered.{AreStoredAtFirst, FindsHistory, HaveSavedOrder, saves_of};
 ghost use Rattle.fc_filed.specs.Entries.{log_of};
 ghost use Rattle.fc_filed.specs.declared.entry.FiledEntry.{FiledEntry};
 ghost use Rattle.fc_linear.specs.Parts.{history_on};
 ghost use Rattle.fc_core.specs.Contents.{Content};
 ghost use Rattle.fc_core.specs.Exchanges.{FrontState, advanced};
-ghost use Rattle.fc_core.specs.History.{History};
+ghost use Rattle.fc_core.specs.History.{History, seen, slot_at};
 ghost use Rattle.fc_core.specs.Timers.{timer_job};
 ghost use Rattle.fc_core.specs.declared.front.Handled.TheVariants.{Job, Nothing, Reply, Signal};
 ghost use Rattle.fc_observe.specs.declared.observers.Ticked.{Ticked};
 ghost use Rattle.fc_observe.specs.declared.observers.Ticked.TheVariants.{Quiet};
-ghost use Rattle.fc_registry.specs.Shards.{shard_at};
+ghost use Rattle.fc_registry.specs.Shards.{shard_at, slot_in_shards};
 ghost use Rattle.fc_registry.specs.Slots.{last_serial};
 ghost use Rattle.fc_registry.specs.Watches.{at_time, overdue_place, watch_at};
 ghost use Rattle.fc_server.specs.Notified.{Nobody, Notified};
@@ -53,8 +53,9 @@ ghost use Rattle.fc_service.specs.Pooled.{PooledIngress, pooled_calls};
 ghost use Rattle.fc_service.specs.Rounds.{EndsInTime, HasServed, HasServedPooled, HasServedReported, HasServedTimed, IsOneThread, Round, WaitsAfter, deliveries_of, offload_of, round_calls, sendings_in, served_view, until_due};
 ghost use Rattle.fc_server.specs.Flushing.{most_steps};
 ghost use Rattle.fc_service.specs.Serials.{IsNewerNumber, raised_at, serial_of_start, serial_over};
-ghost use Rattle.fc_service.specs.Starting.{AreRising, IsRestoredFrom, SavesSerial};
-ghost use Rattle.fc_store.specs.Recovery.{Save, SavesAll};
+ghost use Rattle.fc_service.specs.Starting.{AreRising, IsRestoredFrom, RefusesSlot, SavesSerial};
+ghost use Rattle.fc_store.specs.declared.store.ProgramUpdate.{ProgramUpdate};
+ghost use Rattle.fc_store.specs.Recovery.{Save, SavesAll, refuses, stores};
 ghost use Rattle.fc_store.specs.Stored.{StoredProgram, StoredSlot, StoredSlots, stored_in};
 ghost use Rattle.fc_store.specs.Updates.{AreSameSlots};
 ghost use Rattle.fc_server.specs.declared.alone.SingleThread.{SingleThread};
@@ -544,7 +545,8 @@ pub fn reports_have_their_periods()
 /// calls continues it. The machine stops at some place of the order: after the calls `earlier`, and
 /// before `later`. So far the medium has returned the data that was written to it. Then a start
 /// finds the slots of the longer history, which has the calls up to there. It may also find one
-/// update that was refused since the last one was stored (`found`).
+/// update that was refused since the last one was stored (`found`). A slot that hasn't changed since
+/// the start may have another serial than the found one.
 pub fn starts_find_what_was_served<
     Z: Sensors,
     S: Source,
@@ -559,4 +561,20 @@ pub fn starts_find_what_was_served<
         → (w : HasServedPooled (served_view Z.are_sensed (round_calls S.received M.is_time K.went) C.recorded (HasSaved P.Store) start) timers every Q.reported (round_calls S.received M.is_time K.went) workers limit P.persistent start (HaveSavedOrder P.Store start stored) before after replies)
         → P.persistent ≡ true → AreStoredAtFirst start stored → Serves h start [] → w.order.order.calls ≡ earlier ++ later
         → FindsHistory P.Store start stored w.saved.before w.saved.after earlier later (history_on h (log_of (first_brought (10 + length (logs_of w.shares w.last.done.share))) earlier)) }
+{}
+
+/// The next start begins with the programs of the history, if a crash comes at any place of it.
+///
+/// At this place a start finds the slots of the history `h` (`FindsHistory`), and the medium is
+/// clean. A crash leaves the slots `found`, and the next start restores them. Then each slot has the
+/// program, the version and the variables that the history leaves in it, or an update of the slot
+/// was refused. If the update of slot 5 was refused, and that of slot 6 was stored, slot 6 has no
+/// refused update.
+pub fn next_starts_begin_as_served<P: Store>()
+    ensures begins { (first next : ServerState) (stored found : StoredSlots) (opened closed : P) (calls later : List FiledEntry) (h : History)
+        → (finds : FindsHistory P.Store first stored opened closed calls later h) → AreStoredAtFirst first stored
+        → P.Store.is_clean finds.store → P.Store.may_recover finds.store found → IsRestoredFrom found next
+        → (n : ℕ) → n < 64 → ((slot_in_shards next.shards n).present ≡ (slot_at (seen h) n).present) ⊎ RefusesSlot (saves_of calls) n }
+    ensures refused { (a b : ProgramUpdate) → RefusesSlot (refuses 5 9 b ∷ stores 6 8 a ∷ []) 5 }
+    ensures other { (a b : ProgramUpdate) → RefusesSlot (refuses 5 9 b ∷ stores 6 8 a ∷ []) 6 → ⊥ }
 {}

@@ -97,9 +97,10 @@
 //!   slot or has a save. The saves lead from some opened store, with the stored slots of the store
 //!   that is passed (`run_pool`, `serve_at` and `serve`, by `HaveSavedOrder`). At each place of the
 //!   order, a start finds the programs and variables of the history up to there. It may also find
-//!   one update that was refused since the last stored one (`starts_find_what_was_served`). This
-//!   supposes that the medium returns the data that was written to it. The contracts say nothing
-//!   about a crash during a save.
+//!   one update that was refused since the last stored one (`starts_find_what_was_served`). If the
+//!   next start restores what a crash leaves there, each slot without a refused update begins as in
+//!   the history (`next_starts_begin_as_served`). This supposes that the medium returns the data
+//!   that was written to it. The contracts say nothing about a crash during a save.
 //! - **A pool** begins with the first state that its caller passes: empty slots, or slots restored
 //!   from stored states. It returns at its end the front and eight shards. For each shard it also
 //!   returns the number of changes of its slots. The serials of each shard have risen by exactly

@@ -129,7 +129,7 @@ module _ (first_job : ℕ) (job : Job) where
     call_filed number (Rejects content) stage before after may at is = one (RejectsImage job content) stage (next_stage (Rejects content)) before after may is.1 (refl, is.0, at, refl)
     call_filed number Refuses stage before after may at is = ⊎_elim
         (λ r. one (RefusesInstall job) stage (next_stage Refuses) before after may r.1 (refl, at, refl))
-        (λ r. one_refusal (Installed r.0 (initial_vars_of job.ask)) (image_of job.ask) stage before after may r.1.2 (λ slot. (at, refl)))
+        (λ r. one_refusal (Installed r.0 (initial_vars_of job.ask)) (image_of job.ask) stage before after may r.1.2 (λ slot. (at, refl, r.0, r.1.0, (slot, refl))))
         is
     call_filed number (Removes removal) stage before after may at is = one_change (Logged (RemovesProgram job removal)) stage (next_stage (Removes removal)) before after may
         (files.logged (RemovesProgram job removal) before after is.0) (refl, at, refl)

@@ -271,8 +271,8 @@ module _ (first_job : ℕ) (job : Job) where
 
   -- the first track is right for its job, and may be moved to a message.
   sent_right : (who : ℕ) (ts : List (Track FiledEntry)) → first_job ≤ key_of_first ts → HasLedJob job (first_stage job) (entries_of ts) → IsFirstSent first_job ts
-  sent_right who [] le led = tt
-  sent_right who (t ∷ ts) le led = (le, led_right first_job who job t.entries (first_stage job) led)
+  sent_right who [] le is_led = tt
+  sent_right who (t ∷ ts) le is_led = (le, led_right first_job who job t.entries (first_stage job) is_led)
 
   pub may_send : (log : TrackedLog) → IsNewJob first_job (first_tracked job log) → IsFirstSent first_job log.tracks.own
   may_send log new = let at = first_at log new in sent_right log.who log.tracks.own (at_lower first_job job (first_stage job) log.tracks at).key at.led

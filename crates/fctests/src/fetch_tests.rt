@@ -1,9 +1,7 @@
 //! The client's program, with a socket of this host as its server.
 //!
 //! The datagrams are worked out by hand (RFC 7252, section 3; RFC 7641, section 2).
-use crate::faulty::{Unflushed, Unreadable};
-use crate::scripted::joined;
-use crate::socket_tests::{at_port, free_port, serve_while};
+use crate::socket_tests::serve_while;
 use coap_client::Fetched;
 use coap_msg::Code;
 use coap_opts::Method;
@@ -15,6 +13,9 @@ use fc_fetch::printer::{PrintError, write_answer};
 use fc_fetch::{
     Asking, BodySource, FetchOptions, Observing, Pinging, Shown, System, fetch, observe,
 };
+use fc_fixtures::datagrams::joined;
+use fc_fixtures::faulty::{Unflushed, Unreadable};
+use fc_fixtures::ports::{at_port, free_port};
 use fc_host::sensors::NoSensors;
 use fc_service::serve::Extent;
 use std::alloc::Global;

@@ -3,11 +3,12 @@
 //! A client at another address of this host tests where the server listens. The parts of the host
 //! that a server uses are its socket, the waits of a receive, and random words.
 use crate::serving::slots_without_store;
-use crate::socket_tests::{at_port, free_port, unrecorded};
+use crate::socket_tests::unrecorded;
 use coap_msg::Endpoint;
 use fc_cli::Status;
 use fc_core::DEFAULT_POLICY;
 use fc_core::front::blank_emission;
+use fc_fixtures::ports::{at_port, free_port};
 use fc_host::clock::Elapsed;
 use fc_host::sensors::NoSensors;
 use fc_host::socket::{BUFFER, Receiving, Sink, Source, open};

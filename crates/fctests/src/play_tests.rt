@@ -1,10 +1,10 @@
 //! Plays whose reading or writing fails or doesn't end, or that get no worker.
 //!
 //! The cases of fcvectors test the output for lines.
-use crate::faulty::{Full, Unflushed};
 use clap::Error;
 use fc_cli::Status;
 use fc_cli::command_line::explain;
+use fc_fixtures::faulty::{Full, Unflushed};
 use fc_lines::LineLimit;
 use fc_server::DEFAULT_BEGIN;
 use fc_service::play::play;

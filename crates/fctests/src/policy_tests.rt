@@ -1,9 +1,10 @@
 //! A server with a policy, and clients at two addresses of this host.
 //!
 //! The expected bytes are worked out by hand.
-use crate::socket_tests::{at_port, check_logged, serve_since};
+use crate::socket_tests::{check_logged, serve_since};
 use coap_dedup::Limits;
 use fc_core::{MOST_NETWORKS, Network, Policy};
+use fc_fixtures::ports::at_port;
 use fc_host::sensors::NoSensors;
 use fc_host::socket::open;
 use fc_observe::CONFIRM_AFTER;

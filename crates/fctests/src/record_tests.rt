@@ -3,8 +3,9 @@
 //! Each answered change has one record, made at the last block of a change in blocks. A duplicate
 //! datagram has no record. The digests are those that `sha256sum` printed for the images.
 use crate::serving::serve_without_store;
-use crate::socket_tests::{COUNT, at_port, client_of, largest_image, never};
+use crate::socket_tests::{COUNT, client_of, largest_image, never};
 use fc_core::DEFAULT_POLICY;
+use fc_fixtures::ports::at_port;
 use fc_host::sensors::NoSensors;
 use fc_host::socket::{Receiving, open};
 use fc_record::{LoggedChanges, NoReports, Recorder};

@@ -2,8 +2,8 @@
 //!
 //! The expected replies are worked out by hand from the tables of instructions, helpers and
 //! options.
-use crate::tooling::assembled;
 use fc_cli::Status;
+use fc_fixtures::tooling::assembled;
 use fc_server::DEFAULT_BEGIN;
 use fc_service::play::play;
 use std::alloc::Global;

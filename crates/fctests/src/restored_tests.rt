@@ -1,10 +1,11 @@
 //! A server that starts with stored slots, on one thread and with workers.
-use crate::socket_tests::{at_port, check_asked, unrecorded};
-use crate::tooling::assembled;
+use crate::socket_tests::{check_asked, unrecorded};
 use crate::update_tests::SHOW_8;
 use coap_opts::Method;
 use fc_cli::Status;
 use fc_core::DEFAULT_POLICY;
+use fc_fixtures::ports::at_port;
+use fc_fixtures::tooling::assembled;
 use fc_host::sensors::NoSensors;
 use fc_host::socket::{Receiving, open};
 use fc_server::FirstServer;

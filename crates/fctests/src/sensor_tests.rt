@@ -1,5 +1,6 @@
 //! A server whose programs read a file as their sensors, while the file changes.
-use crate::socket_tests::{at_port, client_of, install_reader, readings_of, serve_while};
+use crate::socket_tests::{client_of, install_reader, readings_of, serve_while};
+use fc_fixtures::ports::at_port;
 use fc_host::sensors::{FileSensors, Sensors};
 use fc_service::serve::Extent;
 use std::net::{Net, SocketAddrV4, UdpSocket};

@@ -4,13 +4,14 @@
 ghost use Rattle.std.specs.Prelude.{◌≤◌, IfSome, length};
 
 use crate::serving::{serve_without_store, slots_without_store};
-use crate::tooling::assembled;
 use coap_msg::{Emission, Endpoint};
 use coap_opts::Method;
 use fc_cli::Status;
 use fc_core::{DEFAULT_POLICY, Policy};
 use fc_fetch::observer::ObservationExtent;
 use fc_fetch::{FetchOptions, Observing, Shown, fetch, observe};
+use fc_fixtures::ports::{at_port, free_port};
+use fc_fixtures::tooling::assembled;
 use fc_host::sensors::{NoSensors, Sensors};
 use fc_host::socket::{Buffer, Receiving, Sink, Source, open};
 use fc_record::{NoChanges, NoReports};
@@ -20,7 +21,7 @@ use fc_workers::CallLog;
 use log::sink::Memory;
 use log::{LevelFilter, Log, Logged};
 use std::alloc::{AllocError, Global};
-use std::net::{Ipv4Addr, Net, SocketAddrV4, UdpSocket};
+use std::net::{Net, SocketAddrV4, UdpSocket};
 use std::process::Abort;
 use std::random::RandomSource;
 use std::sync::Wait;
@@ -40,11 +41,6 @@ pub(crate) static COUNT: [u8; 88] = [
     0x85, 0x00, 0x00, 0x00, 0x07, 0x00, 0x00, 0x00, 0xb7, 0x00, 0x00, 0x00, 0x00, 0x00, 0x00, 0x00,
     0x95, 0x00, 0x00, 0x00, 0x00, 0x00, 0x00, 0x00,
 ];
-
-// Returns the address 127.0.0.1 with this port.
-pub(crate) fn at_port(port: u16) -> SocketAddrV4 {
-    SocketAddrV4::new(Ipv4Addr::LOCALHOST, port)
-}
 
 // Sends a request to this path of the server at `port`. Checks the client's output and status, and
 // that it reports no error.
@@ -269,12 +265,6 @@ fn a_taken_port_is_status_3(rt: HostRuntime) -> Result<(), Fail> {
     let told = format!(in alloc; "UDP 127.0.0.1:{port}: Address already in use (os error 98)\n")?;
     assert!(rt; status == Status::Failed && err.as_slice() == told.as_bytes());
     Ok(())
-}
-
-// Returns a port of this host at which no socket listens.
-pub(crate) fn free_port<R: Net>(rt: &R) -> io::Result<u16> {
-    let socket = open(rt, at_port(0))?;
-    Ok(socket.local_addr()?.port())
 }
 
 // A request to a port without a listener fails immediately. The status is `Failed`, and `err` says

@@ -2,8 +2,8 @@
 //!
 //! The tests check which variables the new program finds. The datagrams are written by hand (RFC
 //! 7252, section 3.1). Uri-Query is option 15, four above Uri-Path, and Block1 is option 27.
-use crate::tooling::assembled;
 use fc_cli::Status;
+use fc_fixtures::tooling::assembled;
 use fc_server::DEFAULT_BEGIN;
 use fc_service::play::play;
 use std::alloc::Global;

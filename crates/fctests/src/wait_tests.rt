@@ -9,6 +9,7 @@ use crate::serving::serve_without_store;
 use crate::socket_tests::{put_datagram, unrecorded};
 use coap_msg::{Emission, Endpoint};
 use fc_core::DEFAULT_POLICY;
+use fc_fixtures::datagrams::PUT_EXPENSIVE;
 use fc_host::sensors::NoSensors;
 use fc_host::socket::{Buffer, Sink, Source};
 use fc_service::serve::Extent;
@@ -107,11 +108,6 @@ fn a_server_that_has_nothing_to_do_waits_without_end(rt: HostRuntime) {
     check_waits(&rt, 1);
     check_waits(&rt, 2);
 }
-
-// A PUT to slot 1 of an image with a budget of 8,207 steps. The program has a loop of four
-// iterations, and in it one of 1,024 iterations of two steps.
-pub(crate) static PUT_EXPENSIVE: &[u8] =
-    b"\x40\x03\x00\x01\xb1\x70\x01\x31\xff\x46\x43\x42\x32\x00\x00\x08\x00\x0f\x20\x00\x00\x00\x00\x00\x00\xb7\x06\x00\x00\x00\x00\x00\x00\xb7\x07\x00\x00\x00\x00\x00\x00\x07\x07\x00\x00\x01\x00\x00\x00\xa5\x07\xfe\xff\x00\x04\x00\x00\x07\x06\x00\x00\x01\x00\x00\x00\xa5\x06\xfb\xff\x04\x00\x00\x00\xb7\x00\x00\x00\x00\x00\x00\x00\x95\x00\x00\x00\x00\x00\x00\x00";
 
 // A source that returns a PUT of an expensive program after 500 ms, so that a worker can ask for a
 // job before. Then it returns a POST to that program. The fourth call, while the POST's job runs,

@@ -1,5 +1,9 @@
-use Rattle.std.proofs.Common.{ℕ, ap, refl}
+use Rattle.std.proofs.Common.{◌≡◌, ℕ, List, ap, refl, subst, sym, ◌∙◌}
 use Rattle.std.specs.Prelude.{◌%◌}
+use Rattle.fc_verify.specs.Accepted.{Accepts}
+use Rattle.fc_verify.specs.Judged.{judged}
+use Rattle.fc_registry.specs.Changes.{installed}
+use Rattle.fc_registry.specs.declared.job.InitialVars.{InitialVars}
 use Rattle.fc_linear.specs.Operations.{ShardPart}
 use Rattle.fc_linear.proofs.laws.filed_refusals_name_their_job.Goals as goal
 
@@ -13,7 +17,14 @@ pub returns-clause-unsaved : goal.returns-clause-unsaved
 returns-clause-unsaved c = λ u job s t m. (m.0, m.2)
 
 pub returns-clause-install : goal.returns-clause-install
-returns-clause-install c = λ slot serial image vars job s t m. m.1
+returns-clause-install c = λ slot serial image vars job s t m. (m.1.0, m.1.1)
+
+pub returns-clause-accepted : goal.returns-clause-accepted
+returns-clause-accepted c = λ slot serial image vars job s t m. (
+  m.1.2,
+  subst (λ (bytes : List ℕ). judged bytes ≡ Accepts m.1.2) (sym m.1.1) m.1.3,
+  λ zeros. m.1.4.1 ∙ ap (λ (initial : InitialVars). (installed m.1.4.0 m.1.2 initial).vars) zeros,
+)
 
 pub returns-clause-commit : goal.returns-clause-commit
 returns-clause-commit c = λ slot serial vars job s t m. m.1

@@ -1,5 +1,0 @@
-use Rattle.fc_workers.specs.Naming.{names_of}
-use Rattle.fctests.proofs.counted_tests.each_change_is_counted_once.Given as goal
-
-abbrev pub ghosts-change : goal.ghosts-change
-ghosts-change g a = record { names = names_of a.blanks; parts = a.blanks.parts; table = a.book.table; first_job = a.book.first_job; first = a.book.first }

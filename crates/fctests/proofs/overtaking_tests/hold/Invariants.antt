@@ -1,5 +1,0 @@
-use Rattle.fc_workers.specs.Naming.{names_of}
-use Rattle.fctests.proofs.overtaking_tests.hold.Given as goal
-
-abbrev pub ghosts-hold_named : goal.ghosts-hold_named
-ghosts-hold_named g a = record { names = names_of a.blanks; parts = a.blanks.parts; table = a.book.table; first_job = a.book.first_job; first = a.book.first }

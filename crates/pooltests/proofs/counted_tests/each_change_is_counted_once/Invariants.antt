@@ -1,0 +1,7 @@
+use Rattle.std.specs.Prelude.{false}
+use Rattle.fc_store.specs.Stored.{blank_slot}
+use Rattle.fc_workers.specs.Naming.{names_of}
+use Rattle.pooltests.proofs.counted_tests.each_change_is_counted_once.Given as goal
+
+abbrev pub ghosts-change : goal.ghosts-change
+ghosts-change g a = record { names = names_of a.blanks; parts = a.blanks.parts; table = a.book.table; first_job = a.book.first_job; first = a.book.first; persistent = false; stored = λ n. blank_slot }
