@@ -46,12 +46,13 @@ same_after u xs ys n is = chosen (n == u.slot)
 same_stored : (saves : List Save) (xs ys : StoredSlots) (n : ℕ) → (xs n).program ≡ (ys n).program
     → (stored_after saves xs n).program ≡ (stored_after saves ys n).program
 same_stored [] xs ys n is = is
-same_stored (s ∷ earlier) xs ys n is = next s.is_stored
+same_stored (s ∷ earlier) xs ys n is = next s.is_stored (same_stored earlier xs ys n is)
   where
-    next : (b : Bool) → ((if b then slots_after s.update (stored_after earlier xs) else stored_after earlier xs) n).program
+    next : (b : Bool) → (stored_after earlier xs n).program ≡ (stored_after earlier ys n).program
+        → ((if b then slots_after s.update (stored_after earlier xs) else stored_after earlier xs) n).program
         ≡ ((if b then slots_after s.update (stored_after earlier ys) else stored_after earlier ys) n).program
-    next true = same_after s.update (stored_after earlier xs) (stored_after earlier ys) n (same_stored earlier xs ys n is)
-    next false = same_stored earlier xs ys n is
+    next true before = same_after s.update (stored_after earlier xs) (stored_after earlier ys) n before
+    next false before = before
 
 -- ---- a refused update
 
