@@ -7,9 +7,10 @@ Run it at the top of the repository, after `rt run` in crates/fcd:
 
 Each measurement has a fresh server whose 64 slots have the same program, and one client that sends
 900 POSTs to the slots one after the other; at most 32 wait for their response. A fresh server
-stores 1,024 exchanges for 247 s, so no measurement can be longer. The output is the best of fifty,
-by wall-clock time; one, two and four workers alternate."""
+stores 1,024 exchanges for 247 s, so no measurement can be longer. The output is the middle of
+fifty, by wall-clock time; one, two and four workers alternate."""
 import socket
+import statistics
 import struct
 import subprocess
 import sys
@@ -74,7 +75,7 @@ def main():
     print("| Steps of a run | 1 worker | 2 workers | 4 workers |\n|---|---|---|---|")
     for steps, program in PROGRAMS:
         rounds = [[round_of(workers, program) for workers in (1, 2, 4)] for _ in range(ROUNDS)]
-        rates = [max(it) for it in zip(*rounds)]
+        rates = [statistics.median(it) for it in zip(*rounds)]
         print(f"| {steps:,} | " + " | ".join(f"{rate:,.0f}" for rate in rates) + " |", flush=True)
     return 0
 
