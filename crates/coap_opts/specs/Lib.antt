@@ -1,6 +1,7 @@
 pub mod Values
 pub mod Path
 pub mod Served
+pub mod Observe
 pub mod Recognition
 pub mod Verdict
 pub mod Classified

@@ -4,6 +4,7 @@
 ghost use Rattle.std.specs.Prelude.{◌≡◌, ◌≢◌, ◌↔◌, ◌⊎◌, ◌+◌, ◌*◌, ◌<◌, ◌≤◌, ◌^◌, ℕ, List, None, Option, Some, false, length, slice_index, true};
 ghost use Rattle.coap_opts.specs.Checks.{HasBadValue, IsRequest, IsUnnamed, NamesProxy, PassesOptions};
 ghost use Rattle.coap_opts.specs.Classified.{IsErrorCode};
+ghost use Rattle.coap_opts.specs.Observe.{has_observe};
 ghost use Rattle.coap_opts.specs.Recognition.{has_unknown_critical, is_recognised};
 ghost use Rattle.coap_opts.specs.Values.{Place, block_bytes, block_size, place_in, uint_bytes, uint_value};
 ghost use Rattle.coap_msg.specs.declared.types.MessageType.TheVariants.{Acknowledgement, Confirmable, NonConfirmable, Reset};
@@ -22,6 +23,7 @@ use crate::number::{
     BLOCK1, BLOCK2, CONTENT_FORMAT, ETAG, OBSERVE, PROXY_SCHEME, PROXY_URI, URI_HOST, URI_PATH,
     URI_PORT, URI_QUERY,
 };
+use crate::observe::{CANCEL, REGISTER};
 
 /// Encoding and then decoding an integer gives that integer.
 ///
@@ -90,6 +92,14 @@ pub fn options_are_registered()
     ensures block1 { BLOCK1 ≡ 27 }
     ensures proxy_uri { PROXY_URI ≡ 35 }
     ensures proxy_scheme { PROXY_SCHEME ≡ 39 }
+{}
+
+/// Observe 0 registers, and Observe 1 cancels (RFC 7641, section 2).
+///
+/// No other value does either, and a request without the option does neither.
+pub fn observe_values_have_their_meanings()
+    ensures registers { (option : Option ℕ) → ((has_observe REGISTER option ≡ true) ↔ (option ≡ Some 0)) }
+    ensures cancels { (option : Option ℕ) → ((has_observe CANCEL option ≡ true) ↔ (option ≡ Some 1)) }
 {}
 
 /// The recognised options: their lengths, and the methods they are defined for.

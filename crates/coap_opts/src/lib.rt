@@ -34,6 +34,7 @@
 //!   from the block's number, M and SZX. Each resource has one path.
 //! - Each named option has its registered number, the lengths of its value, and the methods that it
 //!   is defined for.
+//! - Observe 0 registers, Observe 1 cancels, and no other value does either.
 //!
 //! By the contracts of `classify`, `classify_over`, `Reply::write`, `decode_uint`, `encode_uint`,
 //! `Block`, `laws`.
@@ -45,6 +46,7 @@ pub mod collector;
 pub mod fields;
 pub mod laws;
 pub mod number;
+pub mod observe;
 pub mod path;
 pub mod recognition;
 pub mod reply;
@@ -54,6 +56,7 @@ pub mod uint;
 
 pub use block::Block;
 pub use classifier::{classify, classify_over};
+pub use observe::{CANCEL, REGISTER, has_observe};
 pub use reply::{Reply, ReplyOptions};
 pub use request::{Action, Asking, Classified, Method, Query, Request, Resource};
 pub use served::{OPTIONS, Row};

@@ -15,6 +15,8 @@ use Rattle.coap_opts.specs.declared.request.Action.{Action}
 use Rattle.coap_opts.specs.declared.request.Action.TheVariants as actions
 use Rattle.coap_opts.specs.declared.request.Resource.{Resource}
 use Rattle.coap_opts.specs.declared.request.Resource.TheVariants as resources
+use Rattle.coap_opts.specs.declared.observe.TheConstants as observe
+use Rattle.coap_opts.specs.Observe.{has_observe}
 use Rattle.coap_opts.specs.Served.{resource_in}
 use Rattle.coap_opts.specs.Verdict.{Asked, Verdict, IsAsked, IsRefused, IsSilent, IsReset, IsSignal, IsIgnored, verdict}
 use Rattle.coap_dedup.specs.Exchanges.{Exchange}
@@ -33,8 +35,6 @@ use Rattle.fc_registry.specs.declared.job.Ask.TheVariants.{Run, Install, Remove,
 use Rattle.fc_registry.specs.declared.job.Job.{Job}
 use Rattle.fc_registry.specs.declared.job.InitialVars.{InitialVars}
 use Rattle.fc_registry.specs.declared.job.InitialVars.TheVariants.{Zeros, Kept}
-use Rattle.fc_registry.specs.declared.observe.TheConstants as observe
-use Rattle.fc_registry.specs.Calls.{has_observe}
 use Rattle.fc_core.specs.declared.by_value.Delivered.{Delivered}
 use Rattle.fc_core.specs.declared.by_value.Delivered.TheVariants.{Nothing, Reply, Job as Brings, Signal}
 use Rattle.fc_core.specs.declared.front.Handled.{Handled}

@@ -10,11 +10,9 @@ use arrayvec::ArrayVec;
 use coap_block::Body;
 use coap_msg::{Endpoint, Message, MessageType, Token};
 use coap_opts::request::ETAGS;
-use coap_opts::{Action, Block, Request};
+use coap_opts::{Action, Block, CANCEL, REGISTER, Request, has_observe};
 use fc_help::Method;
-use fc_registry::{
-    Ask, CANCEL, InitialVars, Job, Opening, Origin, REGISTER, SlotNumber, has_observe,
-};
+use fc_registry::{Ask, InitialVars, Job, Opening, Origin, SlotNumber};
 
 /// The opening of a job without an exchange, with a number that no exchange has.
 pub(crate) const NO_OPENING: Opening = Opening {

@@ -2,6 +2,8 @@
 -- determines both from the slot that the call finds.
 use Rattle.std.specs.Prelude.{◌≡◌, ℕ, ◌+◌, ◌/◌, ◌==◌, ◌&&◌, ◌<◌, ◌≤◌, Bool, true, false, if◌then◌else◌, nat_lt, List, [], ◌∷◌, ◌++◌, Option, Some, None, is_none, is_some, max}
 use Rattle.coap_msg.specs.Codes.{code}
+use Rattle.coap_opts.specs.declared.observe.TheConstants as observe
+use Rattle.coap_opts.specs.Observe.{has_observe}
 use Rattle.coap_opts.specs.Values.{Place}
 use Rattle.fc_help.specs.Request.{Request, no_request}
 use Rattle.fc_help.specs.declared.request.Method.{Method}
@@ -13,7 +15,6 @@ use Rattle.fc_observe.specs.declared.observers.Registered.TheVariants.{Full}
 use Rattle.fc_observe.specs.declared.entry.Turn.{Turn}
 use Rattle.fc_observe.specs.Calls.{ObserverCall, Advance, Cancel, MarkMissing, Register}
 use Rattle.fc_observe.specs.Observers.{ObserverList, list_at_time, entry_out, registration}
-use Rattle.fc_registry.specs.declared.observe.TheConstants as observe
 use Rattle.fc_registry.specs.declared.job.Ask.{Ask}
 use Rattle.fc_registry.specs.declared.job.Ask.TheVariants.{Run, Install}
 use Rattle.fc_registry.specs.declared.job.Job.{Job}
@@ -199,11 +200,6 @@ abbrev pub meaning_at : Ticket → Meaning
 meaning_at t = meaning_of (run_of t)
 
 -- ---- observe
-
--- whether the option has this value.
-abbrev pub has_observe : ℕ → Option ℕ → Bool
-has_observe value None = false
-has_observe value (Some own) = own == value
 
 -- whether the requested block is the first one, or none is requested.
 abbrev pub is_first_block : Option Place → Bool

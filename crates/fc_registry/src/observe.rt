@@ -2,29 +2,13 @@
 ghost use Rattle.std.specs.Prelude.{◌≡◌};
 ghost use Rattle.fc_observe.specs.Calls.{Register, after_calls, observers_after};
 ghost use Rattle.fc_observe.specs.Observers.{registration};
-ghost use Rattle.fc_registry.specs.Calls.{has_observe, is_entered, is_first_block, is_observed, observe_calls, is_registration, run_of, szx_of};
+ghost use Rattle.fc_registry.specs.Calls.{is_entered, is_first_block, is_observed, observe_calls, is_registration, run_of, szx_of};
 
 use crate::ticket::Ticket;
 use coap_msg::Code;
-use coap_opts::Block;
+use coap_opts::{Block, CANCEL, REGISTER, has_observe};
 use fc_machine::Outcome;
 use fc_observe::{Observers, Registered};
-
-/// The value of the Observe option that registers (RFC 7641, section 2).
-pub const REGISTER: u32 = 0;
-
-/// The value of the Observe option that cancels (RFC 7641, section 2).
-pub const CANCEL: u32 = 1;
-
-/// Returns whether an Observe option has this value; `false` if there is none.
-pub fn has_observe(value: u32, observe: Option<u32>) -> bool
-    ensures { result ≡ has_observe value observe }
-{
-    match observe {
-        Some(own) => own == value,
-        None => false,
-    }
-}
 
 // Registers the client of a run that has nothing to write as an observer, or removes the client's
 // entry, if the request asks for that. Returns whether the client observes the slot from now on.

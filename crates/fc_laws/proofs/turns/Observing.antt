@@ -5,6 +5,7 @@ use Rattle.std.specs.List.{list_any}
 use Rattle.std.proofs.lemmas.Bool.{eq-eqb, eqb-true, ne_eqb}
 use Rattle.std.proofs.lemmas.List.Folds.{list_any-append}
 use Rattle.coap_msg.specs.declared.types.Emission.{Emission}
+use Rattle.coap_opts.specs.Observe.{has_observe}
 use Rattle.coap_opts.specs.Values.{Place}
 use Rattle.fc_help.specs.declared.request.Method.TheVariants.{Get}
 use Rattle.fc_observe.specs.declared.entry.Entry.{Entry}
@@ -14,7 +15,7 @@ use Rattle.fc_observe.specs.Entries.{is_entry_of, new_entry}
 use Rattle.fc_observe.specs.Observers.{ObserverList, list_at_time, cancelled, entered_by, registered, registration, registration_by, without_those}
 use Rattle.fc_registry.specs.declared.commit.CommitOutcome.{CommitOutcome}
 use Rattle.fc_registry.specs.declared.commit.CommitOutcome.TheVariants.{Writes, Keeps, Overtakes, Ends}
-use Rattle.fc_registry.specs.Calls.{is_cancellation, has_observe, is_entered, is_first_block, is_observed, meaning_at, observe_calls_by, outcome, is_registration, szx_of, wants}
+use Rattle.fc_registry.specs.Calls.{is_cancellation, is_entered, is_first_block, is_observed, meaning_at, observe_calls_by, outcome, is_registration, szx_of, wants}
 use Rattle.fc_registry.specs.Slots.{Ticket}
 use Rattle.fc_core.specs.declared.event.Event.TheVariants.{Commit}
 use Rattle.fc_core.specs.Stage.{Stage}
