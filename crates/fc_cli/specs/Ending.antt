@@ -1,5 +1,5 @@
 -- The exit statuses of the programs.
-use Rattle.std.specs.Prelude.{◌≡◌, ◌⊎◌, ℕ}
+use Rattle.std.specs.Prelude.{◌≡◌, ◌⊎◌, ℕ, Ok, Result}
 use Rattle.clap.specs.declared.error.kind.ErrorKind.{ErrorKind}
 use Rattle.clap.specs.declared.error.kind.ErrorKind.TheVariants.{OutOfMemory, DisplayHelp, DisplayVersion}
 use Rattle.fc_cli.specs.declared.status.Status.{Status}
@@ -27,3 +27,15 @@ explained mistake = Bad
 pub record IsExplained (status : Status) : Type 0 where
   pub reason : ErrorKind
   pub ends : status ≡ explained reason
+
+-- a call with the postcondition `post` may return this status, for some arguments.
+abbrev pub MayReturn : {Writer Words E : Type 0}
+    → (Writer → Words → Result Status E → Writer → Type 0) → Status → Type 0
+MayReturn {Writer} {Words} post status =
+    (before : Writer) × (words : Words) × (after : Writer) × post before words (Ok status) after
+
+-- the exit status of a program is that of a status which `Works` allows, or 2 or 3 for an early end.
+abbrev pub Ends : (Status → Type 0) → ℕ → Type 0
+Ends Works code =
+    (status : Status) × ((status ≡ Bad) ⊎ (status ≡ Failed) ⊎ Works status)
+    × (code ≡ status_number status)

@@ -1,8 +1,8 @@
 //! Command lines, for all programs.
-ghost use Rattle.std.specs.Prelude.{◌≡◌, IfErr, IfOk};
+ghost use Rattle.std.specs.Prelude.{◌≡◌, ◌⊎◌, IfErr, IfOk};
 ghost use Rattle.clap.specs.Values.{kind_of};
 ghost use Rattle.std.specs.Process.{exit_status};
-ghost use Rattle.fc_cli.specs.Ending.{IsExplained, explained, status_number};
+ghost use Rattle.fc_cli.specs.Ending.{Ends, IsExplained, MayReturn, explained, status_number};
 
 use crate::status::Status;
 use clap::error::ErrorKind;
@@ -88,5 +88,38 @@ pub fn exit_code<E: Write>(err: &mut E, ended: anyhow::Result<Status>) -> ExitCo
             let _told = writeln!(err, "{error}");
             ExitCode::from(Status::Failed)
         }
+    }
+}
+
+/// Calls `work` with the words of the command line, and returns the exit code.
+///
+/// `work` writes its messages to `err`. If a word isn't UTF-8, `work` isn't called, and the exit
+/// status is 2. See [`words`]. An error is written to `err`, and has the exit status 3.
+pub fn run_main<R, E, F>(rt: &R, err: &mut E, work: F) -> ExitCode
+where
+    R: Runtime + AllocGlobal,
+    E: Write,
+    F: FnOnce(&mut E, &[String]) -> anyhow::Result<Status>,
+    requires { F.IsAlwaysCallable work }
+    ensures { Ends (MayReturn (F.post work)) (exit_status result) }
+{
+    let ended = run_words(rt, err, work);
+    exit_code(err, ended)
+}
+
+// Calls `work` with the words of the command line, and returns its status.
+//
+// Returns `Bad` without the call if a word isn't UTF-8.
+fn run_words<R, E, F>(rt: &R, err: &mut E, work: F) -> anyhow::Result<Status>
+where
+    R: Runtime + AllocGlobal,
+    E: Write,
+    F: FnOnce(&mut E, &[String]) -> anyhow::Result<Status>,
+    requires { F.IsAlwaysCallable work }
+    ensures { IfOk result (λ status. (status ≡ Status.Bad) ⊎ MayReturn (F.post work) status) }
+{
+    match words(rt, err)? {
+        Some(words) => work(err, &words),
+        None => Ok(Status::Bad),
     }
 }
