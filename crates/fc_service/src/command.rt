@@ -2,6 +2,7 @@
 //!
 //! One function makes each option, with its help text, and its range and default if it has them.
 use clap::{Arg, ArgAction, Command, Error, value_parser};
+use fc_cli::argument::option;
 use fc_cli::command_line::VERSION;
 use std::alloc::Global;
 
@@ -70,19 +71,6 @@ pub fn command<'a>(alloc: Global) -> Result<Command<'a>, Error> {
             .subcommand(play_command(alloc)?)?
             .subcommand(serve_command(alloc)?)?,
     )
-}
-
-// Makes an option that takes a value.
-fn option<'a>(
-    alloc: Global,
-    name: &'static str,
-    value: &'static str,
-    help: &'static str,
-) -> Arg<'a> {
-    Arg::new(alloc, name)
-        .long(name)
-        .value_name(value)
-        .help(help)
 }
 
 // Describes the command line of `fcd play`. Returns an error if memory can't be allocated.
