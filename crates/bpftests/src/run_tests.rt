@@ -5,8 +5,8 @@ use fc_cli::Status;
 use fc_fixtures::faulty::Full;
 use fc_fixtures::tooling::assembled;
 use fc_help::Method;
+use fc_tools::run::run;
 use fc_tools::run_options::{Asked, AskedError, RunPart};
-use fc_tools::tools::run;
 use std::alloc::{AllocError, Global};
 use std::test::Fail;
 

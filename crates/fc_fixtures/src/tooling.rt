@@ -4,8 +4,8 @@ ghost use Rattle.fc_cli.specs.declared.status.Status.TheVariants.{Failed};
 
 use fc_cli::Status;
 use fc_isa::ImageVersion;
+use fc_tools::assemble::image;
 use fc_tools::budget::Budget;
-use fc_tools::tools::image;
 use std::alloc::{AllocError, Global};
 
 /// The status and the output of a tool.

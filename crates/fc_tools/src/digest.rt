@@ -4,7 +4,7 @@ ghost use Rattle.std.specs.Prelude.{◌≡◌, ◌++◌, ◌∷◌, [], IfErr, I
 ghost use Rattle.fc_tools.specs.declared.digest.DigestError.TheVariants.{Memory};
 ghost use Rattle.fc_tools.specs.Digests.{IsDigestEnd, IsDigestFault, IsDigested, digest_text, error_status};
 
-use crate::tools::{LONGEST_IMAGE, image_bytes};
+use crate::streams::{LONGEST_IMAGE, image_bytes};
 use fc_cli::status::{Status, tell};
 use sha2::{Digest, Sha256};
 use std::alloc::{AllocError, Global};

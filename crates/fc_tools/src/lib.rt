@@ -17,22 +17,28 @@
 //!   `fcasm digest` prints it in a line for an input of at most 524,296 bytes. It refuses a longer
 //!   input, reads 524,297 bytes of it, and prints nothing.
 //!
-//! By the contracts of `tools::image_of`, `priced_image_of`, `listing_of`, `numbered_listing_of`,
-//! `diagnosis::diagnose`, `runner::report`, `digest::digest_of`, `digest`, `tools::image_bytes`,
-//! `laws`.
+//! By the contracts of `assemble::image_of`, `priced_image_of`, `list::listing_of`,
+//! `numbered_listing_of`, `diagnosis::diagnose`, `runner::report`, `digest::digest_of`, `digest`,
+//! `streams::image_bytes`, `laws`.
 #![tactic(auto)]
 
+pub mod assemble;
 pub mod budget;
+pub mod check;
 pub mod diagnosis;
 pub mod digest;
+pub mod error;
+pub mod expand;
 pub mod explain;
 pub mod facts;
 pub mod laws;
+pub mod list;
 mod loops;
 pub mod numbered_listing;
 pub mod reads;
 pub mod rules;
+pub mod run;
 pub mod run_options;
 pub mod runner;
-pub mod tools;
+pub mod streams;
 pub mod version;

@@ -3,8 +3,8 @@ ghost use Rattle.std.specs.Prelude.{IfOk, length, string_bytes, ◌≡◌};
 ghost use Rattle.fc_machine.specs.Ran.{meaning_of};
 ghost use Rattle.fc_tools.specs.Runs.{found_by, hex_or_dash, report_of, report_text};
 
+use crate::error::ToolError;
 use crate::run_options::Asked;
-use crate::tools::ToolError;
 use coap_msg::Code;
 use fc_help::Vars;
 use fc_machine::{Frame, Outcome, run};

@@ -9,7 +9,7 @@ use Rattle.fc_isa.specs.Encoding.{encoded}
 use Rattle.fc_isa.specs.declared.insn.Insn.{Insn}
 use Rattle.fc_isa.specs.declared.version.ImageVersion.{ImageVersion}
 use Rattle.fc_tools.specs.Tools.{IsPricedImageOf, program_head}
-use Rattle.fc_tools.proofs.tools.priced_image_of.Goals as goal
+use Rattle.fc_tools.proofs.assemble.priced_image_of.Goals as goal
 
 priced : (text image : List ℕ) (vars : ℕ) (version : ImageVersion) (program : List Insn) (h : Head) → IsAssembled (lines_of text) program
     → h ≡ program_head vars h.budget version program → limit_fault h ≡ None

@@ -1,6 +1,6 @@
 use Rattle.std.proofs.Common.{ap, ◌∙◌}
 use Rattle.fc_asm.specs.Listing.{listing}
-use Rattle.fc_tools.proofs.tools.listing_of.Goals as goal
+use Rattle.fc_tools.proofs.list.listing_of.Goals as goal
 
 pub returns : goal.returns
 returns c = record {

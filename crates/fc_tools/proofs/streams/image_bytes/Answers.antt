@@ -1,6 +1,6 @@
 use Rattle.std.proofs.Common.{ap}
 use Rattle.fc_tools.proofs.Digesting.{read_whole}
-use Rattle.fc_tools.proofs.tools.image_bytes.Goals as goal
+use Rattle.fc_tools.proofs.streams.image_bytes.Goals as goal
 
 pub returns : goal.returns
 returns g c =
