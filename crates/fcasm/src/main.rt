@@ -1,9 +1,10 @@
 //! The assembler's `main`, which parses its command line and calls the tools.
 #![tactic(auto)]
 
-use clap::{Arg, ArgAction, ArgMatches, Command, value_parser};
+use clap::{Arg, ArgMatches, Command, value_parser};
 use fc_cli::Status;
-use fc_cli::command_line::{VERSION, exit_code, parse, words};
+use fc_cli::argument::{flag, option, positional};
+use fc_cli::command_line::{VERSION, parse, run_main};
 use fc_cli::status::tell;
 use fc_help::Method;
 use fc_tools::assemble::image;
@@ -32,41 +33,33 @@ Example: a text with the lines `mov64 r0, 0` and `exit`
 Exit status: 0 where the work is done; 1 where a text or an image is refused; 2 where the
 command line is bad; 3 where reading or writing failed, or memory was refused.";
 
-// Defines a required option with a value.
-fn wanted<'a>(
-    alloc: Global,
-    name: &'static str,
-    value: &'static str,
-    help: &'static str,
-) -> Arg<'a> {
-    Arg::new(alloc, name)
-        .long(name)
-        .value_name(value)
-        .required(true)
-        .help(help)
-}
-
 fn image_command<'a>(alloc: Global) -> Result<Command<'a>, AllocError> {
-    let format = Arg::new(alloc, "format")
-        .long("format")
-        .value_name("F")
-        .value_parser(["1", "2"].as_slice())
-        .help("The version of the image; 1 where it is not given");
+    let format = option(
+        alloc,
+        "format",
+        "F",
+        "The version of the image; 1 where it is not given",
+    )
+    .value_parser(["1", "2"].as_slice());
     Command::new(alloc, "image")
         .about("Assemble a text to an image")
-        .arg(wanted(
-            alloc,
-            "vars",
-            "V",
-            "The size of the variables: 0 to 256 bytes, a multiple of 8",
-        )
-        .value_parser(value_parser!(u16)))?
-        .arg(wanted(
+        .arg(
+            option(
+                alloc,
+                "vars",
+                "V",
+                "The size of the variables: 0 to 256 bytes, a multiple of 8",
+            )
+            .required(true)
+            .value_parser(value_parser!(u16)),
+        )?
+        .arg(option(
             alloc,
             "budget",
             "B",
             "The most steps that a run may take: 1 to 65536, or `auto`, the program's cost",
-        ))?
+        )
+        .required(true))?
         .arg(format)
 }
 
@@ -76,27 +69,31 @@ fn on_image<'a>(
     name: &'static str,
     about: &'static str,
 ) -> Result<Command<'a>, AllocError> {
-    let image = Arg::new(alloc, "image").value_name("IMAGE").help(
+    let image = positional(
+        alloc,
+        "image",
+        "IMAGE",
         "The image's file; standard input if it is `-` or not given",
     );
     Command::new(alloc, name).about(about).arg(image)
 }
 
 fn list_command<'a>(alloc: Global) -> Result<Command<'a>, AllocError> {
-    on_image(alloc, "list", "List the program of an image")?.arg(
-        Arg::new(alloc, "slots")
-            .long("slots")
-            .action(ArgAction::SetTrue)
-            .help("Put the number of its slot in front of each line"),
-    )
+    on_image(alloc, "list", "List the program of an image")?.arg(flag(
+        alloc,
+        "slots",
+        "Put the number of its slot in front of each line",
+    ))
 }
 
 fn run_command<'a>(alloc: Global) -> Result<Command<'a>, AllocError> {
-    let method = Arg::new(alloc, "method")
-        .long("method")
-        .value_name("METHOD")
-        .value_parser(["get", "post"].as_slice())
-        .help("What is asked; get where it is not given");
+    let method = option(
+        alloc,
+        "method",
+        "METHOD",
+        "What is asked; get where it is not given",
+    )
+    .value_parser(["get", "post"].as_slice());
     on_image(
         alloc,
         "run",
@@ -129,11 +126,8 @@ fn run_command<'a>(alloc: Global) -> Result<Command<'a>, AllocError> {
 }
 
 // Defines an option with bytes in hex.
-fn hex_bytes<'a>(alloc: Global, name: &'static str, help: &'static str) -> Arg<'a> {
-    Arg::new(alloc, name)
-        .long(name)
-        .value_name("HEX")
-        .help(help)
+fn hex_bytes<'a>(alloc: Global, name: &'a str, help: &'a str) -> Arg<'a> {
+    option(alloc, name, "HEX", help)
 }
 
 fn command<'a>(alloc: Global) -> Result<Command<'a>, AllocError> {
@@ -152,24 +146,16 @@ fn command<'a>(alloc: Global) -> Result<Command<'a>, AllocError> {
         .subcommand(run_command(alloc)?)
 }
 
-// Runs the command of the command line, and returns its status, or `Bad` if a word isn't UTF-8.
-fn start<R: Runtime + AllocGlobal, E: Write>(rt: &R, err: &mut E) -> anyhow::Result<Status> {
-    match words(rt, err)? {
-        Some(words) => obey(rt, err, words),
-        None => Ok(Status::Bad),
-    }
-}
-
 // Runs the command that the words name, and returns its status.
 //
 // If the words name no command, or ask for help, the status is that of `parse`.
 fn obey<R: Runtime + AllocGlobal, E: Write>(
     rt: &R,
     err: &mut E,
-    words: Vec<String>,
+    words: &[String],
 ) -> anyhow::Result<Status> {
     let alloc = rt.alloc();
-    let matches = match parse(rt, command(alloc)?, &words)? {
+    let matches = match parse(rt, command(alloc)?, words)? {
         Ok(matches) => matches,
         Err(status) => return Ok(status),
     };
@@ -275,7 +261,5 @@ fn file_bytes<R: Runtime + AllocGlobal>(rt: &R, path: &str) -> io::Result<Vec<u8
 }
 
 fn main(rt: HostRuntime) -> ExitCode {
-    let mut err = rt.stderr();
-    let ended = start(&rt, &mut err);
-    exit_code(&mut err, ended)
+    run_main(&rt, &mut rt.stderr(), |err, words| obey(&rt, err, words))
 }
