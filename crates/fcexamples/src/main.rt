@@ -4,9 +4,10 @@
 //! requests to that slot.
 #![tactic(auto)]
 
-use clap::{Arg, Command, Error};
+use clap::{Command, Error};
 use fc_cli::Status;
-use fc_cli::command_line::{VERSION, exit_code, parse, words};
+use fc_cli::argument::positional;
+use fc_cli::command_line::{VERSION, parse, run_main};
 use fc_isa::ImageVersion;
 use fc_server::DEFAULT_BEGIN;
 use fc_service::play::play;
@@ -56,7 +57,10 @@ static EXAMPLES: [Example; 3] = [
 
 // Returns the description of the program's command line, for `parse`.
 fn command<'a>(alloc: Global) -> Result<Command<'a>, Error> {
-    let folder = Arg::new(alloc, "folder").value_name("FOLDER").help(
+    let folder = positional(
+        alloc,
+        "folder",
+        "FOLDER",
         "Where the texts of the programs lie; the current folder where it isn't given",
     );
     Ok(
@@ -67,20 +71,12 @@ fn command<'a>(alloc: Global) -> Result<Command<'a>, Error> {
     )
 }
 
-// Runs the program with the words of its command line. If a word isn't UTF-8, the status is `Bad`.
-fn run<E: Write>(rt: &HostRuntime, err: &mut E) -> anyhow::Result<Status> {
-    match words(rt, err)? {
-        Some(words) => obey(rt, err, words),
-        None => Ok(Status::Bad),
-    }
-}
-
 // Runs the worked programs in the folder that the command line names, or in the current folder.
 // Returns the status of the last program that was run. If the command line doesn't match, nothing
 // is run, and the status is that of `parse`, which has printed why. Returns an error if reading,
 // printing or an allocation fails.
-fn obey<E: Write>(rt: &HostRuntime, err: &mut E, words: Vec<String>) -> anyhow::Result<Status> {
-    let matches = match parse(rt, command(rt.alloc())?, &words)? {
+fn obey<E: Write>(rt: &HostRuntime, err: &mut E, words: &[String]) -> anyhow::Result<Status> {
+    let matches = match parse(rt, command(rt.alloc())?, words)? {
         Ok(matches) => matches,
         Err(status) => return Ok(status),
     };
@@ -134,7 +130,5 @@ fn show<R: Files + AllocGlobal, W: Write, E: Write>(
 }
 
 fn main(rt: HostRuntime) -> ExitCode {
-    let mut err = rt.stderr();
-    let ended = run(&rt, &mut err);
-    exit_code(&mut err, ended)
+    run_main(&rt, &mut rt.stderr(), |err, words| obey(&rt, err, words))
 }

@@ -1,9 +1,9 @@
 //! A program that replays lists of events, with their emissions and final slots.
 #![tactic(auto)]
 
-use clap::{Command, Error};
+use clap::Command;
 use fc_cli::Status;
-use fc_cli::command_line::{VERSION, exit_code, parse, words};
+use fc_cli::command_line::{VERSION, parse, run_main};
 use fc_replay::replay::replay;
 use std::alloc::Global;
 use std::io;
@@ -39,23 +39,15 @@ fn command<'a>(alloc: Global) -> Command<'a> {
         .after_help(EVENTS)
 }
 
-// Runs the program with the words of its command line. If a word isn't UTF-8, the status is `Bad`.
-fn run<R: Runtime + AllocGlobal, E: Write>(rt: &R, err: &mut E) -> anyhow::Result<Status> {
-    match words(rt, err)? {
-        Some(words) => obey(rt, err, words),
-        None => Ok(Status::Bad),
-    }
-}
-
 // Replays standard input to standard output, and returns the status. If the command line doesn't
 // match or asks for help, nothing is replayed, and the status is that of `parse`.
 fn obey<R: Runtime + AllocGlobal, E: Write>(
     rt: &R,
     err: &mut E,
-    words: Vec<String>,
+    words: &[String],
 ) -> anyhow::Result<Status> {
     let alloc = rt.alloc();
-    if let Err(status) = parse(rt, command(alloc), &words)? {
+    if let Err(status) = parse(rt, command(alloc), words)? {
         return Ok(status);
     }
     let mut input = BufReader::new(alloc, rt.reader())?;
@@ -64,7 +56,5 @@ fn obey<R: Runtime + AllocGlobal, E: Write>(
 }
 
 fn main(rt: HostRuntime) -> ExitCode {
-    let mut err = rt.stderr();
-    let ended = run(&rt, &mut err);
-    exit_code(&mut err, ended)
+    run_main(&rt, &mut rt.stderr(), |err, words| obey(&rt, err, words))
 }

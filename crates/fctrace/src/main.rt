@@ -27,9 +27,10 @@ mod traffic;
 
 use crate::comparison::{Outcome, outcome_of};
 use crate::traced_pool::run_traced;
-use clap::{Arg, Command, Error};
+use clap::{Command, Error};
 use fc_cli::Status;
-use fc_cli::command_line::{VERSION, exit_code, parse, words};
+use fc_cli::argument::positional;
+use fc_cli::command_line::{VERSION, parse, run_main};
 use fc_workers::Offload;
 use std::alloc::Global;
 use std::io;
@@ -82,7 +83,10 @@ static EVENTS: [&str; 18] = [
 
 // Returns the description of the program's command line, for `parse`.
 fn command<'a>(alloc: Global) -> Result<Command<'a>, Error> {
-    let requests = Arg::new(alloc, "requests").value_name("REQUESTS").help(
+    let requests = positional(
+        alloc,
+        "requests",
+        "REQUESTS",
         "The number of requests in each trial, 2000 if it isn't given",
     );
     Ok(
@@ -93,24 +97,13 @@ fn command<'a>(alloc: Global) -> Result<Command<'a>, Error> {
     )
 }
 
-// Runs the program with the words of its command line. If a word isn't UTF-8, the status is `Bad`.
-fn run<R: Runtime + AllocGlobal + Threads + Wait + Clock + Sync, E: Write>(
-    rt: &R,
-    err: &mut E,
-) -> anyhow::Result<Status> {
-    match words(rt, err)? {
-        Some(words) => obey(rt, err, words),
-        None => Ok(Status::Bad),
-    }
-}
-
 // Runs each trial with the number of requests that the command line gives.
 fn obey<R: Runtime + AllocGlobal + Threads + Wait + Clock + Sync, E: Write>(
     rt: &R,
     err: &mut E,
-    words: Vec<String>,
+    words: &[String],
 ) -> anyhow::Result<Status> {
-    match requests_of(rt, err, &words)? {
+    match requests_of(rt, err, words)? {
         Ok(requests) => try_all(rt, err, requests),
         Err(status) => Ok(status),
     }
@@ -201,7 +194,5 @@ fn tell_counts<E: Write>(err: &mut E, name: &str, outcome: &Outcome) -> io::Resu
 }
 
 fn main(rt: HostRuntime) -> ExitCode {
-    let mut err = rt.stderr();
-    let ended = run(&rt, &mut err);
-    exit_code(&mut err, ended)
+    run_main(&rt, &mut rt.stderr(), |err, words| obey(&rt, err, words))
 }

@@ -23,9 +23,10 @@ mod running;
 mod stage;
 
 use case::{CaseError, lines_of};
-use clap::{Arg, ArgAction, Command, Error};
+use clap::{ArgAction, Command, Error};
 use fc_cli::Status;
-use fc_cli::command_line::{VERSION, exit_code, parse, words};
+use fc_cli::argument::positional;
+use fc_cli::command_line::{VERSION, parse, run_main};
 use files::{all_paths, suite_of};
 use running::{Difference, check_case};
 use std::alloc::Global;
@@ -38,10 +39,13 @@ use std::{fs, io};
 
 // Returns the description of the program's command line, for `parse`.
 fn command<'a>(alloc: Global) -> Result<Command<'a>, Error> {
-    let cases = Arg::new(alloc, "case")
-        .value_name("CASE")
-        .action(ArgAction::Append)
-        .help("The files of cases; those in play, events and asm where none is given");
+    let cases = positional(
+        alloc,
+        "case",
+        "CASE",
+        "The files of cases; those in play, events and asm where none is given",
+    )
+    .action(ArgAction::Append);
     Ok(
         Command::new(alloc, "fcvectors")
             .version(VERSION)
@@ -50,26 +54,15 @@ fn command<'a>(alloc: Global) -> Result<Command<'a>, Error> {
     )
 }
 
-// Runs the program with the words of its command line. If a word isn't UTF-8, the status is `Bad`.
-fn run<R: Runtime + AllocGlobal + Threads + Wait + Sync, E: Write>(
-    rt: &R,
-    err: &mut E,
-) -> anyhow::Result<Status> {
-    match words(rt, err)? {
-        Some(words) => obey(rt, err, words),
-        None => Ok(Status::Bad),
-    }
-}
-
 // Executes the cases that the command line names, or all cases if it names none. Returns the status
 // of `check_files`. If the command line doesn't match, nothing is executed, and the status is that
 // of `parse`, which has printed why.
 fn obey<R: Runtime + AllocGlobal + Threads + Wait + Sync, E: Write>(
     rt: &R,
     err: &mut E,
-    words: Vec<String>,
+    words: &[String],
 ) -> anyhow::Result<Status> {
-    let matches = match parse(rt, command(rt.alloc())?, &words)? {
+    let matches = match parse(rt, command(rt.alloc())?, words)? {
         Ok(matches) => matches,
         Err(status) => return Ok(status),
     };
@@ -189,7 +182,5 @@ fn explain<E: Write>(err: &mut E, name: &str, error: &CaseError) -> anyhow::Resu
 }
 
 fn main(rt: HostRuntime) -> ExitCode {
-    let mut err = rt.stderr();
-    let ended = run(&rt, &mut err);
-    exit_code(&mut err, ended)
+    run_main(&rt, &mut rt.stderr(), |err, words| obey(&rt, err, words))
 }
