@@ -3,7 +3,7 @@
 
 use clap::ArgMatches;
 use fc_cli::Status;
-use fc_cli::command_line::{exit_code, parse, words};
+use fc_cli::command_line::{parse, run_main};
 use fc_cli::message_id::random_id;
 use fc_core::Policy;
 use fc_host::sensors::{FileSensors, NoSensors};
@@ -54,18 +54,6 @@ enum BadStore {
     Start(StartError),
 }
 
-// Runs the command of the command line, and returns its status, or `Bad` if a word isn't UTF-8.
-fn run<R: Runtime + AllocGlobal + Threads + Wait + Net + RandomSource + Sync, E: Write>(
-    rt: &R,
-    files: &HostRuntime,
-    err: &mut E,
-) -> anyhow::Result<Status> {
-    match words(rt, err)? {
-        Some(words) => obey(rt, files, err, words),
-        None => Ok(Status::Bad),
-    }
-}
-
 // Runs the command that the words name, and returns its status. If the words don't match, the
 // status is that of `parse`. `files` is the same runtime as `rt`: several threads read files with
 // it, which is proved for `HostRuntime` only.
@@ -73,9 +61,9 @@ fn obey<R: Runtime + AllocGlobal + Threads + Wait + Net + RandomSource + Sync, E
     rt: &R,
     files: &HostRuntime,
     err: &mut E,
-    words: Vec<String>,
+    words: &[String],
 ) -> anyhow::Result<Status> {
-    let matches = match parse(rt, command(rt.alloc())?, &words)? {
+    let matches = match parse(rt, command(rt.alloc())?, words)? {
         Ok(matches) => matches,
         Err(status) => return Ok(status),
     };
@@ -304,7 +292,9 @@ fn tell_bad_timer<E: Write>(err: &mut E, bad: &BadTimer) -> anyhow::Result<Statu
 }
 
 fn main(rt: HostRuntime) -> ExitCode {
-    let mut err = rt.stderr();
-    let ended = run(&rt, &rt, &mut err);
-    exit_code(&mut err, ended)
+    run_main(
+        &rt,
+        &mut rt.stderr(),
+        |err, words| obey(&rt, &rt, err, words),
+    )
 }
