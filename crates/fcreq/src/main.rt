@@ -1,9 +1,10 @@
 //! The client's `main`, which parses the command line and runs its operation.
 #![tactic(auto)]
 
-use clap::{Arg, ArgAction, Command, Error, value_parser};
+use clap::{Arg, Command, Error, value_parser};
 use fc_cli::Status;
-use fc_cli::command_line::{VERSION, exit_code, parse, words};
+use fc_cli::argument::{flag, option, positional};
+use fc_cli::command_line::{VERSION, parse, run_main};
 use fc_fetch::asking::ask_by;
 use fc_fetch::operation::{OBSERVE, Operation, PING, operation_of};
 use fc_fetch::ping::ping;
@@ -57,12 +58,18 @@ const NULL: &str = "/dev/null";
 
 // Defines the command line. `operation_of` reads its options by the names given here.
 fn command<'a>(alloc: Global) -> Result<Command<'a>, Error> {
-    let method = Arg::new(alloc, "method")
-        .value_name("METHOD")
-        .required(true)
-        .value_parser(["get", "post", "put", "delete", OBSERVE, PING].as_slice())
-        .help("What is asked; or `observe`, for a GET and the changes behind it; or `ping`");
-    let target = Arg::new(alloc, "target").value_name("TARGET").help(
+    let method = positional(
+        alloc,
+        "method",
+        "METHOD",
+        "What is asked; or `observe`, for a GET and the changes behind it; or `ping`",
+    )
+    .required(true)
+    .value_parser(["get", "post", "put", "delete", OBSERVE, PING].as_slice());
+    let target = positional(
+        alloc,
+        "target",
+        "TARGET",
         "Of which resource: /r/1, or coap://127.0.0.1:5683/r/1; `ping` needs none",
     );
     Ok(
@@ -83,28 +90,28 @@ fn command<'a>(alloc: Global) -> Result<Command<'a>, Error> {
                 "Print the answer's bytes as text, where they are text",
             ))?
             .arg(flag(alloc, "no-body", "Send no body, and read nothing").short('n'))?
-            .arg(value(alloc, "body", 'e', "TEXT", "Send this text as the body"))?
-            .arg(value(
+            .arg(option(alloc, "body", "TEXT", "Send this text as the body").short('e'))?
+            .arg(option(
                 alloc,
                 "file",
-                'f',
                 "FILE",
                 "Read the request's body from this file",
-            ))?
-            .arg(value(
+            )
+            .short('f'))?
+            .arg(option(
                 alloc,
                 "format",
-                't',
                 "FORMAT",
                 "The body's Content-Format: a number, or a name as text/plain",
-            ))?
-            .arg(value(
+            )
+            .short('t'))?
+            .arg(option(
                 alloc,
                 "output",
-                'o',
                 "FILE",
                 "Write the bytes of a success to this file, and print its code alone",
-            ))?
+            )
+            .short('o'))?
             .arg(limit(
                 alloc,
                 "count",
@@ -124,60 +131,18 @@ fn command<'a>(alloc: Global) -> Result<Command<'a>, Error> {
 
 // Defines the option `--port`.
 fn port<'a>(alloc: Global) -> Arg<'a> {
-    Arg::new(alloc, "port")
-        .long("port")
-        .value_name("P")
-        .value_parser(value_parser!(u16).range(1..))
-        .help("The port of the server at 127.0.0.1, 1 to 65535: with a path")
-}
-
-// Defines an option with a value, whose long form is `name`.
-fn value<'a>(
-    alloc: Global,
-    name: &'static str,
-    short: char,
-    value: &'static str,
-    help: &'static str,
-) -> Arg<'a> {
-    Arg::new(alloc, name)
-        .short(short)
-        .long(name)
-        .value_name(value)
-        .help(help)
+    option(
+        alloc,
+        "port",
+        "P",
+        "The port of the server at 127.0.0.1, 1 to 65535: with a path",
+    )
+    .value_parser(value_parser!(u16).range(1..))
 }
 
 // Defines a limit of an observation, of at least 1.
-fn limit<'a>(
-    alloc: Global,
-    name: &'static str,
-    value: &'static str,
-    help: &'static str,
-) -> Arg<'a> {
-    Arg::new(alloc, name)
-        .long(name)
-        .value_name(value)
-        .value_parser(value_parser!(u32).range(1..))
-        .help(help)
-}
-
-// Defines an option without a value.
-fn flag<'a>(alloc: Global, name: &'static str, help: &'static str) -> Arg<'a> {
-    Arg::new(alloc, name)
-        .long(name)
-        .action(ArgAction::SetTrue)
-        .help(help)
-}
-
-// Runs the operation of the command line, and returns its status, or `Bad` if a word isn't UTF-8.
-fn run<R: Runtime + AllocGlobal + Net + RandomSource, E: Write>(
-    rt: &R,
-    err: &mut E,
-    terminal: bool,
-) -> anyhow::Result<Status> {
-    match words(rt, err)? {
-        Some(words) => obey(rt, err, terminal, words),
-        None => Ok(Status::Bad),
-    }
+fn limit<'a>(alloc: Global, name: &'a str, value: &'a str, help: &'a str) -> Arg<'a> {
+    option(alloc, name, value, help).value_parser(value_parser!(u32).range(1..))
 }
 
 // Runs the operation that the words name, and returns its status. `terminal` says whether standard
@@ -187,9 +152,9 @@ fn obey<R: Runtime + AllocGlobal + Net + RandomSource, E: Write>(
     rt: &R,
     err: &mut E,
     terminal: bool,
-    words: Vec<String>,
+    words: &[String],
 ) -> anyhow::Result<Status> {
-    let matches = match parse(rt, command(rt.alloc())?, &words)? {
+    let matches = match parse(rt, command(rt.alloc())?, words)? {
         Ok(matches) => matches,
         Err(status) => return Ok(status),
     };
@@ -233,8 +198,10 @@ fn observe_by<R: Runtime + AllocGlobal + Net + RandomSource, E: Write>(
 }
 
 fn main(rt: HostRuntime) -> ExitCode {
-    let mut err = rt.stderr();
     let terminal = rt.stdin().is_terminal();
-    let ended = run(&rt, &mut err, terminal);
-    exit_code(&mut err, ended)
+    run_main(
+        &rt,
+        &mut rt.stderr(),
+        |err, words| obey(&rt, err, terminal, words),
+    )
 }
