@@ -34,7 +34,7 @@ abbrev pub MayReturn : {Writer Words E : Type 0}
 MayReturn {Writer} {Words} post status =
     (before : Writer) × (words : Words) × (after : Writer) × post before words (Ok status) after
 
--- the exit status of a program is that of a status which `Works` allows, or 2 or 3 for an early end.
+-- the exit status of a program: that of a status which `Works` allows, or 2 or 3 for an early end.
 abbrev pub Ends : (Status → Type 0) → ℕ → Type 0
 Ends Works code =
     (status : Status) × ((status ≡ Bad) ⊎ (status ≡ Failed) ⊎ Works status)
