@@ -1,5 +1,5 @@
 -- A fetch, reply by reply.
-use Rattle.std.proofs.Common.{◌≡◌, ℕ, ◌+◌, ◌%◌, ◌<◌, ◌≤◌, List, [], ◌∷◌, length, take, Option, Some, IfSome, Ok, refl, sym, ◌∙◌, ap, subst, arith}
+use Rattle.std.proofs.Common.{◌≡◌, ℕ, ◌+◌, ◌%◌, ◌<◌, ◌≤◌, List, [], ◌∷◌, length, Option, Some, Ok, refl, sym, ◌∙◌, ap, subst, arith}
 use Rattle.coap_msg.specs.Wire.{Message, message_bytes}
 use Rattle.coap_msg.specs.Reading.{reading_of}
 use Rattle.coap_opts.specs.declared.request.Method.TheVariants.{Get}
@@ -9,12 +9,12 @@ use Rattle.coap_client.specs.declared.fetcher.Step.{Step}
 use Rattle.coap_client.specs.declared.transmission.SentRequest.{SentRequest}
 use Rattle.coap_client.specs.declared.part.Part.{Part}
 use Rattle.coap_client.specs.Parts.{first_part}
-use Rattle.coap_client.specs.PeerCalls.{PeerCall, received_bytes}
+use Rattle.coap_client.specs.PeerCalls.{PeerCall}
 use Rattle.coap_client.specs.Requests.{IsPartOf, part_request}
-use Rattle.coap_client.specs.Handled.{HasTakenResponse, IsTakenResponse, Tells, TellsSent}
-use Rattle.coap_client.specs.Transmissions.{IsTransmission, MakesCalls}
+use Rattle.coap_client.specs.Handled.{IsTakenResponse, Tells, TellsSent}
+use Rattle.coap_client.specs.Transmissions.{IsTransmissionWith, IsAnsweredTransmission, IsTransmission, MakesCalls}
 use Rattle.coap_client.specs.Fetching.{State, Out, Outdated, AnswersInState, AreReplies, ArePartRequests, IsAnswerToPart, IsStepOf, IsFetching, RepliesLeadTo, RepliesLeadToAgain, after_reply, state_after, taken_ids, with_taken_id}
-use Rattle.coap_client.proofs.Transmitting.{both, does_both, does_nothing, some_of}
+use Rattle.coap_client.proofs.Transmitting.{both, does_both, does_nothing}
 
 -- the request of a part was transmitted, and the message is the response to it.
 pub record IsExchanged (went came : List ℕ → Type 0) (between after : List PeerCall → Type 0) (e : ClientRequest) (id : ℕ) (earlier : List ℕ) (part : Part) (m : Message) : Type 0 where
@@ -24,22 +24,19 @@ pub record IsExchanged (went came : List ℕ → Type 0) (between after : List P
   pub read_is : reading_of bytes ≡ Ok m
   pub called : MakesCalls between after (IsTransmission e.confirmable (Tells e.confirmable id earlier) (message_bytes (part_request e part id)) (Some bytes))
 
--- if a response to a sent request arrived, and that request is the one for a part, the response is
--- one to the request for the part.
+-- the response to a sent request, if that request is the one for a part, is one to the request for
+-- the part.
 answers_part : (went came : List ℕ → Type 0) (e : ClientRequest) (part : Part) (id : ℕ) (earlier : List ℕ) (r : SentRequest) (bytes : List ℕ) (m : Message) →
-    HasTakenResponse went came r bytes → reading_of bytes ≡ Ok m →
+    IsTakenResponse went came r.confirmable r.id r.earlier.now r.datagram.now.items bytes m →
     r.confirmable ≡ e.confirmable → r.id ≡ id → r.earlier.now ≡ earlier → r.datagram.now.items ≡ message_bytes (part_request e part id) →
     IsAnswerToPart went came e id earlier part m
-answers_part went came e part id earlier r bytes m a read c i k d =
-    let same : a.message ≡ m = cc (a.is.asked.read_is, read) in
-    record {
-      bytes = bytes;
-      is = subst (λ x. IsTakenResponse went came e.confirmable id earlier (message_bytes (part_request e part id)) bytes x) same
-          (subst (λ x. IsTakenResponse went came e.confirmable id earlier x bytes a.message) d
-          (subst (λ x. IsTakenResponse went came e.confirmable id x r.datagram.now.items bytes a.message) k
-          (subst (λ x. IsTakenResponse went came e.confirmable x r.earlier.now r.datagram.now.items bytes a.message) i
-          (subst (λ x. IsTakenResponse went came x r.id r.earlier.now r.datagram.now.items bytes a.message) c a.is))));
-    }
+answers_part went came e part id earlier r bytes m a c i k d = record {
+  bytes = bytes;
+  is = subst (λ x. IsTakenResponse went came e.confirmable id earlier x bytes m) d
+      (subst (λ x. IsTakenResponse went came e.confirmable id x r.datagram.now.items bytes m) k
+      (subst (λ x. IsTakenResponse went came e.confirmable x r.earlier.now r.datagram.now.items bytes m) i
+      (subst (λ x. IsTakenResponse went came x r.id r.earlier.now r.datagram.now.items bytes m) c a)));
+}
 
 -- if a request was transmitted, and it is the one for a part, the request for the part was
 -- transmitted.
@@ -53,20 +50,18 @@ transmits_part between after e part id earlier r answer called c i k d =
     (subst (λ x. MakesCalls between after (IsTransmission e.confirmable (Tells e.confirmable x r.earlier.now) r.datagram.now.items (Some answer))) i
     (subst (λ x. MakesCalls between after (IsTransmission x (Tells x r.id r.earlier.now) r.datagram.now.items (Some answer))) c called)))
 
-pub exchanged : (went came : List ℕ → Type 0) (between after : List PeerCall → Type 0) (e : ClientRequest) (part : Part) (id : ℕ) (earlier : List ℕ) (r : SentRequest) (count : ℕ) (buffer : List ℕ)
-    (o : Option ℕ) (m : Message) → o ≡ Some count → IfSome o (λ n. (n ≤ length buffer) × HasTakenResponse went came r (take n buffer)) →
-    MakesCalls between after (IsTransmission r.confirmable (TellsSent r) r.datagram.now.items (received_bytes buffer o)) → reading_of (take count buffer) ≡ Ok m → IsPartOf e part →
+pub exchanged : (went came : List ℕ → Type 0) (between after : List PeerCall → Type 0) (e : ClientRequest) (part : Part) (id : ℕ) (earlier : List ℕ) (r : SentRequest) (m : Message) (o : Option Message) →
+    o ≡ Some m → IsTransmissionWith went came (MakesCalls between after) r o → IsPartOf e part →
     r.confirmable ≡ e.confirmable → r.id ≡ id → r.earlier.now ≡ earlier → r.datagram.now.items ≡ message_bytes (part_request e part id) →
     IsExchanged went came between after e id earlier part m
-exchanged went came between after e part id earlier r count buffer o m some response called read own c i k d =
-    let taken = some_of o count (λ n. (n ≤ length buffer) × HasTakenResponse went came r (take n buffer)) some response in
+exchanged went came between after e part id earlier r m o some asked own c i k d =
+    let a : IsAnsweredTransmission went came (MakesCalls between after) r m = subst (IsTransmissionWith went came (MakesCalls between after) r) some asked in
     record {
-      answers = answers_part went came e part id earlier r (take count buffer) m taken.1 read c i k d;
+      answers = answers_part went came e part id earlier r a.bytes m a.is c i k d;
       own = own;
-      bytes = take count buffer;
-      read_is = read;
-      called = transmits_part between after e part id earlier r (take count buffer)
-          (subst (λ x. MakesCalls between after (IsTransmission r.confirmable (TellsSent r) r.datagram.now.items (received_bytes buffer x))) some called) c i k d;
+      bytes = a.bytes;
+      read_is = a.is.asked.read_is;
+      called = transmits_part between after e part id earlier r a.bytes a.called c i k d;
     }
 
 pub begins : (went came : List ℕ → Type 0) (now : List PeerCall → Type 0) (e : ClientRequest) (first : ℕ) (known : List ℕ) (part : Part) (body etag : List ℕ) →

@@ -1,13 +1,17 @@
 -- The calls on a peer, one after the other.
-use Rattle.std.proofs.Common.{◌≡◌, ℕ, suc, IfOk, IfSome, Result, Ok, Err, ◌+◌, ◌<◌, ◌≤◌, ◌^◌, inl, inr, Bool, true, false, List, [], ◌∷◌, ◌++◌, Option, Some, None, refl, sym, ◌∙◌, ap, subst, append_assoc, take, add-one}
+use Rattle.std.proofs.Common.{◌≡◌, ℕ, suc, IfOk, IfSome, Result, Ok, Err, ◌+◌, ◌<◌, ◌≤◌, ◌^◌, inl, inr, Bool, true, false, List, [], ◌∷◌, ◌++◌, length, Option, Some, None, refl, sym, ◌∙◌, ap, subst, append_assoc, take, add-one}
+use Rattle.coap_msg.specs.Reading.{reading_of}
+use Rattle.coap_msg.specs.Wire.{Message, message_bytes}
+use Rattle.coap_msg.specs.declared.types.MessageType.TheVariants.{Confirmable}
 use Rattle.coap_client.specs.declared.fetcher.FetchFault.{FetchFault}
 use Rattle.coap_client.specs.declared.transmission.ReplyClass.{ReplyClass}
 use Rattle.coap_client.specs.declared.transmission.ReplyClass.TheVariants.{Reply, Separate, Repeat, Acknowledged, Rejected, Other}
 use Rattle.coap_client.specs.declared.transmission.SentRequest.{SentRequest}
-use Rattle.coap_client.specs.Handled.{IsAwaitedAnswer, TellsSent}
-use Rattle.coap_client.specs.Listening.{ArePassedOver, EndsOn, IsAcknowledgedBy, IsAnsweredBy, IsOver, IsPassedOver, acknowledges, is_answering, is_passed_over, sent_behind}
+use Rattle.coap_client.specs.Handled.{HasResponse, IsAwaitedAnswer, IsResponseTo, TellsSent}
+use Rattle.coap_client.specs.Listening.{ArePassedOver, EndsOn, IsAcknowledgedBy, IsAnsweredBy, IsOver, IsPassedOver, acknowledges, acknowledges_kind, acknowledges_read, is_answering, is_passed_over, sent_behind}
 use Rattle.coap_client.specs.PeerCalls.{Adds, PeerCall, Sends, Waits, Receives, received_bytes, receives_in}
-use Rattle.coap_client.specs.Transmissions.{ack_timeout, most_sendings, non_wait, separate_wait, AreBehind, AreInVain, MakesCalls, IsAcknowledgedFirst, EndsAnswered, IsTransmitted, IsAskedAgain, EndsAwaited, IsLastSending, IsSending, IsTransmission}
+use Rattle.coap_client.specs.Requests.{acknowledgement}
+use Rattle.coap_client.specs.Transmissions.{ack_timeout, most_sendings, non_wait, separate_wait, AreBehind, AreInVain, MakesCalls, IsAcknowledgedFirst, EndsAnswered, IsTransmitted, IsAskedAgain, EndsAwaited, IsLastSending, IsSending, IsAnsweredTransmission, IsTransmission}
 
 abbrev pub Calls : Type 1
 Calls = List PeerCall → Type 0
@@ -272,3 +276,24 @@ both before between after P Q one other =
 
 pub some_of : {A : Type 0} (o : Option A) (n : A) (P : A → Type 0) → o ≡ Some n → IfSome o P → P n
 some_of {A} o n P some h = subst (λ (x : Option A). IfSome x P) some h
+
+-- if the response that arrived is acknowledged, the request was transmitted, and this is the
+-- response to it.
+pub asked_for : (went came : List ℕ → Type 0) (before between after : Calls) (r : SentRequest) (count : ℕ) (buffer : List ℕ) (o : Option ℕ) (m : Message) → o ≡ Some count
+    → IfSome o (λ n. (n ≤ length buffer) × HasResponse went came r (take n buffer))
+    → MakesCalls before between (IsTransmitted r.confirmable (TellsSent r) r.datagram.now.items (received_bytes buffer o)) → reading_of (take count buffer) ≡ Ok m
+    → (m.kind ≡ Confirmable → went (message_bytes (acknowledgement m.id))) → Adds between after (acknowledges_kind m.kind m.id) → IsAnsweredTransmission went came (MakesCalls before after) r m
+asked_for went came before between after r count buffer o m some response called read acknowledged adds =
+    let bytes = take count buffer in
+    let own = some_of o count (λ n. (n ≤ length buffer) × HasResponse went came r (take n buffer)) some response in
+    let same : own.1.message ≡ m = cc (own.1.is.read_is, read) in
+    record {
+      bytes = bytes;
+      is = record {
+        asked = subst (IsResponseTo went came r.confirmable r.id r.earlier.now r.datagram.now.items bytes) same own.1.is;
+        acknowledged = acknowledged;
+      };
+      called = transmitted r.confirmable (TellsSent r) r.datagram.now.items bytes before between after
+          (subst (λ x. MakesCalls before between (IsTransmitted r.confirmable (TellsSent r) r.datagram.now.items (received_bytes buffer x))) some called)
+          (subst (λ x. Adds between after (acknowledges_read x)) (sym read) adds);
+    }

@@ -49,15 +49,10 @@ pub record IsTakenResponse (went came : List ℕ → Type 0) (confirmable : Bool
   pub asked : IsResponseTo went came confirmable id earlier request bytes m
   pub acknowledged : m.kind ≡ Confirmable → went (message_bytes (acknowledgement m.id))
 
--- the bytes encode a response to the request. `HasTakenResponse` also says that the response was
--- acknowledged if it is confirmable.
+-- the bytes encode a response to the request.
 pub record HasResponse (went came : List ℕ → Type 0) (r : SentRequest) (bytes : List ℕ) : Type 0 where
   pub message : Message
   pub is : IsResponseTo went came r.confirmable r.id r.earlier.now r.datagram.now.items bytes message
-
-pub record HasTakenResponse (went came : List ℕ → Type 0) (r : SentRequest) (bytes : List ℕ) : Type 0 where
-  pub message : Message
-  pub is : IsTakenResponse went came r.confirmable r.id r.earlier.now r.datagram.now.items bytes message
 
 -- the message is a separate response; `before` says whether its ID is one of the `earlier` IDs.
 pub record IsSeparateAmong (earlier : List ℕ) (before : Bool) (m : Message) : Type 0 where

@@ -1,7 +1,10 @@
 -- The transmissions of a request, and the waits for its response (RFC 7252, section 4.2). In a list
 -- of calls, the newest is first.
 use Rattle.std.specs.Prelude.{◌≡◌, ℕ, zero, suc, ◌+◌, ◌<◌, ◌^◌, ◌⊎◌, Bool, true, false, List, [], ◌∷◌, ◌++◌, Option, Some, None}
+use Rattle.coap_msg.specs.Wire.{Message}
 use Rattle.coap_client.specs.declared.transmission.ReplyClass.{ReplyClass}
+use Rattle.coap_client.specs.declared.transmission.SentRequest.{SentRequest}
+use Rattle.coap_client.specs.Handled.{IsTakenResponse, TellsSent}
 use Rattle.coap_client.specs.Listening.{IsAcknowledgedBy, IsAnsweredBy, IsOver, IsPassedOver, acknowledges}
 use Rattle.coap_client.specs.PeerCalls.{PeerCall, Sends, Waits}
 
@@ -114,3 +117,15 @@ pub record IsTransmission (confirmable : Bool) (tells : List ℕ → ReplyClass 
   pub asked : List PeerCall
   pub is_asked : IsTransmitted confirmable tells request answer asked
   pub is : calls ≡ acknowledges_answer answer ++ asked
+
+-- the request was transmitted, and the message is the response to it, which was acknowledged if it
+-- is confirmable. `Makes` says that calls with a property are made.
+pub record IsAnsweredTransmission (went came : List ℕ → Type 0) (Makes : (List PeerCall → Type 0) → Type 0) (r : SentRequest) (m : Message) : Type 0 where
+  pub bytes : List ℕ
+  pub is : IsTakenResponse went came r.confirmable r.id r.earlier.now r.datagram.now.items bytes m
+  pub called : Makes (IsTransmission r.confirmable (TellsSent r) r.datagram.now.items (Some bytes))
+
+-- the request was transmitted, and this response arrived, if any.
+abbrev pub IsTransmissionWith : (List ℕ → Type 0) → (List ℕ → Type 0) → ((List PeerCall → Type 0) → Type 0) → SentRequest → Option Message → Type 0
+IsTransmissionWith went came Makes r None = Makes (IsTransmission r.confirmable (TellsSent r) r.datagram.now.items None)
+IsTransmissionWith went came Makes r (Some m) = IsAnsweredTransmission went came Makes r m

@@ -13,7 +13,7 @@ use crate::part::Part;
 use crate::peer::{BUFFER, Peer};
 use crate::reply::{Next, begins_exchange, etag_of, next_of};
 use crate::transmission::{SentRequest, ask};
-use coap_msg::{Code, Datagram, Message, read};
+use coap_msg::{Code, Datagram, Message};
 use coap_opts::Method;
 use std::alloc::{AllocError, Global};
 use std::io;
@@ -169,11 +169,8 @@ fn fetch_once<P: Peer>(
     for answered in 0..REQUESTS {
         client_request.write(alloc, fetch_state.part, fetch_state.id, &mut datagram)?;
         let request = fetch_state.request(client_request.confirmable, &datagram);
-        let Some(count) = ask(peer, &request, &mut buffer)? else {
+        let Some(message) = ask(peer, &request, &mut buffer)? else {
             return Err(FetchFault::Silence);
-        };
-        let Ok(message) = read(&buffer[..count]) else {
-            unreachable!();
         };
         let step = fetch_state.handle(client_request, &message)?;
         match step {

@@ -7,11 +7,11 @@ ghost use Rattle.coap_msg.specs.Reading.{reading_of};
 ghost use Rattle.coap_msg.specs.Wire as wire;
 ghost use Rattle.coap_msg.specs.declared.types.MessageType.TheVariants.{Confirmable};
 ghost use Rattle.coap_client.specs.Faults.{IsOfPeer, IsRejectedBy, IsRejection};
-ghost use Rattle.coap_client.specs.Handled.{AcknowledgesRepeat, Listens, HasTakenResponse, HasResponse, IsAwaitedAnswer, IsHandledAs, TellsSent};
-ghost use Rattle.coap_client.specs.Listening.{IsHandled, acknowledges, is_passed_over, sent_behind};
+ghost use Rattle.coap_client.specs.Handled.{AcknowledgesRepeat, Listens, HasResponse, IsAwaitedAnswer, IsHandledAs, TellsSent};
+ghost use Rattle.coap_client.specs.Listening.{IsHandled, acknowledges, acknowledges_kind, is_passed_over, sent_behind};
 ghost use Rattle.coap_client.specs.PeerCalls.{Adds, Sends, Waits, received_bytes};
 ghost use Rattle.coap_client.specs.Replies.{is_taken};
-ghost use Rattle.coap_client.specs.Transmissions.{ack_timeout, most_sendings, non_wait, MakesCalls, IsTransmitted, IsAskedAgain, EndsAwaited, IsSending, IsTransmission};
+ghost use Rattle.coap_client.specs.Transmissions.{ack_timeout, most_sendings, non_wait, MakesCalls, IsTransmissionWith, IsTransmitted, IsAskedAgain, EndsAwaited, IsSending};
 ghost use Rattle.coap_client.specs.Requests.{acknowledgement};
 
 use crate::fetcher::FetchFault;
@@ -86,31 +86,31 @@ pub(crate) fn ack_timeout(sendings: u32) -> u64
     ACK_TIMEOUT << sendings
 }
 
-/// Sends a request of a fetch, and returns the length of the response in bytes.
+/// Sends a request of a fetch, and returns the response.
 ///
 /// Retransmits a confirmable request if no response and no acknowledgement arrives in time. The
-/// response is written to the start of `buffer`. A confirmable response is acknowledged. Returns
-/// `None` if no response arrives until the last wait is over.
+/// response is borrowed from `buffer`. A confirmable response is acknowledged. Returns `None` if no
+/// response arrives until the last wait is over.
 ///
 /// # Errors
 /// Returns an error if the request is rejected, or if sending or receiving fails.
-pub fn ask<P: Peer>(
+pub fn ask<'b, P: Peer>(
     peer: &mut P,
     request: &SentRequest<'_>,
-    buffer: &mut Buffer,
-) -> Result<Option<usize>, FetchFault>
-    ensures response { IfOk result (λ r. IfSome r (λ count. (count ≤ length buffer.new)
-        × HasTakenResponse P.went P.came request.now (take count buffer.new))) }
-    ensures called { IfOk result (λ r. MakesCalls (P.called peer.old) (P.called peer.new)
-        (IsTransmission request.now.confirmable (TellsSent request.now) request.now.datagram.now.items (received_bytes buffer.new r))) }
+    buffer: &'b mut Buffer,
+) -> Result<Option<Message<'b>>, FetchFault>
+    ensures asked { IfOk result (IsTransmissionWith P.went P.came (MakesCalls (P.called peer.old) (P.called peer.new)) request.now) }
     ensures fault { IfErr result (IsOfPeer P.is_error (MakesCalls (P.called peer.old) (P.called peer.new)
         (IsRejection request.now.confirmable (TellsSent request.now) request.now.datagram.now.items))) }
 {
     let Some(count) = transmit(peer, request, buffer)? else {
         return Ok(None);
     };
-    acknowledge(peer, &buffer[..count])?;
-    Ok(Some(count))
+    let Ok(message) = read(&buffer[..count]) else {
+        unreachable!();
+    };
+    acknowledge_message(peer, &message)?;
+    Ok(Some(message))
 }
 
 // Sends a confirmable or a non-confirmable request, and waits for the response. Unlike `ask`, it
@@ -264,8 +264,8 @@ pub(crate) fn is_passed_over(awaited: bool, handled: ReplyClass) -> bool
     }
 }
 
-// Classifies a datagram with respect to a request. If it is a confirmable response that was
-// received before, acknowledges the response again (RFC 7252, section 4.2).
+// Classifies a datagram with respect to a request; a datagram that encodes no message is `Other`.
+// Acknowledges a confirmable response that was received before again (RFC 7252, section 4.2).
 fn handle_from<P: Peer>(
     peer: &mut P,
     request: &SentRequest<'_>,
@@ -276,21 +276,14 @@ fn handle_from<P: Peer>(
     ensures called { IfOk result (λ handled. Adds (P.called peer.old) (P.called peer.new) (sent_behind handled bytes.now)) }
     ensures fault { IfErr result (IsOfPeer P.is_error ⊥) }
 {
-    let handled = handle_datagram(request, bytes);
+    let Ok(message) = read(bytes) else {
+        return Ok(ReplyClass::Other);
+    };
+    let handled = handle_message(request, &message);
     if handled == ReplyClass::Repeat {
-        acknowledge(peer, bytes)?;
+        acknowledge_message(peer, &message)?;
     }
     Ok(handled)
-}
-
-// Classifies a datagram with respect to a request. A datagram that encodes no message is `Other`.
-fn handle_datagram(request: &SentRequest<'_>, bytes: &[u8]) -> ReplyClass
-    ensures { TellsSent request.now bytes.now result }
-{
-    match read(bytes) {
-        Ok(message) => handle_message(request, &message),
-        Err(_) => ReplyClass::Other,
-    }
 }
 
 // Classifies a message with respect to a request. A non-confirmable request has no piggybacked
@@ -321,14 +314,24 @@ pub(crate) fn acknowledge<P: Peer>(peer: &mut P, bytes: &[u8]) -> Result<(), Fet
     ensures fault { IfErr result (IsOfPeer P.is_error ⊥) }
 {
     match read(bytes) {
-        Ok(message) if message.kind() == MessageType::Confirmable => {
-            let mut datagram = Datagram::new();
-            write_acknowledgement(message.id(), &mut datagram);
-            peer.send(&datagram)?;
-            Ok(())
-        }
-        Ok(_) | Err(_) => Ok(()),
+        Ok(message) => acknowledge_message(peer, &message),
+        Err(_) => Ok(()),
     }
+}
+
+// Acknowledges a confirmable message (RFC 7252, section 4.2). Sends nothing for any other message.
+fn acknowledge_message<P: Peer>(peer: &mut P, message: &Message<'_>) -> Result<(), FetchFault>
+    ensures went { OnOk result (message.now.kind ≡ Confirmable → P.went (message_bytes (acknowledgement message.now.id))) }
+    ensures called { OnOk result (Adds (P.called peer.old) (P.called peer.new) (acknowledges_kind message.now.kind message.now.id)) }
+    ensures fault { IfErr result (IsOfPeer P.is_error ⊥) }
+{
+    if message.kind() != MessageType::Confirmable {
+        return Ok(());
+    }
+    let mut datagram = Datagram::new();
+    write_acknowledgement(message.id(), &mut datagram);
+    peer.send(&datagram)?;
+    Ok(())
 }
 
 // Replaces `datagram` with the acknowledgement of the message with the ID `id`.
