@@ -1,7 +1,7 @@
 //! Calls of a shard.
 //!
-//! The contract of a call mentions only the shard that is passed to the call. The workers
-//! (`fc_workers`) make these calls under the shard's lock, and `fc_filed` files them.
+//! The contract of a call mentions only the shard that is passed to the call. A server with locks
+//! (`fc_locked`) makes these calls under the shard's lock, and `fc_filed` files them.
 ghost use Rattle.std.specs.Prelude.{◌≡◌, ℕ, ◌+◌, ◌<◌, ⊤, if◌then◌else◌, List, [], ◌∷◌, true, is_some, IfSome};
 ghost use Rattle.fc_verify.specs.Accepted.{Accepts};
 ghost use Rattle.fc_verify.specs.Judged.{judged};

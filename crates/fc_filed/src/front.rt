@@ -117,7 +117,8 @@ impl<J: ServerName> FiledFront<J> {
     /// Handles a datagram at `now` ms, as [`Front::handle`] does, and files that.
     ///
     /// A job that the datagram produces begins no track: the entry is on the track that is first.
-    /// The threads of `fc_workers` use it: all jobs of a thread have one track.
+    /// A server with locks (`fc_locked`) calls it for its threads: all jobs of a thread have one
+    /// track.
     pub fn handle_for_first(
         &mut self,
         book: &ServerBook<J>,

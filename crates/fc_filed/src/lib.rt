@@ -24,7 +24,7 @@
 //! store ([`FiledShard::change`], [`FiledStore`]). So is an update that the store refuses. The
 //! locks of both parts are held until the entry is filed.
 //!
-//! The server of `fc_workers` has its front and its shards under their locks in this form, and its
+//! The server of `fc_locked` has its front and its shards under their locks in this form, and its
 //! head words are those of its book. Each of its jobs has a track of its own. At the end of a pool
 //! the filed calls are one legal history (`run_pool` of `fc_service`).
 //!

@@ -2,8 +2,8 @@
 use Rattle.std.specs.Prelude.{◌≡◌, ℕ, Bool, List, [], ◌∷◌, ◌++◌, take, Option, Some, None, IfSome}
 use Rattle.coap_msg.specs.declared.types.Emission.{Emission}
 use Rattle.coap_msg.specs.declared.types.Endpoint.{Endpoint}
-use Rattle.fc_workers.specs.Called.{WireCall, SendsReply, EndsJob}
-use Rattle.fc_workers.specs.declared.call_log.CallLog.{CallLog}
+use Rattle.fc_backend.specs.Called.{WireCall, SendsReply, EndsJob}
+use Rattle.fc_backend.specs.declared.call_log.CallLog.{CallLog}
 
 -- a datagram that was received: its sender, and its bytes.
 pub record Incoming : Type 0 where

@@ -3,8 +3,8 @@ ghost use Rattle.std.specs.Prelude.{◌≡◌};
 ghost use Rattle.fc_host.specs.Clocks.{AreReadAt, device_readings};
 
 use crate::sensors::{Sensed, Sensors};
+use fc_backend::{CallLog, Device, TimeSource};
 use fc_help::{NO_READINGS, Readings};
-use fc_workers::{CallLog, Device, TimeSource};
 use std::io;
 use std::sync::Wait;
 use std::time::{Clock, Instant};

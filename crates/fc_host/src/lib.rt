@@ -3,9 +3,9 @@
 //! When lines are played, a scripted host replaces these.
 //!
 //! ```rust
+//! use fc_backend::CallLog;
 //! use coap_msg::Endpoint;
 //! use fc_host::socket::{BUFFER, Receiving, SHORTEST_WAIT, Source, open};
-//! use fc_workers::CallLog;
 //! use std::io;
 //! use std::net::{Net, SocketAddrV4};
 //!

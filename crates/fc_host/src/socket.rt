@@ -4,11 +4,11 @@ ghost use Rattle.std.specs.Net.Socket.{v4_ip, v4_port};
 ghost use Rattle.std.specs.Prelude.{◌≡◌, ◌≤◌, ⊤, [], ◌∷◌, Bool, IfSome, List, None, Option, length};
 ghost use Rattle.coap_msg.specs.declared.types.Emission.{Emission};
 ghost use Rattle.fc_host.specs.Sockets.{Comes, IsHanded, Receive, incoming_in};
-ghost use Rattle.fc_workers.specs.declared.call_log.CallLog.{CallLog as Log};
+ghost use Rattle.fc_backend.specs.declared.call_log.CallLog.{CallLog as Log};
 
 use coap_msg::types::DATAGRAM;
 use coap_msg::{Emission, Endpoint};
-use fc_workers::{CallLog, Wire};
+use fc_backend::{CallLog, Wire};
 use std::io;
 use std::net::{Ipv4Addr, Net, SocketAddr, SocketAddrV4, UdpSocket};
 use std::sync::Wait;

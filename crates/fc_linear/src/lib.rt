@@ -25,8 +25,9 @@
 //!   fail to be saved.
 //!
 //! A server's threads make such a log. The book of [fc_filed](../../fc_filed/src/lib.rt) provides
-//! one order of all filed calls, which is right for each part. The logs and messages of
-//! `fc_workers` keep each job's track right (`right_tracks_make_a_legal_order`). So `run_pool` of
+//! one order of all filed calls, which is right for each part. The workers and the dispatcher of
+//! `fc_workers` keep each job's track right. So the order is legal
+//! (`right_tracks_make_a_legal_order` of `fc_locked`). So `run_pool` of
 //! `fc_service` guarantees that the calls of a pool are one legal history.
 //!
 //! By the contracts of `laws`.

@@ -1,5 +1,5 @@
--- The changes that are recorded: each change that is answered, once, and nothing else.
-use mathlib.Core.Path.{◌∙◌}
+-- How an answered request to change a program is recorded, and the calls of a single-threaded
+-- server that records.
 use Rattle.std.specs.Prelude.{◌≡◌, ℕ, List, Option}
 use Rattle.std.specs.Borrow.{Bor}
 use Rattle.coap_msg.specs.declared.types.Emission.{Emission}
@@ -10,16 +10,11 @@ use Rattle.fc_registry.specs.declared.job.Job.{Job}
 use Rattle.fc_core.specs.declared.front.Handled.{Handled}
 use Rattle.fc_core.specs.Exchanges.{advanced}
 use Rattle.fc_core.specs.Receiving.{delivered, emission_if}
-use Rattle.fc_calls.specs.Logged.{LoggedCall}
-use Rattle.fc_calls.specs.Logged.{AdvancesFront, AdvancesIdle, AdvancesShard, AnswersRequest, CommitsRun, DrawsId, FiresTimer, GivesReadings, GivesTurn, GivesUpTurn}
-use Rattle.fc_calls.specs.Logged.{HandlesDatagram, HandsSignal, InstallsProgram, LooksAt, NotesTurn, RaisesWord, ReadsCost, RemovesProgram, SkipsIdle, TakesForJob, TellsReceipt}
 use Rattle.fc_server.specs.SingleThread.{FiresAlone, HandlesAlone, NotifiesAlone, PassesAlone, PassesOverAlone, ResendsAlone, StaysIdleAlone, TellsGaugesAlone, TellsObserversAlone, TellsOffloadedAlone}
 use Rattle.fc_server.specs.Ingresses.{IngressCalls, is_reply, never}
 use Rattle.fc_server.specs.Shown.{IsShown}
 use Rattle.fc_server.specs.declared.alone.SingleThread.{SingleThread}
-use Rattle.fc_workers.specs.declared.call_log.CallLog.{CallLog}
-use Rattle.fc_workers.specs.Filed.{FilesEach}
-use Rattle.fc_workers.specs.Logs.{IsUnfiled, TrackedLog}
+use Rattle.fc_backend.specs.declared.call_log.CallLog.{CallLog}
 use Rattle.fc_record.specs.ProgramRequests.{Requested, IsRequestOf}
 
 -- the change that a job asked for was recorded, once, from one state of the caller's log to the
@@ -37,43 +32,6 @@ IsRecordedFor Recorded other job sent before after = after ≡ before
 
 abbrev pub IsRecorded : (Requested → CallLog → CallLog → Type 0) → Job → Option Emission → CallLog → CallLog → Type 0
 IsRecorded Recorded job sent before after = IsRecordedFor Recorded job.ask job sent before after
-
--- ---- by workers
-
--- a call of the backend in a log. After each response the change that its request asked for is
--- recorded, before the next call. The record is not filed.
-abbrev pub IsRecordedCall : (LoggedCall → TrackedLog → TrackedLog → Type 0) → (Requested → CallLog → CallLog → Type 0) → LoggedCall → TrackedLog → TrackedLog → Type 0
-IsRecordedCall Logged Recorded (AnswersRequest now job content sent) before after =
-    (log : TrackedLog) × Logged (AnswersRequest now job content sent) before log × IsUnfiled (IsRecorded Recorded job sent) log after
-IsRecordedCall Logged Recorded other before after = Logged other before after
-
--- a backend that files each logged call does so if it records, too.
-pub recorded_files : (Logged : LoggedCall → TrackedLog → TrackedLog → Type 0) (Recorded : Requested → CallLog → CallLog → Type 0) → FilesEach Logged → FilesEach (IsRecordedCall Logged Recorded)
-recorded_files Logged Recorded files (AnswersRequest now job content sent) before after is =
-    let f = files (AnswersRequest now job content sent) before is.0 is.1 in
-    record { who = (λ i. (is.2.1 i).who) ∙ f.who; tracks = (λ i. (is.2.1 i).tracks) ∙ f.tracks }
-recorded_files Logged Recorded files (GivesReadings readings) before after is = files (GivesReadings readings) before after is
-recorded_files Logged Recorded files (TellsReceipt job receipt) before after is = files (TellsReceipt job receipt) before after is
-recorded_files Logged Recorded files (ReadsCost slot cost) before after is = files (ReadsCost slot cost) before after is
-recorded_files Logged Recorded files (LooksAt slot word) before after is = files (LooksAt slot word) before after is
-recorded_files Logged Recorded files (HandlesDatagram now from bytes brings) before after is = files (HandlesDatagram now from bytes brings) before after is
-recorded_files Logged Recorded files (AdvancesFront now) before after is = files (AdvancesFront now) before after is
-recorded_files Logged Recorded files (FiresTimer slot now) before after is = files (FiresTimer slot now) before after is
-recorded_files Logged Recorded files (DrawsId now id) before after is = files (DrawsId now id) before after is
-recorded_files Logged Recorded files (TakesForJob job readings taken) before after is = files (TakesForJob job readings taken) before after is
-recorded_files Logged Recorded files (CommitsRun now ran ticket committed) before after is = files (CommitsRun now ran ticket committed) before after is
-recorded_files Logged Recorded files (InstallsProgram job program made) before after is = files (InstallsProgram job program made) before after is
-recorded_files Logged Recorded files (RemovesProgram job removal) before after is = files (RemovesProgram job removal) before after is
-recorded_files Logged Recorded files (HandsSignal shard from id reset) before after is = files (HandsSignal shard from id reset) before after is
-recorded_files Logged Recorded files (AdvancesIdle shard now) before after is = files (AdvancesIdle shard now) before after is
-recorded_files Logged Recorded files (SkipsIdle shard now) before after is = files (SkipsIdle shard now) before after is
-recorded_files Logged Recorded files (AdvancesShard shard now ticked) before after is = files (AdvancesShard shard now ticked) before after is
-recorded_files Logged Recorded files (GivesTurn shard now turn) before after is = files (GivesTurn shard now turn) before after is
-recorded_files Logged Recorded files (NotesTurn turn id now random told noted) before after is = files (NotesTurn turn id now random told noted) before after is
-recorded_files Logged Recorded files (GivesUpTurn turn now) before after is = files (GivesUpTurn turn now) before after is
-recorded_files Logged Recorded files (RaisesWord slot word) before after is = files (RaisesWord slot word) before after is
-
--- ---- on one thread
 
 -- a single-threaded server, and the log of its records.
 pub record Recording : Type 0 where

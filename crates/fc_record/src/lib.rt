@@ -1,7 +1,7 @@
 //! Records of answered requests to change a program, and reports of counts.
 //!
 //! [`request::ProgramRequest`] is a request that installs or removes a program, with its response.
-//! It has a text. A [`Recorder`] gets each such request once: [`RecordedBench`] passes it those
+//! It has a text. A [`Recorder`] gets each such request once: [`RecordingGate`] passes it those
 //! that workers answer, and [`RecordedAlone`] those of a single-threaded server.
 //!
 //! [`Report`] has counts of a server's datagrams and notifications, and its [`Gauges`]: what the
@@ -15,9 +15,10 @@
 //!   (`ProgramRequest::of`, by `IsRequestOf`). Its text is exact, including the image's SHA-256
 //!   digest (`ProgramRequest`'s `Display`, by `request_text`).
 //! - **Each such request that a job answers is recorded once**, after its response, and nothing
-//!   else is recorded. This holds for workers (`RecordedBench`, by `IsRecordedCall`) and for a
-//!   single-threaded server (`RecordedAlone`, by `recorded_calls`). A duplicate request is no job,
-//!   and so no change.
+//!   else is recorded. `RecordingGate` records the request of an answered job, if it is such a
+//!   request (`IsRecorded`). Workers call it once, right after each answer (`GivesAnswer` of
+//!   `fc_workers`). A single-threaded server records by `RecordedAlone` (`recorded_calls`). A
+//!   duplicate request is no job, and so no change.
 //! - **A report** counts each call by its result: a datagram, and its immediate response by its
 //!   code; a retransmission or a removed observer; a lease. Its text is exact, with
 //!   its gauges (`Report`, by `datagram_counted`, `tick_counted`, `lease_counted` and
@@ -25,12 +26,11 @@
 //! - The contracts don't say what a logger does with a record or a report, nor how many datagrams
 //!   couldn't be sent.
 //!
-//! By the contracts of `ProgramRequest::of`, `ProgramRequest`'s `Display`, `RecordedBench`,
+//! By the contracts of `ProgramRequest::of`, `ProgramRequest`'s `Display`, `RecordingGate`,
 //! `RecordedAlone`, `Report`, `Gauges`, `ObserverCounts`, `laws`.
 #![tactic(auto)]
 
 pub mod alone;
-pub mod bench;
 pub mod gauges;
 pub mod laws;
 pub mod observer_counts;
@@ -41,10 +41,9 @@ pub mod request;
 mod text;
 
 pub use alone::RecordedAlone;
-pub use bench::RecordedBench;
 pub use gauges::Gauges;
 pub use observer_counts::ObserverCounts;
-pub use recorder::{ChangeLog, LoggedChanges, NoChanges, Recorder};
+pub use recorder::{ChangeLog, LoggedChanges, NoChanges, Recorder, RecordingGate};
 pub use report::Report;
 pub use reporter::{LoggedReports, NoReports, Reporter};
 pub use request::ProgramRequest;

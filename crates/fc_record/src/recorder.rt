@@ -3,15 +3,16 @@ ghost use Rattle.std.specs.Prelude.{◌≡◌, ⊤};
 ghost use Rattle.fc_core.specs.Receiving.{emission_if};
 ghost use Rattle.fc_record.specs.ProgramRequests.{Requested};
 ghost use Rattle.fc_record.specs.Recording.{IsRecorded};
-ghost use Rattle.fc_workers.specs.declared.call_log.CallLog.{CallLog as Log};
+ghost use Rattle.fc_backend.specs.declared.call_log.CallLog.{CallLog as Log};
 
 use crate::request::ProgramRequest;
 use coap_msg::Emission;
+use fc_backend::{CallLog, Gate};
 use fc_registry::Job;
 use fc_server::Witness;
-use fc_workers::CallLog;
 use log::{Log as Logger, info};
 use std::marker::Model;
+use std::sync::Wait;
 
 /// A recorder of changes.
 pub trait Recorder {
@@ -38,6 +39,29 @@ pub fn record_answer<C: Recorder>(
 {
     if let Some(change) = ProgramRequest::of(job, has_reply, reply) {
         recorder.record(&change, log);
+    }
+}
+
+/// Hooks that record each answered request to change a program.
+#[derive(Clone, Copy)]
+pub struct RecordingGate<'a, C: Recorder> {
+    pub recorder: &'a C,
+}
+
+impl<'a, C: Recorder> Gate for RecordingGate<'a, C> {
+    ghost passed = { λ number before after. after ≡ before };
+
+    ghost answered = { IsRecorded C.recorded };
+
+    // Delays no job.
+    fn between<R: Wait>(&self, rt: &R, number: u64, log: &mut CallLog) {
+        let _ = rt;
+        let _ = number;
+        let _ = log;
+    }
+
+    fn after_answer(&self, job: &Job, has_reply: bool, reply: &Emission, log: &mut CallLog) {
+        record_answer(self.recorder, job, has_reply, reply, log);
     }
 }
 
@@ -79,7 +103,7 @@ pub struct ChangeLog<'a, C: Recorder> {
 }
 
 impl<'a, C: Recorder> Model for ChangeLog<'a, C> {
-    ghost use Rattle.fc_workers.specs.declared.call_log.CallLog.{CallLog as Log};
+    ghost use Rattle.fc_backend.specs.declared.call_log.CallLog.{CallLog as Log};
 
     ghost Value = { Log };
 

@@ -1,10 +1,10 @@
 //! Reporters: recorders of a server's reports.
 ghost use Rattle.std.specs.Prelude.{◌≡◌, ⊤};
 ghost use Rattle.fc_record.specs.declared.report.Report.{Report as Counts};
-ghost use Rattle.fc_workers.specs.declared.call_log.CallLog.{CallLog as Log};
+ghost use Rattle.fc_backend.specs.declared.call_log.CallLog.{CallLog as Log};
 
 use crate::report::Report;
-use fc_workers::CallLog;
+use fc_backend::CallLog;
 use log::{Log as Logger, info};
 use std::sync::atomic::{AtomicU64, Ordering};
 

@@ -14,7 +14,6 @@ use Rattle.fc_host.specs.declared.timer.Timer.{Timer}
 use Rattle.fc_jobs.specs.Ends.{Channel}
 use Rattle.fc_observe.specs.declared.observers.Ticked.{Ticked}
 use Rattle.fc_record.specs.ProgramRequests.{Requested}
-use Rattle.fc_record.specs.Recording.{recorded_files}
 use Rattle.fc_record.specs.declared.report.Report.{Report}
 use Rattle.fc_server.specs.Flushing.{AreStepsBy, Asked, Passed, Resent, FlushingStep}
 use Rattle.fc_server.specs.Ingresses.{IngressCalls}
@@ -22,23 +21,24 @@ use Rattle.fc_server.specs.Notified.{Notified, is_given}
 use Rattle.fc_server.specs.declared.engine.FireOutcome.{FireOutcome}
 use Rattle.fc_server.specs.declared.engine.FireOutcome.TheVariants as fired
 use Rattle.fc_server.specs.States.{ServerState}
-use Rattle.fc_workers.specs.Asked.{IsLoggedCall, Peripherals}
-use Rattle.fc_workers.specs.Called.{WorkerView}
-use Rattle.fc_workers.specs.Counts.{Tallies}
+use Rattle.fc_locked.specs.Asked.{Peripherals, locked_files}
+use Rattle.fc_workers.specs.Views.{WorkerView, FilesCalls}
+use Rattle.fc_locked.specs.Counts.{Tallies}
 use Rattle.fc_workers.specs.Deliveries.{Delivery, deliveries_in}
-use Rattle.fc_workers.specs.Filed.{FilesCalls, locked_files}
-use Rattle.fc_workers.specs.LegalOrder.{HaveLegalOrder}
-use Rattle.fc_workers.specs.Logs.{TrackedLog}
-use Rattle.fc_workers.specs.Messages.{TrackedJob}
-use Rattle.fc_workers.specs.OneOrder.{filed_in, logs_of}
-use Rattle.fc_workers.specs.Workers.{Dispatched, Share}
-use Rattle.fc_workers.specs.declared.call_log.CallLog.{CallLog}
-use Rattle.fc_workers.specs.declared.closed.ClosedServer.{ClosedServer}
-use Rattle.fc_workers.specs.SharedStores.{Saving}
+use Rattle.fc_locked.specs.LegalOrder.{HaveLegalOrder}
+use Rattle.fc_backend.specs.Logs.{TrackedLog}
+use Rattle.fc_backend.specs.Messages.{TrackedJob}
+use Rattle.fc_backend.specs.RightTracks.{filed_in}
+use Rattle.fc_locked.specs.OneOrder.{logs_of}
+use Rattle.fc_backend.specs.Statistics.{Share}
+use Rattle.fc_workers.specs.Workers.{Dispatched}
+use Rattle.fc_backend.specs.declared.call_log.CallLog.{CallLog}
+use Rattle.fc_locked.specs.declared.closed.ClosedServer.{ClosedServer}
+use Rattle.fc_locked.specs.SharedStores.{Saving}
 use Rattle.fc_workers.specs.declared.dispatcher.Offload.{Offload}
 use Rattle.fc_workers.proofs.Deliveries.{Delivers, MayDeliver, both, filed_delivers, taken_in, timer_fired, turn_asked, unchanged}
 use Rattle.fc_workers.proofs.Filed.{bench_files}
-use Rattle.fc_workers.proofs.OneDispatcher.{dispatcher_delivers}
+use Rattle.fc_service.proofs.OneDispatcher.{dispatcher_delivers}
 use Rattle.fc_service.proofs.OneHistory.{AreChained, any_wait}
 use Rattle.fc_service.proofs.Unreported.{reported_simulates, rounds_held}
 use Rattle.fc_service.specs.Firing.{AreFired, Firing, FiresOnce, SkipsBeat, fired_calls, firing_from, readies_firing}
@@ -268,9 +268,7 @@ module _ (sensors : List ℕ → Type 0) (e : RoundCalls)
   peripherals_of = record { are_readings = AreReadAt e.time sensors; saves = Saves }
 
   files : FilesCalls view
-  files = bench_files _ _ _ _ _ _ _ _
-      (recorded_files (IsLoggedCall began peripherals_of) Recorded
-      (locked_files began peripherals_of))
+  files = bench_files _ _ _ _ _ _ _ _ _ (locked_files began peripherals_of)
 
   abbrev calls : IngressCalls Pool
   calls = pooled_calls view

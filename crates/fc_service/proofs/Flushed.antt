@@ -15,7 +15,7 @@ use Rattle.fc_server.specs.Flushing.{AreStepsTo, IsStepBy, Moves, FlushingStep, 
 use Rattle.fc_service.specs.Traffic.{Sends}
 use Rattle.fc_service.specs.declared.replies.SentReplies.{SentReplies}
 use Rattle.fc_server.specs.declared.flush.Flushing.{Flushing}
-use Rattle.fc_workers.specs.declared.call_log.CallLog.{CallLog}
+use Rattle.fc_backend.specs.declared.call_log.CallLog.{CallLog}
 
 -- the text printed for the datagram that one step sent, if it sent one, is that step's output.
 pub printed_of : (out : Option Emission) → flat_map printed (option_to_list out) ≡ output_of out

@@ -30,7 +30,7 @@ use Rattle.fc_service.proofs.Flushed.{printed_of}
 use Rattle.fc_service.specs.SingleThread.{HandsAlone, ReadiesAlone, ReadiesRecorded}
 use Rattle.fc_record.specs.ProgramRequests.{Requested}
 use Rattle.fc_record.specs.Recording.{Recording, recorded_calls}
-use Rattle.fc_workers.specs.declared.call_log.CallLog.{CallLog}
+use Rattle.fc_backend.specs.declared.call_log.CallLog.{CallLog}
 use Rattle.fc_server.specs.SingleThread.{HandlesAlone, PassesAlone, alone_calls}
 use Rattle.fc_service.specs.Histories.{Arrival, Datagram, IsOneHistory, Silence, arrival_at, arrivals_in, arrivals_in_lines, arrived_by, datagram_in, sent_in_lines}
 use Rattle.fc_service.specs.Ingresses.{IsHandledBy}

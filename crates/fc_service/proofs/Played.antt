@@ -22,7 +22,7 @@ use Rattle.fc_service.specs.SingleThread.{HandsAlone}
 use Rattle.fc_server.specs.SingleThread.{alone_calls}
 use Rattle.fc_service.specs.Ingresses.{calls_through, waited_calls}
 use Rattle.fc_server.specs.Ingresses.{IngressCalls}
-use Rattle.fc_workers.specs.Answers.{saturated}
+use Rattle.fc_backend.specs.Answers.{saturated}
 use Rattle.fc_service.specs.Playing.{ArePlayedBy, HasPlayed, IsCarriedOutBy, IsFedByLines, IsHandedBy, IsNextText, IsPlayedBy, IsPlayedOut, PlayedLine, StopsAt, time_of, output_by, output_of, printed_lines, printed_steps}
 use Rattle.fc_server.specs.declared.alone.SingleThread.{SingleThread}
 use Rattle.fc_server.specs.Flushing.{AreFlushed, AreStepsBy, Asked, Passed, Resent, FlushingStep}

@@ -18,8 +18,8 @@ use Rattle.fc_registry.specs.Shards.{shard_at}
 use Rattle.fc_registry.specs.Watches.{observer_counts, watch_at}
 use Rattle.fc_server.specs.Ingresses.{IngressCalls}
 use Rattle.fc_server.specs.States.{ServerState}
-use Rattle.fc_workers.specs.Answers.{saturated}
-use Rattle.fc_workers.specs.declared.call_log.CallLog.{CallLog}
+use Rattle.fc_backend.specs.Answers.{saturated}
+use Rattle.fc_backend.specs.declared.call_log.CallLog.{CallLog}
 use Rattle.fc_service.specs.SingleThread.{ReadiesRecorded}
 use Rattle.fc_service.specs.Reporting.{AreGaugesOf, MakesReport, Reporting, ReportsIfDue, reported_calls}
 use Rattle.fc_service.specs.Rounds.{HasReceivedWith, HasRunTimed, HasServedBy, RoundCalls}

@@ -13,7 +13,7 @@ use Rattle.fc_service.specs.Rounds.{EndsByTimer, HasRounds, IsReadIfAny, IsRecei
 use Rattle.fc_server.specs.Flushing.{AreFlushed, AreStepsBy, FlushingStep, sent_in_steps}
 use Rattle.fc_service.specs.Traffic.{Sends, counted_each}
 use Rattle.fc_service.specs.declared.replies.SentReplies.{SentReplies}
-use Rattle.fc_workers.specs.declared.call_log.CallLog.{CallLog}
+use Rattle.fc_backend.specs.declared.call_log.CallLog.{CallLog}
 
 module _ {S : Type 0} (Readies : ℕ → S → S → Type 0) (calls : IngressCalls S) (e : RoundCalls) where
   abbrev Rounds : List Round → Option (List Receive) → Option (List Receive) → S → S → CallLog → SentReplies → Type 0

@@ -22,7 +22,7 @@ use Rattle.fc_host.specs.declared.timer.Timer.{Timer}
 use Rattle.fc_record.specs.ProgramRequests.{Requested}
 use Rattle.fc_record.specs.Recording.{Recording, recorded_calls}
 use Rattle.fc_record.specs.declared.report.Report.{Report}
-use Rattle.fc_workers.specs.declared.call_log.CallLog.{CallLog}
+use Rattle.fc_backend.specs.declared.call_log.CallLog.{CallLog}
 use Rattle.fc_service.specs.Firing.{AreFired, Firing, FiresOnce, SkipsBeat, fired_calls, is_offloaded, readies_firing}
 use Rattle.fc_service.specs.Histories.{Arrival, Beat, Datagram, IsOneHistory, Silence, after_beat, arrival_at, beat_at, timed_arrivals_in, timers_after}
 use Rattle.fc_service.specs.Rounds.{HasServedTimed, IsReceivedBy, IsRoundBy, Round, RoundCalls, sendings_in}

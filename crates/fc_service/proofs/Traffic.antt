@@ -5,13 +5,13 @@ use Rattle.std.specs.Prelude.{IfSome, cond, count_by}
 use Rattle.std.proofs.lemmas.List.{map-append}
 use Rattle.std.proofs.lemmas.List.Sums.{sum_by-append, sum_by-cons}
 use Rattle.coap_msg.specs.declared.types.Emission.{Emission}
-use Rattle.fc_workers.specs.Answers.{saturated}
+use Rattle.fc_backend.specs.Answers.{saturated}
 use Rattle.fc_host.specs.Sockets.{Comes, Receive}
 use Rattle.fc_service.specs.Counting.{counted}
 use Rattle.fc_service.specs.Traffic.{AreHanded, Sending, Sends, counted_each, replies_to}
 use Rattle.fc_service.specs.declared.replies.SentReplies.{SentReplies}
 use Rattle.fc_service.specs.declared.replies.Replies.{Replies}
-use Rattle.fc_workers.specs.declared.call_log.CallLog.{CallLog}
+use Rattle.fc_backend.specs.declared.call_log.CallLog.{CallLog}
 
 -- ---- the datagrams received
 

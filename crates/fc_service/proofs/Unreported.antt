@@ -14,7 +14,7 @@ use Rattle.fc_record.specs.declared.report.Report.{Report}
 use Rattle.fc_server.specs.Flushing.{AreStepsBy, Asked, Passed, Resent, FlushingStep}
 use Rattle.fc_server.specs.Ingresses.{IngressCalls}
 use Rattle.fc_server.specs.Notified.{Notified}
-use Rattle.fc_workers.specs.declared.call_log.CallLog.{CallLog}
+use Rattle.fc_backend.specs.declared.call_log.CallLog.{CallLog}
 use Rattle.fc_core.specs.History.{History}
 use Rattle.fc_server.specs.Serving.{Serves}
 use Rattle.fc_server.specs.States.{ServerState}

@@ -1,8 +1,8 @@
 -- Counts of replies, and the text of the counts.
 use Rattle.std.specs.Prelude.{ℕ, ◌+◌, ◌++◌, Bool, true, false, Option, Some, None, List, sum_by, codes}
 use Rattle.std.specs.Fmt.{decimal}
-use Rattle.fc_workers.specs.Answers.{saturated}
-use Rattle.fc_workers.specs.declared.share.Share.{Share}
+use Rattle.fc_backend.specs.Answers.{saturated}
+use Rattle.fc_backend.specs.declared.share.Share.{Share}
 use Rattle.fc_service.specs.declared.replies.Replies.{Replies}
 
 abbrev pub no_replies : Replies

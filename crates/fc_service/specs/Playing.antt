@@ -3,8 +3,8 @@ use Rattle.std.specs.Prelude.{◌≡◌, ⊤, ℕ, ◌+◌, ◌<◌, List, [], �
 use Rattle.std.specs.Io.BufRead.{DropsThrough, first_piece}
 use Rattle.std.specs.Io.KnownBytes.{Appends, IsAtEnd}
 use Rattle.coap_msg.specs.declared.types.Emission.{Emission}
-use Rattle.fc_workers.specs.declared.closed.ClosedServer.{ClosedServer}
-use Rattle.fc_workers.specs.Answers.{saturated}
+use Rattle.fc_locked.specs.declared.closed.ClosedServer.{ClosedServer}
+use Rattle.fc_backend.specs.Answers.{saturated}
 use Rattle.fc_server.specs.States.{begin_of, first_server}
 use Rattle.fc_server.specs.declared.server.Begin.{Begin}
 use Rattle.fc_help.specs.Region.{no_readings}
@@ -22,7 +22,7 @@ use Rattle.fc_server.specs.Flushing.{AreFlushed, AreStepsBy, FlushingStep, sent_
 use Rattle.fc_server.specs.declared.alone.SingleThread.{SingleThread}
 use Rattle.fc_service.specs.declared.replies.Replies.{Replies}
 use Rattle.fc_workers.specs.declared.dispatcher.Offload.{Offload}
-use Rattle.fc_workers.specs.SharedStores.{Saving}
+use Rattle.fc_locked.specs.SharedStores.{Saving}
 
 -- the text printed for a sent datagram.
 abbrev pub output_of : Option Emission → List ℕ

@@ -1,5 +1,5 @@
 -- Effects of a pool's dispatcher and of its driver.
-use Rattle.std.specs.Prelude.{◌≡◌, ◌⊎◌, ◌+◌, ⊤, ℕ, Bool, List, length, slice_index, None, Some, true, false}
+use Rattle.std.specs.Prelude.{◌≡◌, ◌⊎◌, ◌+◌, ⊤, ℕ, Bool, List, Option, length, slice_index, None, Some, true, false}
 use Rattle.std.specs.List.{All}
 use Rattle.std.specs.Borrow.{Bor}
 use Rattle.coap_msg.specs.declared.types.Emission.{Emission}
@@ -7,25 +7,28 @@ use Rattle.coap_msg.specs.declared.types.Endpoint.{Endpoint}
 use Rattle.fc_core.specs.declared.front.Handled.{Handled}
 use Rattle.fc_observe.specs.declared.observers.Ticked.{Ticked}
 use Rattle.fc_registry.specs.Slots.{Shard}
+use Rattle.fc_registry.specs.declared.job.Job.{Job}
 use Rattle.fc_server.specs.Notified.{Notified, is_given, notification_in}
-use Rattle.fc_workers.specs.Answers.{IsSomeTick}
-use Rattle.fc_workers.specs.Asked.{IsLoggedCall, IsServerCall, Peripherals}
-use Rattle.fc_workers.specs.SharedStores.{Saving}
+use Rattle.fc_backend.specs.Answers.{IsSomeTick}
+use Rattle.fc_locked.specs.Asked.{IsLoggedCall, IsServerCall, Peripherals}
+use Rattle.fc_locked.specs.SharedStores.{Saving}
 use Rattle.fc_calls.specs.Logged.{AdvancesFront, AdvancesShard, LoggedCall}
-use Rattle.fc_workers.specs.Called.{BenchCall, CountsObservers, LooksAhead, ReadsGauges, WorkerView, WireCall, worker_view}
-use Rattle.fc_workers.specs.Counts.{Tallies}
+use Rattle.fc_backend.specs.Called.{BenchCall, CountsObservers, LooksAhead, ReadsGauges, WireCall}
+use Rattle.fc_workers.specs.Views.{WorkerView, worker_view}
+use Rattle.fc_locked.specs.Counts.{Tallies}
 use Rattle.fc_workers.specs.Dispatch.{HasCalled, IsAdvancedOrSkipped, IsTakenIn, IsTimerFired, IsTurnAsked}
-use Rattle.fc_workers.specs.Shares.{AreSharesOf, new_share}
+use Rattle.fc_backend.specs.Statistics.{new_share, Share}
+use Rattle.fc_workers.specs.Shares.{AreSharesOf}
 use Rattle.fc_jobs.specs.Ends.{Channel, nothing_got, nothing_sent}
-use Rattle.fc_workers.specs.declared.call_log.CallLog.{CallLog}
-use Rattle.fc_workers.specs.declared.closed.ClosedServer.{ClosedServer}
-use Rattle.fc_workers.specs.Logs.{TrackedLog}
+use Rattle.fc_backend.specs.declared.call_log.CallLog.{CallLog}
+use Rattle.fc_locked.specs.declared.closed.ClosedServer.{ClosedServer}
+use Rattle.fc_backend.specs.Logs.{TrackedLog, IsNewLog}
 use Rattle.fc_filed.specs.declared.entry.FiledEntry.{FiledEntry}
 use Rattle.fc_filed.specs.Threads.{HasJobFirst, HasOwnTrack}
-use Rattle.fc_workers.specs.LegalOrder.{HaveLegalOrder}
-use Rattle.fc_workers.specs.Messages.{TrackedJob}
-use Rattle.fc_workers.specs.OneOrder.{IsNewLog, logs_of}
-use Rattle.fc_workers.specs.Workers.{Dispatched, WorkerSeed, Share}
+use Rattle.fc_locked.specs.LegalOrder.{HaveLegalOrder}
+use Rattle.fc_backend.specs.Messages.{TrackedJob}
+use Rattle.fc_locked.specs.OneOrder.{logs_of}
+use Rattle.fc_workers.specs.Workers.{Dispatched, WorkerSeed}
 use Rattle.fc_workers.specs.declared.dispatcher.Offload.{Offload}
 use Rattle.fc_workers.specs.declared.dispatcher.Offload.TheVariants.{Never}
 use Rattle.fc_service.specs.Counting.{both_replies, replies_by, replies_of}
@@ -35,7 +38,7 @@ use Rattle.fc_server.specs.declared.engine.FireOutcome.{FireOutcome}
 use Rattle.fc_server.specs.declared.engine.FireOutcome.TheVariants as fired
 use Rattle.fc_server.specs.States.{ServerState}
 use Rattle.fc_record.specs.ProgramRequests.{Requested}
-use Rattle.fc_record.specs.Recording.{IsRecordedCall}
+use Rattle.fc_record.specs.Recording.{IsRecorded}
 
 -- the view of a dispatcher: its dispatch policy, and the effects of its calls.
 pub record PooledIngress (T : Type 0) : Type 0 where
@@ -142,10 +145,10 @@ module _ {T : Type 0} (s : WorkerView T) where
     pub order : HaveLegalOrder first (logs_of shares own) closed
     pub saved : Kept closed.shards order.order.calls
 
--- a worker context whose jobs are never delayed.
+-- a worker context whose gate makes no call before a commit.
 abbrev pub open_view : {T : Type 0} → (T → ℕ → ℕ) → (T → ℕ) → (BenchCall → Type 0) → (LoggedCall → TrackedLog → TrackedLog → Type 0)
-    → (IsTime : ℕ → CallLog → CallLog → Type 0) → (IsRandom : ℕ → Type 0) → (WireCall → CallLog → CallLog → Type 0) → WorkerView T
-open_view changes ended bench logged time random wire = worker_view changes ended bench logged time random (λ number before after. ⊤) wire
+    → (IsTime : ℕ → CallLog → CallLog → Type 0) → (IsRandom : ℕ → Type 0) → (Job → Option Emission → CallLog → CallLog → Type 0) → (WireCall → CallLog → CallLog → Type 0) → WorkerView T
+open_view changes ended bench logged time random answered wire = worker_view changes ended bench logged time random (λ number before after. after ≡ before) answered wire
 
 -- the context of a server with locks that began in this way. Its parameters are the readings of its
 -- device, the saves of its store, its times and random words, and the calls of its transmitter and
@@ -154,4 +157,4 @@ abbrev pub locked_view : ServerState → (AreReadings : List ℕ → CallLog →
     → (WireCall → CallLog → CallLog → Type 0) → (Requested → CallLog → CallLog → Type 0) → WorkerView Tallies
 locked_view first AreReadings Saves IsTime IsRandom Wired Recorded =
     let io : Peripherals = record { are_readings = AreReadings; saves = Saves } in
-    open_view (λ t. slice_index t.changes) (λ t. t.ended) (IsServerCall first io) (IsRecordedCall (IsLoggedCall first io) Recorded) IsTime IsRandom Wired
+    open_view (λ t. slice_index t.changes) (λ t. t.ended) (IsServerCall first io) (IsLoggedCall first io) IsTime IsRandom (IsRecorded Recorded) Wired

@@ -1,8 +1,8 @@
 -- Reports of a server's counts, with a period in milliseconds.
 use Rattle.std.specs.Prelude.{◌≡◌, ◌+◌, ◌<◌, ℕ, [], nat_lt, min, slice_index_or, MatchBool}
 use Rattle.fc_server.specs.Ingresses.{IngressCalls}
-use Rattle.fc_workers.specs.Answers.{saturated}
-use Rattle.fc_workers.specs.declared.call_log.CallLog.{CallLog}
+use Rattle.fc_backend.specs.Answers.{saturated}
+use Rattle.fc_backend.specs.declared.call_log.CallLog.{CallLog}
 use Rattle.fc_record.specs.Reports.{datagram_counted, lease_counted, nothing_counted, tick_counted}
 use Rattle.fc_record.specs.declared.gauges.Gauges.{Gauges}
 use Rattle.fc_record.specs.declared.report.Report.{Report}

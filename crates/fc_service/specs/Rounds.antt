@@ -4,19 +4,19 @@ use Rattle.std.specs.Option.{option_to_list}
 use Rattle.coap_msg.specs.declared.types.Emission.{Emission}
 use Rattle.fc_registry.specs.Slots.{Shard}
 use Rattle.fc_filed.specs.declared.entry.FiledEntry.{FiledEntry}
-use Rattle.fc_workers.specs.Counts.{Tallies}
+use Rattle.fc_locked.specs.Counts.{Tallies}
 use Rattle.fc_workers.specs.declared.dispatcher.Offload.{Offload}
 use Rattle.fc_workers.specs.declared.dispatcher.Offload.TheVariants.{ChangesAndExpensive, Expensive}
-use Rattle.fc_workers.specs.Workers.{Share}
+use Rattle.fc_backend.specs.Statistics.{Share}
 use Rattle.fc_jobs.specs.Ends.{Channel}
-use Rattle.fc_workers.specs.declared.call_log.CallLog.{CallLog}
-use Rattle.fc_workers.specs.Called.{WorkerView}
+use Rattle.fc_backend.specs.declared.call_log.CallLog.{CallLog}
+use Rattle.fc_workers.specs.Views.{WorkerView}
 use Rattle.fc_workers.specs.Deliveries.{Delivery}
-use Rattle.fc_workers.specs.LegalOrder.{HaveLegalOrder}
-use Rattle.fc_workers.specs.Messages.{TrackedJob}
-use Rattle.fc_workers.specs.OneOrder.{logs_of}
-use Rattle.fc_workers.specs.SharedStores.{Saving}
-use Rattle.fc_workers.specs.declared.closed.ClosedServer.{ClosedServer}
+use Rattle.fc_locked.specs.LegalOrder.{HaveLegalOrder}
+use Rattle.fc_backend.specs.Messages.{TrackedJob}
+use Rattle.fc_locked.specs.OneOrder.{logs_of}
+use Rattle.fc_locked.specs.SharedStores.{Saving}
+use Rattle.fc_locked.specs.declared.closed.ClosedServer.{ClosedServer}
 use Rattle.fc_server.specs.Ingresses.{IngressCalls, never}
 use Rattle.fc_server.specs.Flushing.{AreIdleUntil, AreFlushed, AreStepsBy, FlushingStep, sent_in_steps}
 use Rattle.fc_server.specs.States.{ServerState}

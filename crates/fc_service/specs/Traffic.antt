@@ -1,8 +1,8 @@
 -- Emissions passed to a sink, and their counts.
 use Rattle.std.specs.Prelude.{◌≡◌, Bool, not, List, [], ◌∷◌, count_by, map, Some}
 use Rattle.coap_msg.specs.declared.types.Emission.{Emission}
-use Rattle.fc_workers.specs.Answers.{saturated}
-use Rattle.fc_workers.specs.declared.call_log.CallLog.{CallLog}
+use Rattle.fc_backend.specs.Answers.{saturated}
+use Rattle.fc_backend.specs.declared.call_log.CallLog.{CallLog}
 use Rattle.fc_service.specs.Counting.{counted}
 use Rattle.fc_service.specs.declared.replies.SentReplies.{SentReplies}
 use Rattle.fc_service.specs.declared.replies.Replies.{Replies}

@@ -38,16 +38,16 @@ ghost use Rattle.fc_record.specs.Reports.{nothing_counted};
 ghost use Rattle.fc_record.specs.declared.gauges.Gauges.{Gauges};
 ghost use Rattle.fc_service.specs.Logs.{ArePeriods, IsReportText};
 ghost use Rattle.fc_service.specs.Reporting.{AreGaugesOf, Reporting, ReportsIfDue, reported_calls, reporting_from};
-ghost use Rattle.fc_workers.specs.Counts.{Tallies};
+ghost use Rattle.fc_locked.specs.Counts.{Tallies};
 ghost use Rattle.fc_server.specs.Serving.{Serves};
 ghost use Rattle.fc_server.specs.States.{ServerState, begin_of, first_server};
 ghost use Rattle.fc_workers.specs.Deliveries.{deliveries_in};
-ghost use Rattle.fc_workers.specs.LegalOrder.{HaveLegalOrder};
-ghost use Rattle.fc_workers.specs.Messages.{first_brought};
-ghost use Rattle.fc_workers.specs.OneOrder.{logs_of};
-ghost use Rattle.fc_workers.specs.SharedStores.{HasSaved};
-ghost use Rattle.fc_workers.specs.Workers.{Share};
-ghost use Rattle.fc_workers.specs.declared.call_log.CallLog.{CallLog};
+ghost use Rattle.fc_locked.specs.LegalOrder.{HaveLegalOrder};
+ghost use Rattle.fc_backend.specs.Messages.{first_brought};
+ghost use Rattle.fc_locked.specs.OneOrder.{logs_of};
+ghost use Rattle.fc_locked.specs.SharedStores.{HasSaved};
+ghost use Rattle.fc_backend.specs.Statistics.{Share};
+ghost use Rattle.fc_backend.specs.declared.call_log.CallLog.{CallLog};
 ghost use Rattle.fc_workers.specs.declared.dispatcher.Offload.TheVariants.{ChangesAndExpensive, Expensive};
 ghost use Rattle.fc_service.specs.Pooled.{PooledIngress, pooled_calls};
 ghost use Rattle.fc_service.specs.Rounds.{EndsInTime, HasServed, HasServedPooled, HasServedReported, HasServedTimed, IsOneThread, Round, WaitsAfter, deliveries_of, offload_of, round_calls, sendings_in, served_view, until_due};
@@ -62,6 +62,7 @@ ghost use Rattle.fc_server.specs.declared.alone.SingleThread.{SingleThread};
 ghost use Rattle.fc_service.specs.declared.replies.Replies.{Replies};
 
 use crate::every::LONGEST;
+use fc_backend::TimeSource;
 use fc_host::laws::no_timer_is_due_before_the_first;
 use fc_host::sensors::Sensors;
 use fc_host::socket::{Sink, Source};
@@ -69,7 +70,6 @@ use fc_record::{Recorder, Reporter};
 use fc_server::Ingress;
 use fc_server::flush::STEPS;
 use fc_store::Store;
-use fc_workers::TimeSource;
 
 /// The work at one time has more steps than all shards and observers need.
 ///

@@ -109,8 +109,8 @@
 //!   that no worker was started, the dispatcher sends no job to a worker (`offload_where`). A test
 //!   shows that it reports this only if no thread could be created.
 //! - **Each request to change a program that a job answers is recorded once**, after its response
-//!   is made. Nothing else is recorded (`serve_at`, by `HasServed` and `HasServedPooled`, whose
-//!   calls are `recorded_calls` and `IsRecordedCall` of `fc_record`). A test shows that a logger
+//!   is made. Nothing else is recorded (`serve_at`). On one thread the calls are `recorded_calls` of
+//!   `fc_record`. With workers, `GivesAnswer` of `fc_workers` has `IsRecorded` for the hook. A test shows that a logger
 //!   writes the record.
 //! - **The first serial** of a server rises with the time of its start: by 32 for each millisecond,
 //!   and by 2^24 for each second. So the numbers of Observe keep their order if a server is started

@@ -10,31 +10,33 @@ ghost use Rattle.fc_service.specs.Counting.{both_replies, replies_by, replies_of
 ghost use Rattle.fc_server.specs.Ingresses.{IngressCalls};
 ghost use Rattle.fc_store.specs.Stored.{blank_slot};
 ghost use Rattle.fc_service.specs.Pooled.{DrivesTo, IsFed, IsFedBeside, offload_where, locked_view, open_view, pooled_calls};
-ghost use Rattle.fc_workers.specs.Called.{worker_view};
-ghost use Rattle.fc_workers.specs.Closing.{HasCountedAll};
-ghost use Rattle.fc_workers.specs.Naming.{AreNamed};
-ghost use Rattle.fc_workers.specs.LegalOrder.{HaveSavedLegalOrder};
-ghost use Rattle.fc_workers.specs.Messages.{first_brought};
-ghost use Rattle.fc_workers.specs.OneOrder.{IsNewLog, logs_of};
+ghost use Rattle.fc_workers.specs.Views.{worker_view};
+ghost use Rattle.fc_locked.specs.Closing.{HasCountedAll};
+ghost use Rattle.fc_locked.specs.Naming.{AreNamed};
+ghost use Rattle.fc_locked.specs.LegalOrder.{HaveSavedLegalOrder};
+ghost use Rattle.fc_backend.specs.Messages.{first_brought};
+ghost use Rattle.fc_backend.specs.Logs.{IsNewLog};
+ghost use Rattle.fc_locked.specs.OneOrder.{logs_of};
 ghost use Rattle.fc_workers.specs.Producing.{HasRightOrder, IsRightWorker};
-ghost use Rattle.fc_workers.specs.SharedStores.{HasSaved};
+ghost use Rattle.fc_locked.specs.SharedStores.{HasSaved};
+ghost use Rattle.fc_record.specs.Recording.{IsRecorded};
 
 use crate::replies::Replies;
 use coap_msg::{Emission, Endpoint};
+use fc_backend::{
+    Bench, CallLog, Device, Gate, JobKeys, JobMessage, Share, ShareOf, TimeSource, TrackLog, Wire,
+};
 use fc_core::{FrontGauges, Handled};
 use fc_filed::NewServerBook;
+use fc_locked::{Blanks, Books, ClosedServer, Locked, ReadyStore, ServerOf, Tallies, Unassigned};
 use fc_observe::Ticked;
-use fc_record::{RecordedBench, Recorder};
+use fc_record::{Recorder, RecordingGate};
 use fc_registry::{PLACES, SlotNumber};
 use fc_server::FirstServer;
 pub use fc_server::Ingress;
 use fc_server::engine::{FireOutcome, NotifyOutcome};
 use fc_store::{NoStore, Store};
-use fc_workers::{
-    Bench, Blanks, Books, CallLog, ClosedServer, Context, Device, Dispatcher, Gate, JobKeys,
-    JobMessage, Locked, Offload, ReadyStore, ServerOf, Share, ShareOf, Tallies, TimeSource,
-    TrackLog, Unassigned, Wire, drive_workers, make_seats,
-};
+use fc_workers::{Context, Dispatcher, Offload, drive_workers, make_seats};
 use std::alloc::{AllocError, Global};
 use std::io::Write;
 use std::marker::{Brand, Model};
@@ -102,7 +104,7 @@ impl<'a, 'b, R: Wait, B: Bench, G: Gate, W: Wire, M: TimeSource> PooledIngress<
 
 impl<'a, 'b, R: Wait, B: Bench, G: Gate, W: Wire, M: TimeSource> Ingress
     for PooledIngress<'a, 'b, R, B, G, W, M> {
-    ghost calls = { pooled_calls (worker_view B.changes B.ended B.called B.logged M.is_time M.is_random G.passed W.called) };
+    ghost calls = { pooled_calls (worker_view B.changes B.ended B.called B.logged M.is_time M.is_random G.passed G.answered W.called) };
 
     // Counts the job that a datagram produced.
     fn handle(&mut self, now: u64, from: Endpoint, bytes: &[u8], reply: &mut Emission) -> Handled {
@@ -242,18 +244,6 @@ pub struct Pool<'a, W: Wire, M: TimeSource, D: Device, C: Recorder> {
     pub recorder: &'a C,
 }
 
-// A test hook that delays no job.
-#[derive(Drop)]
-struct Open;
-
-impl Gate for Open {
-    fn between<R: Wait>(&self, rt: &R, number: u64, log: &mut CallLog) {
-        let _ = rt;
-        let _ = number;
-        let _ = log;
-    }
-}
-
 /// Returns the store of a server whose changes aren't saved. Each of its slots is blank.
 pub fn no_store() -> ReadyStore<NoStore>
     ensures { (n : ℕ) → ⟦<NoStore as Store>⟧.stored result n ≡ blank_slot }
@@ -347,11 +337,7 @@ fn run_named<
         logs,
         keys,
     } = begin::<B, D, K>(alloc, pool.workers, pool.device, store, blanks, book)?;
-    let bench = RecordedBench {
-        bench: &server,
-        recorder: pool.recorder,
-    };
-    let ended = run_at(rt, alloc, err, pool, &bench, tallies, logs, keys, driver)?;
+    let ended = run_at(rt, alloc, err, pool, &server, tallies, logs, keys, driver)?;
     Ok(close(server, unassigned, ended))
 }
 
@@ -459,7 +445,7 @@ where
     ensures shares { IfOk result (λ ended. vec_len ended.shares + 1 ≡ vec_len tallies) }
     ensures right { IfOk result (λ ended. All (λ s. IsRightWorker B.Book.first_job s.log) ended.shares.items) }
     ensures order { IfOk result (λ ended. HasRightOrder B.Book.first_job ended.own.log) }
-    ensures fed { let worker_view = open_view B.changes B.ended B.called B.logged M.is_time M.is_random W.called in
+    ensures fed { let worker_view = open_view B.changes B.ended B.called B.logged M.is_time M.is_random (IsRecorded C.recorded) W.called in
         IfOk result (λ ended. IsFed worker_view B.Book.first_job (F.drives _) (offload_where ended.has_workers pool.now.offload) driver ended.given ended.own ended.shares.items) }
 {
     let (jobs, sent, mut seats) = make_seats(alloc, tallies, logs)?;
@@ -470,10 +456,13 @@ where
         wire: pool.wire,
         ended: AtomicU64::new(0),
     };
+    let gate = RecordingGate {
+        recorder: pool.recorder,
+    };
     let context = Context {
         alloc,
         bench,
-        gate: &Open,
+        gate: &gate,
         wire: &wire,
         times: pool.times,
     };
@@ -489,7 +478,7 @@ where
             requires got { own.got ≡ nothing_got channel.now }
             requires new_log { IsNewLog own.log }
             requires keys { keys ≡ first_brought B.Book.first_job }
-            ensures { let worker_view = open_view B.changes B.ended B.called B.logged M.is_time M.is_random W.called in
+            ensures { let worker_view = open_view B.changes B.ended B.called B.logged M.is_time M.is_random (IsRecorded C.recorded) W.called in
                 DrivesTo worker_view B.Book.first_job (F.drives _) channel.entry.now (offload_where result.1 offload) driver result.0 result.2 × HasRightOrder B.Book.first_job result.2.log }
         {
             if !has_workers {

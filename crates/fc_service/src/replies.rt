@@ -2,7 +2,7 @@
 ghost use Rattle.std.specs.Prelude.{◌≡◌};
 ghost use Rattle.fc_service.specs.Counting.{both_replies, counted, no_replies, replies_by, replies_of};
 
-use fc_workers::{CallLog, Share};
+use fc_backend::{CallLog, Share};
 use std::fmt;
 
 /// The number of sent replies, and the number of replies that couldn't be sent.

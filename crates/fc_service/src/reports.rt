@@ -7,10 +7,10 @@ use crate::replies::Replies;
 use crate::reporting::{Reporting, Through};
 use crate::rounds::{Preparation, run_rounds};
 use coap_msg::Emission;
+use fc_backend::{CallLog, TimeSource};
 use fc_host::socket::{Sink, Source};
 use fc_record::Reporter;
 use fc_server::Ingress;
-use fc_workers::{CallLog, TimeSource};
 use std::sync::Wait;
 
 /// The reporter of a server, and the period of its reports in milliseconds.

@@ -10,12 +10,12 @@ ghost use Rattle.fc_service.specs.Traffic.{Sends};
 
 use crate::replies::{Replies, SentReplies};
 use coap_msg::{Emission, Endpoint};
+use fc_backend::{CallLog, TimeSource};
 use fc_core::front::blank_emission;
 use fc_host::socket::{BUFFER, SHORTEST_WAIT, Sink, Source};
 use fc_server::Ingress;
 use fc_server::flush::{Flushing, STEPS, idle_until};
 use fc_server::ingress::is_reply;
-use fc_workers::{CallLog, TimeSource};
 use std::sync::Wait;
 
 /// Work on an ingress at the start of a round.

@@ -14,10 +14,10 @@ ghost use Rattle.fc_store.specs.Updates.{AreSameSlots, program_after};
 
 use crate::serials::{serial_of_start, serial_over};
 use fc_core::Policy;
+use fc_locked::ReadyStore;
 use fc_registry::{StartError, raise_serials};
 use fc_server::{Begin, FirstServer};
 use fc_store::{NoStore, ProgramUpdate, SlotUpdate, Store, StoredProgram, StoredSlot, copy_slots};
-use fc_workers::ReadyStore;
 use std::alloc::{AllocError, Global};
 use std::marker::Model;
 

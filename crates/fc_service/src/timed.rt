@@ -8,11 +8,11 @@ use crate::replies::Replies;
 use crate::reports::{Reports, run_reported};
 use crate::rounds::Preparation;
 use crate::timer_jobs::TimerJobs;
+use fc_backend::TimeSource;
 use fc_host::socket::{Sink, Source};
 use fc_host::timer::Timer;
 use fc_record::Reporter;
 use fc_server::Ingress;
-use fc_workers::TimeSource;
 use std::sync::Wait;
 
 /// The timers of a server, and those of their jobs that workers have.

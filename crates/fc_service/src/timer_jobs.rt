@@ -1,7 +1,7 @@
 //! The jobs of timers that workers have.
 use coap_msg::Emission;
+use fc_backend::{CallLog, Wire};
 use fc_workers::dispatcher::UNSENT;
-use fc_workers::{CallLog, Wire};
 use std::alloc::{AllocError, Global};
 use std::sync::Wait;
 use std::sync::atomic::{AtomicU64, Ordering};

@@ -5,7 +5,7 @@ ghost use Rattle.fc_server.specs.States.{CanBegin};
 ghost use Rattle.fc_service.specs.Playing.{IsFedByLines, IsPlayedBeside};
 ghost use Rattle.fc_service.specs.Pooled.{offload_where};
 ghost use Rattle.fc_service.specs.declared.replies.Replies.{Replies as Counts};
-ghost use Rattle.fc_workers.specs.SharedStores.{HasSaved};
+ghost use Rattle.fc_locked.specs.SharedStores.{HasSaved};
 ghost use Rattle.fc_workers.specs.declared.dispatcher.Offload.TheVariants.{Every};
 
 use crate::lines::play_lines;

@@ -26,17 +26,16 @@ use Rattle.fc_jobs.specs.Ends.{with_got}
 use Rattle.fc_jobs.specs.declared.protocol.Numbered.{Numbered}
 use Rattle.fc_linear.specs.Operations.{Logged, Operation, is_for_job, part_of}
 use Rattle.fc_registry.specs.declared.job.Job.{Job}
-use Rattle.fc_workers.specs.Asked.{shard_called}
-use Rattle.fc_workers.specs.Called.{WorkerView}
+use Rattle.fc_backend.specs.Filed.{shard_called, HasFiled, HasSameTracks}
+use Rattle.fc_workers.specs.Views.{FilesCalls, WorkerView}
 use Rattle.fc_workers.specs.Deliveries.{Delivery, deliveries_in, delivery_by}
 use Rattle.fc_workers.specs.Dispatch.{AreSignalled, HasBegunNext, HasLeastCost, HasReadCost, IsDispatched, IsDispatchedUnder, IsDone, IsHandedOver, IsTakenIn, IsTimerFired, IsTurnAsked, IsTurnDone, IsWorkedHere, MayGo, MayHaveReadCost, MayHaveReadings, least_cost, logged_at, unsent}
-use Rattle.fc_workers.specs.Filed.{FilesCalls, HasFiled, HasSameTracks}
-use Rattle.fc_workers.specs.Logs.{TrackedLog}
-use Rattle.fc_workers.specs.Messages.{TrackedJob, with_tracks}
-use Rattle.fc_workers.specs.Producing.{with_new_track, without_job}
+use Rattle.fc_backend.specs.Logs.{TrackedLog}
+use Rattle.fc_backend.specs.Messages.{TrackedJob, with_tracks, with_new_track, without_job}
 use Rattle.fc_workers.specs.Shares.{AreTurns, IsTurn}
 use Rattle.fc_workers.specs.Work.{IsReplied}
-use Rattle.fc_workers.specs.Workers.{Dispatched, Share}
+use Rattle.fc_backend.specs.Statistics.{Share}
+use Rattle.fc_workers.specs.Workers.{Dispatched}
 use Rattle.fc_workers.specs.declared.dispatcher.Offload.{Offload}
 use Rattle.fc_workers.specs.declared.dispatcher.Offload.TheVariants.{ChangesAndExpensive, Never}
 use Rattle.fc_workers.proofs.Filed.{MayWork, replied_filed}

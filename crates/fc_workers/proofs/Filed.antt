@@ -31,13 +31,15 @@ use Rattle.fc_filed.specs.Saves.{program_update, refused_save, update_of}
 use Rattle.fc_filed.specs.Threads.{HasJobFirst, HasOwnTrack, key_of_first}
 use Rattle.fc_filed.proofs.JobTracks.{at_next, files_more, files_none, files_one, led_right, still_first, still_own}
 use Rattle.fc_filed.proofs.Sent.{same_or_not}
-use Rattle.fc_workers.specs.declared.call_log.CallLog.{CallLog}
-use Rattle.fc_workers.specs.Called.{BenchCall, EndsJob, SendsReply, WireCall, WorkerView, worker_view}
-use Rattle.fc_workers.specs.Filed.{FilesCalls, FilesEach, HasFiled, HasFiledChange, HasFiledFor, HasFiledWith, HasRightJobs, HasSameTracks}
-use Rattle.fc_workers.specs.Logs.{FilesRefusal, IsUnfiled, TrackedLog}
+use Rattle.fc_backend.specs.declared.call_log.CallLog.{CallLog}
+use Rattle.fc_backend.specs.Called.{BenchCall, EndsJob, SendsReply, WireCall}
+use Rattle.fc_workers.specs.Views.{WorkerView, worker_view, FilesCalls, HasFiledFor}
+use Rattle.fc_backend.specs.Filed.{FilesEach, HasFiled, HasFiledChange, HasFiledWith, HasSameTracks}
+use Rattle.fc_backend.specs.RightTracks.{HasRightJobs}
+use Rattle.fc_backend.specs.Logs.{FilesRefusal, IsUnfiled, TrackedLog}
 use Rattle.fc_workers.specs.Outgoing.{GivesAnswer, IsFoundTold, IsGivenUp, IsSent, IsTurnReply, with_reply}
 use Rattle.fc_workers.specs.Work.{AreCalls, IsCallOf, IsChangeRefused, IsReplied, IsRequestWorked, IsTurnWorked, IsWorked, IsWorkedAs, stage_after}
-use Rattle.fc_workers.specs.Workers.{Share}
+use Rattle.fc_backend.specs.Statistics.{Share}
 
 -- ---- the tracks of a log that makes calls for a job
 
@@ -104,7 +106,7 @@ module _ (first_job : ℕ) (job : Job) where
 
     refused_filed : (number : ℕ) (needs stage : Stage) (before after : TrackedLog) → MayWork first_job before → stage ≡ needs → IsChangeRefused w number job needs before after → Files stage (ToAnswer Unavailable) before after
     refused_filed number (ToCommit count t) stage before after may at is =
-        after_none stage (ToAnswer Unavailable) before is.passed after (files.gate number before is.passed is.gate) may
+        after_none stage (ToAnswer Unavailable) before is.passed after (files.between number before is.passed is.gate) may
         (λ m. after_none stage (ToAnswer Unavailable) is.passed is.asked after (files.time is.now is.passed is.asked is.time) m
         (λ n. one_refusal (Wrote (commit_of t)) [] stage is.asked after n is.filed (λ slot. (count, (t, (at, is.wants, refl))))))
     refused_filed number ToRemove stage before after may at is = one_refusal Removed [] stage before after may is.1 (λ slot. at)
@@ -120,7 +122,7 @@ module _ (first_job : ℕ) (job : Job) where
         (λ m. one (Logged (TakesForJob job is.readings taken)) stage (next_stage (Takes count taken)) is.log after m
         (files.logged (TakesForJob job is.readings taken) is.log after is.takes) (refl, inl (count, at, refl)))
     call_filed number (Commits count t committed) stage before after may at is =
-        after_none stage (next_stage (Commits count t committed)) before is.passed after (files.gate number before is.passed is.gate) may
+        after_none stage (next_stage (Commits count t committed)) before is.passed after (files.between number before is.passed is.gate) may
         (λ m. after_none stage (next_stage (Commits count t committed)) is.passed is.asked after (files.time is.now is.passed is.asked is.time) m
         (λ n. one_change (Logged (CommitsRun is.now (run_of t) t committed)) stage (next_stage (Commits count t committed)) is.asked after n
         (files.logged (CommitsRun is.now (run_of t) t committed) is.asked after is.commits) (refl, (count, at, refl))))
@@ -156,7 +158,9 @@ module _ (first_job : ℕ) (job : Job) where
     answer_filed : (content : Content) (reply : Option Emission) (before after : TrackedLog) → MayWork first_job before → GivesAnswer w job content reply before after → Files (ToAnswer content) Gone before after
     answer_filed content reply before after may is =
         after_none (ToAnswer content) Gone before is.asked after (files.time is.now before is.asked is.time) may
-        (λ m. one (Logged (AnswersRequest is.now job content reply)) (ToAnswer content) Gone is.asked after m (files.logged (AnswersRequest is.now job content reply) is.asked after is.answers) (refl, refl, refl))
+        (λ m. after_one (Logged (AnswersRequest is.now job content reply)) (ToAnswer content) Gone Gone is.asked is.log after
+        (files.logged (AnswersRequest is.now job content reply) is.asked is.log is.answers) (refl, refl, refl) m
+        (λ n. none Gone is.log after (files.after_answer job reply is.log after is.after_answer)))
 
     request_filed : (number : ℕ) (before after : Share T) (reply : Option Emission) → MayWork first_job before.log → IsRequestWorked w number job before after reply → Files (asked_stage job) Gone before.log after.log
     request_filed number before after reply may is =
@@ -261,10 +265,12 @@ unfiled Leads before after is = record { who = ap (λ (l : TrackedLog). l.who) i
 
 -- a worker of a backend files each of its logged calls, and no others.
 pub bench_files : {T : Type 0} (changes : T → ℕ → ℕ) (ended : T → ℕ) (bench : BenchCall → Type 0) (logged : LoggedCall → TrackedLog → TrackedLog → Type 0) (time : ℕ → CallLog → CallLog → Type 0)
-    (random : ℕ → Type 0) (gate : ℕ → CallLog → CallLog → Type 0) (wire : WireCall → CallLog → CallLog → Type 0) → FilesEach logged → FilesCalls (worker_view changes ended bench logged time random gate wire)
-bench_files changes ended bench logged time random gate wire files = record {
+    (random : ℕ → Type 0) (gate : ℕ → CallLog → CallLog → Type 0) (answered : Job → Option Emission → CallLog → CallLog → Type 0) (wire : WireCall → CallLog → CallLog → Type 0)
+    → FilesEach logged → FilesCalls (worker_view changes ended bench logged time random gate answered wire)
+bench_files changes ended bench logged time random gate answered wire files = record {
   logged = files;
   time = λ now before after is. unfiled (time now) before after is;
-  gate = λ number before after is. unfiled (gate number) before after is;
+  between = λ number before after is. unfiled (gate number) before after is;
+  after_answer = λ job sent before after is. unfiled (answered job sent) before after is;
   wire = λ call before after is. unfiled (wire call) before after is;
 }

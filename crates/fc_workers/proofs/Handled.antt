@@ -9,14 +9,13 @@ use Rattle.fc_core.specs.Timers.{timer_job}
 use Rattle.fc_core.specs.declared.by_value.Delivered.{Delivered}
 use Rattle.fc_calls.specs.Logged.{AdvancesFront, AdvancesIdle, AdvancesShard, FiresTimer, GivesReadings, GivesTurn, HandlesDatagram, HandsSignal, ReadsCost, SkipsIdle}
 use Rattle.fc_linear.specs.Operations.{Logged, job_in}
-use Rattle.fc_workers.specs.Asked.{shard_called}
-use Rattle.fc_workers.specs.Called.{WorkerView}
+use Rattle.fc_backend.specs.Filed.{shard_called, FilesEach}
+use Rattle.fc_workers.specs.Views.{WorkerView}
 use Rattle.fc_jobs.specs.Ends.{Sent}
 use Rattle.fc_workers.specs.Dispatch.{AreSignalled, HasLeastCost, HasReadCost, IsDispatched, IsHandedOver, IsWorkedHere, MayGo, MayHaveReadCost, MayHaveReadings, WithNext, least_cost}
-use Rattle.fc_workers.specs.Filed.{FilesEach}
-use Rattle.fc_workers.specs.Logs.{TrackedLog}
-use Rattle.fc_workers.specs.Messages.{TrackedJob}
-use Rattle.fc_workers.specs.Producing.{HasProduced, MayProduce, first_tracked}
+use Rattle.fc_backend.specs.Logs.{TrackedLog}
+use Rattle.fc_backend.specs.Messages.{TrackedJob, first_tracked}
+use Rattle.fc_workers.specs.Producing.{HasProduced, MayProduce}
 use Rattle.fc_workers.specs.Workers.{Dispatched}
 use Rattle.fc_workers.specs.declared.dispatcher.Offload.{Offload}
 use Rattle.fc_workers.specs.declared.dispatcher.Offload.TheVariants.{ChangesAndExpensive, Never}

@@ -1,14 +1,13 @@
 -- The calls of a thread that produces jobs keep its tracks right, and their keys in order.
-use Rattle.std.proofs.Common.{◌≡◌, ◌⊎◌, ℕ, ◌+◌, ◌<◌, ◌≤◌, Bool, true, false, if◌then◌else◌, List, [], ◌∷◌, ◌++◌, length, Option, Some, None, refl, sym, ap, ◌∙◌, subst, ⊎_elim, inl, inr, arith, length-append}
+use Rattle.std.proofs.Common.{◌≡◌, ◌⊎◌, ℕ, ◌+◌, ◌<◌, ◌≤◌, Bool, true, false, if◌then◌else◌, List, [], ◌∷◌, ◌++◌, length, Option, Some, refl, sym, ap, ◌∙◌, subst, ⊎_elim, inl, inr, arith, length-append}
 use Rattle.std.specs.Prelude.{◌==◌, ◌||◌, is_some}
 use Rattle.std.specs.List.{All}
 use Rattle.std.proofs.lemmas.Bool.Decides.{nat_tests}
 use Rattle.std.proofs.lemmas.List.Elements.{All-nil, All-push}
 use Rattle.fc_book.specs.declared.view.Track.{Track}
 use Rattle.fc_book.specs.declared.view.BookView.{BookView}
-use Rattle.fc_book.specs.Tracks.{AreSingle, HasKey, entries_at, entries_of, entries_with, first_own, first_track, is_on, merged_with, other_tracks, own_view, track, with_entry, without_first}
+use Rattle.fc_book.specs.Tracks.{AreSingle, HasKey, entries_at, entries_of, entries_with, first_own, first_track, is_on, other_tracks, track, with_entry, without_first}
 use Rattle.fc_book.proofs.Keys.{has-with, is_off, keeps-key}
-use Rattle.fc_book.proofs.Owners.{has_right}
 use Rattle.fc_registry.specs.declared.job.Job.{Job}
 use Rattle.fc_core.specs.Stages.{first_stage}
 use Rattle.fc_linear.specs.Operations.{IsOfServer, LogEntry, Operation, is_for_job, job_brought, part_of}
@@ -21,18 +20,16 @@ use Rattle.fc_filed.specs.Threads.{HasJobFirst, HasOwnTrack, entry_by, key_of_fi
 use Rattle.fc_filed.proofs.JobTracks.{at_off, at_with, first_grows, first_stays, led_right, on_second, on_third}
 use Rattle.fc_filed.proofs.Keyed.{low_of, part_below}
 use Rattle.fc_filed.proofs.Sent.{same_or_not}
-use Rattle.fc_workers.specs.Called.{WorkerView}
-use Rattle.fc_workers.specs.Filed.{FilesCalls, HasFiled, HasRightJobs, HasSameTracks}
-use Rattle.fc_workers.specs.LegalOrder.{FilesFrom, IsFrom, brought_in}
-use Rattle.fc_workers.specs.Logs.{MayFileAll, TrackedLog}
-use Rattle.fc_workers.specs.Messages.{IsNewJob, TrackedJob, first_brought, with_tracks}
-use Rattle.fc_workers.specs.OneOrder.{IsNewLog, filed_in}
-use Rattle.fc_workers.specs.Producing.{HasDispatched, HasProduced, HasRightOrder, MayProduce, first_tracked, next_brought, with_new_track, without_job}
-use Rattle.fc_workers.specs.Received.{KeepsRightJobs}
+use Rattle.fc_workers.specs.Views.{WorkerView, FilesCalls}
+use Rattle.fc_backend.specs.Filed.{HasFiled, HasSameTracks}
+use Rattle.fc_backend.specs.RightTracks.{HasRightJobs, FilesFrom, IsFrom, brought_in, filed_in}
+use Rattle.fc_backend.specs.Logs.{MayFileAll, TrackedLog, IsNewLog}
+use Rattle.fc_backend.specs.Messages.{IsNewJob, first_brought, with_tracks, first_tracked, with_new_track, without_job}
+use Rattle.fc_workers.specs.Producing.{HasDispatched, HasProduced, HasRightOrder, MayProduce, next_brought}
 use Rattle.fc_workers.specs.Work.{IsReplied}
-use Rattle.fc_workers.specs.Workers.{Share}
+use Rattle.fc_backend.specs.Statistics.{Share}
 use Rattle.fc_workers.proofs.Filed.{at_first}
-use Rattle.fc_workers.proofs.Received.{at_lower, bringing_more, moved_at, new_at, worked_first, worked_kept}
+use Rattle.fc_workers.proofs.Received.{at_lower, bringing_more, new_at, worked_first, worked_kept}
 
 -- ---- lists
 
@@ -319,16 +316,6 @@ sent_keeps first_job job log new rest h = record {
   begins_none = h.begins_none;
 }
 
-pub merged_keeps : (first_job who : ℕ) (v w : BookView FiledEntry) → first_job ≤ key_of_first (w.own ++ v.own) → MayFileAll first_job who v → MayFileAll first_job who (merged_with v w)
-merged_keeps first_job who v w le h = record {
-  thread = record { key = h.thread.key; own = has_right who w.own v.own h.thread.own };
-  job = le;
-  begins_none = h.begins_none;
-}
-
-pub received_keeps : (first_job who : ℕ) (v : BookView FiledEntry) (m : TrackedJob) → IsNewJob first_job m → MayFileAll first_job who v → MayFileAll first_job who (merged_with v m.tracks)
-received_keeps first_job who v m new h = merged_keeps first_job who v m.tracks (moved_at first_job m.job (first_stage m.job) v m.tracks (at_lower first_job m.job (first_stage m.job) m.tracks (new_at first_job m new))).key h
-
 module _ (first_job next : ℕ) (job : Job) where
   pub sent_away : (log : TrackedLog) → AreSingle log.tracks.own → HasProduced first_job next job log → HasDispatched first_job next (without_job log)
   sent_away log single h =
@@ -419,16 +406,3 @@ new_dispatched first_job log new own first =
       first = first;
       next = let none_in = ap (λ (es : List LogEntry). length es) none in omega (arith, none_in);
     }
-
--- the thread may still file each call after the next job's track has begun.
-pub begun_keeps : (first_job who : ℕ) (v after w : BookView FiledEntry) (key : ℕ) → after ≡ merged_with v w → w ≡ own_view key [] → first_brought first_job ≤ key → MayFileAll first_job who v → MayFileAll first_job who after
-begun_keeps first_job who v after w key is new above h =
-    subst (λ (x : BookView FiledEntry). MayFileAll first_job who x) (sym (is ∙ ap (λ (x : BookView FiledEntry). merged_with v x) new)) (merged_keeps first_job who v (own_view key []) (omega (arith, above)) h)
-
--- nothing is filed on a track that has just begun.
-pub new_with : (key : ℕ) (log : TrackedLog) → IsNewLog log → IsNewLog (with_new_track key log)
-new_with key log new k = none_of (key == k)
-  where
-    none_of : (b : Bool) → (if b then [] else entries_at k log.tracks.own) ≡ []
-    none_of true = refl
-    none_of false = new k

@@ -22,16 +22,14 @@ use Rattle.fc_filed.specs.Threads.{HasJobFirst, HasOwnTrack, key_of_first}
 use Rattle.fc_filed.proofs.JobTracks.{led_right, of_old_job}
 use Rattle.fc_jobs.specs.Ends.{with_got}
 use Rattle.fc_jobs.specs.declared.protocol.Numbered.{Numbered}
-use Rattle.fc_workers.specs.Called.{WorkerView}
-use Rattle.fc_workers.specs.Filed.{FilesCalls, HasFiledFor, HasRightJobs}
-use Rattle.fc_workers.specs.LegalOrder.{FilesFrom, IsFrom}
-use Rattle.fc_workers.specs.OneOrder.{filed_in}
-use Rattle.fc_workers.specs.Logs.{TrackedLog}
-use Rattle.fc_workers.specs.Messages.{IsNewJob, TrackedJob, first_brought, with_tracks}
+use Rattle.fc_workers.specs.Views.{WorkerView, FilesCalls, HasFiledFor}
+use Rattle.fc_backend.specs.RightTracks.{HasRightJobs, FilesFrom, IsFrom, filed_in}
+use Rattle.fc_backend.specs.Logs.{TrackedLog}
+use Rattle.fc_backend.specs.Messages.{IsNewJob, TrackedJob, first_brought, with_tracks}
 use Rattle.fc_workers.specs.Received.{KeepsRightJobs}
 use Rattle.fc_workers.specs.Shares.{AreTurns, IsTurn}
 use Rattle.fc_workers.specs.Work.{IsReplied}
-use Rattle.fc_workers.specs.Workers.{Share}
+use Rattle.fc_backend.specs.Statistics.{Share}
 use Rattle.fc_workers.proofs.Filed.{right_after}
 
 -- ---- the operations of a job that came before produce no job

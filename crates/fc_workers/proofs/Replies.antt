@@ -11,11 +11,12 @@ use Rattle.fc_registry.specs.Taken.{Given, Missing, Stale, Refused}
 use Rattle.fc_registry.specs.Calls.{turn_of}
 use Rattle.fc_registry.specs.Notes.{sent_of}
 use Rattle.fc_registry.specs.Slots.{Ticket}
-use Rattle.fc_workers.specs.Workers.{Share}
-use Rattle.fc_workers.specs.Answers.{IsSomeNote}
-use Rattle.fc_workers.specs.Logs.{TrackedLog}
-use Rattle.fc_workers.specs.Called.{SendsReply, WorkerView}
-use Rattle.fc_workers.specs.Outgoing.{IsNote, GoesOut, IsFoundTold, IsSent, IsTurnReply, with_reply}
+use Rattle.fc_backend.specs.Statistics.{Share}
+use Rattle.fc_backend.specs.Answers.{IsSomeNote, IsNote, GoesOut}
+use Rattle.fc_backend.specs.Logs.{TrackedLog}
+use Rattle.fc_backend.specs.Called.{SendsReply}
+use Rattle.fc_workers.specs.Views.{WorkerView}
+use Rattle.fc_workers.specs.Outgoing.{IsFoundTold, IsSent, IsTurnReply, with_reply}
 use Rattle.fc_workers.specs.Work.{IsWorked, IsWorkedAs}
 
 nothing_out : {A : Type 0} (e : Emission) → Some e ≡ None → A

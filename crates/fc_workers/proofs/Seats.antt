@@ -1,13 +1,13 @@
 -- Lists of which one item was popped or pushed, and the logs of worker seeds.
 use Rattle.std.proofs.Common.{◌≡◌, ◌∙◌, ℕ, ◌+◌, ◌-◌, List, [], ◌∷◌, ◌++◌, length, map, take, ap, subst, sym, arith}
-use Rattle.std.specs.Prelude.{get_or, reverse}
+use Rattle.std.specs.Prelude.{reverse}
 use Rattle.std.specs.List.{All}
-use Rattle.std.proofs.lemmas.List.{append_assoc, get_or-reverse, length-reverse, reverse-append, take_all, take_more}
+use Rattle.std.proofs.lemmas.List.{append_assoc, get_or-reverse, length-reverse, reverse-append}
 use Rattle.std.proofs.lemmas.List.Elements.{All-cons, All-nil, All-push, All-tail, All-take}
-use Rattle.fc_workers.specs.Logs.{TrackedLog}
-use Rattle.fc_workers.specs.OneOrder.{IsNewLog}
-use Rattle.fc_workers.specs.Workers.{Share, WorkerSeed}
-use Rattle.fc_workers.specs.Called.{WorkerView}
+use Rattle.fc_backend.specs.Logs.{TrackedLog, IsNewLog}
+use Rattle.fc_backend.specs.Statistics.{Share}
+use Rattle.fc_workers.specs.Workers.{WorkerSeed}
+use Rattle.fc_workers.specs.Views.{WorkerView}
 use Rattle.fc_workers.specs.Shares.{IsShareOf}
 
 pub all_popped : {X : Type 0} (P : X → Type 0) (n : ℕ) (xs : List X) {ys : List X} → ys ≡ take n xs → All P xs → All P ys
@@ -15,10 +15,6 @@ all_popped {X} P n xs {ys} e all = subst (λ (l : List X). All P l) (sym e) (All
 
 pub all_pushed : {X : Type 0} (P : X → Type 0) (xs : List X) {ys : List X} (x : X) → ys ≡ xs ++ x ∷ [] → All P xs → P x → All P ys
 all_pushed {X} P xs {ys} x e all here = subst (λ (l : List X). All P l) (sym e) (All-push P xs x all here)
-
-pub last_popped : {X : Type 0} (xs : List X) (n : ℕ) (x : X) {ys : List X} → ys ≡ take n xs → n + 1 ≡ length xs → x ≡ get_or xs n x → xs ≡ ys ++ x ∷ []
-last_popped xs n x {ys} rest count is =
-    sym (take_all (n + 1) xs (omega (arith, count))) ∙ (take_more xs n x (omega (arith, count)) ∙ (λ i. sym rest i ++ sym is i ∷ []))
 
 -- moving the last item of xs to the end of another list keeps that list followed by the reverse of
 -- xs.

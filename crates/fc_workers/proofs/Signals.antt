@@ -1,9 +1,9 @@
 -- A signal that is passed to one shard after the other.
 use Rattle.std.proofs.Common.{ℕ, ◌+◌, suc, Bool, refl, arith, subst}
 use Rattle.coap_msg.specs.declared.types.Endpoint.{Endpoint}
-use Rattle.fc_workers.specs.Logs.{TrackedLog}
+use Rattle.fc_backend.specs.Logs.{TrackedLog}
 use Rattle.fc_calls.specs.Logged.{HandsSignal}
-use Rattle.fc_workers.specs.Called.{WorkerView}
+use Rattle.fc_workers.specs.Views.{WorkerView}
 use Rattle.fc_workers.specs.Dispatch.{AreSignalled}
 
 -- with an unchanged log, the signal was passed to none of the shards.

@@ -39,14 +39,14 @@ use Rattle.fc_core.specs.Ends.{refused, refused_by}
 use Rattle.fc_core.specs.Fits.{IsSafe}
 use Rattle.fc_core.specs.Stages.{asked_stage, first_by, image_of, listed, matched, matched_by, run_content, removed, receipt_content, took, after_commit, made, snapshots}
 use Rattle.fc_core.specs.Steps.{Call, Takes, Commits, Installs, Lists, Matches, Rejects, Refuses, RefusesChange, Removes, Describes, Raises}
-use Rattle.fc_workers.specs.Workers.{Share}
-use Rattle.fc_workers.specs.Answers.{AreTallied, commit_overtakings, ended_by, saturated, snapshot_refusals, IsSnapshotWith, IsSomeInstall, IsSomeReceipt, IsSomeRemoval, IsSomeSnapshot}
+use Rattle.fc_backend.specs.Statistics.{Share}
+use Rattle.fc_backend.specs.Answers.{AreTallied, commit_overtakings, ended_by, saturated, snapshot_refusals, IsSnapshotWith, IsSomeInstall, IsSomeReceipt, IsSomeRemoval, IsSomeSnapshot}
 use Rattle.fc_calls.specs.Kept.{commit_changes, install_changes, removal_changes}
-use Rattle.fc_workers.specs.Logs.{TrackedLog}
+use Rattle.fc_backend.specs.Logs.{TrackedLog}
 use Rattle.fc_calls.specs.Logged.{InstallsProgram, LoggedCall, LooksAt, RaisesWord, RemovesProgram, TellsReceipt}
 use Rattle.fc_linear.specs.Operations.{RejectsImage}
-use Rattle.fc_workers.specs.Called.{WorkerView}
-use Rattle.fc_workers.specs.Filed.{HasFiled}
+use Rattle.fc_workers.specs.Views.{WorkerView}
+use Rattle.fc_backend.specs.Filed.{HasFiled}
 use Rattle.fc_workers.specs.Steps.{AreSeen, AsksRun, Follows, IsPlainRun, IsReady, IsStep, ListsOn, Walked, taken_at}
 use Rattle.fc_workers.specs.Work.{AreCalls, IsCallAt, IsChangeRefused, IsCommitted, IsInstallRefused, IsWorkedOff, HasCounted, stage_after, change_by, overtaking_by, refusal_by, snapshots_made, total}
 

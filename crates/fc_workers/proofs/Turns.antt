@@ -5,9 +5,9 @@ use Rattle.std.proofs.lemmas.List.{append-nil, append_assoc}
 use Rattle.std.proofs.lemmas.Grind.{reverse_onto}
 use Rattle.fc_jobs.specs.Ends.{Got, with_got}
 use Rattle.fc_jobs.specs.declared.protocol.Numbered.{Numbered}
-use Rattle.fc_workers.specs.Messages.{TrackedJob}
-use Rattle.fc_workers.specs.Workers.{Share}
-use Rattle.fc_workers.specs.Called.{WorkerView}
+use Rattle.fc_backend.specs.Messages.{TrackedJob}
+use Rattle.fc_backend.specs.Statistics.{Share}
+use Rattle.fc_workers.specs.Views.{WorkerView}
 use Rattle.fc_workers.specs.Shares.{AreTurns, HasEnded, IsTurn}
 
 no_turns : {T : Type 0} (first_job : ℕ) (worker_view : WorkerView T) (s : Share T) → AreTurns first_job worker_view [] s s

@@ -21,13 +21,13 @@ use Rattle.fc_registry.specs.declared.job.Ask.{Ask}
 use Rattle.fc_registry.specs.declared.job.Ask.TheVariants.{Run, Install, Remove, Describe, Discover}
 use Rattle.fc_registry.specs.declared.job.Job.{Job}
 use Rattle.fc_calls.specs.Kept.{commit_changes}
-use Rattle.fc_workers.specs.Answers.{IsSomeCommit, IsSomeSnapshot}
-use Rattle.fc_workers.specs.Called.{WorkerView}
+use Rattle.fc_backend.specs.Answers.{IsSomeCommit, IsSomeSnapshot}
+use Rattle.fc_workers.specs.Views.{WorkerView}
 use Rattle.fc_workers.specs.Dispatch.{may_change_slot, requests_change}
-use Rattle.fc_workers.specs.Logs.{TrackedLog}
+use Rattle.fc_backend.specs.Logs.{TrackedLog}
 use Rattle.fc_workers.specs.Outgoing.{IsSent, with_reply}
 use Rattle.fc_workers.specs.Work.{AreCalls, IsCallOf, IsReplied, IsWorkedAs, change_by, stage_after, total}
-use Rattle.fc_workers.specs.Workers.{Share}
+use Rattle.fc_backend.specs.Statistics.{Share}
 
 -- ---- stages
 

@@ -15,11 +15,12 @@ use Rattle.fc_registry.specs.declared.job.Ask.TheVariants.{Run, Install, Remove,
 use Rattle.fc_registry.specs.declared.job.Job.{Job}
 use Rattle.fc_workers.specs.declared.dispatcher.Offload.{Offload}
 use Rattle.fc_workers.specs.declared.dispatcher.Offload.TheVariants.{Expensive, ChangesAndExpensive, Never}
-use Rattle.fc_workers.specs.Logs.{TrackedLog}
-use Rattle.fc_workers.specs.Answers.{IsSomeDelivery, IsSomeIdle, IsSomeTurn, saturated}
+use Rattle.fc_backend.specs.Logs.{TrackedLog}
+use Rattle.fc_backend.specs.Answers.{IsSomeDelivery, IsSomeIdle, IsSomeTurn, saturated}
 use Rattle.fc_calls.specs.Logged.{AdvancesIdle, FiresTimer, GivesReadings, GivesTurn, HandsSignal, HandlesDatagram, ReadsCost, SkipsIdle}
-use Rattle.fc_workers.specs.Called.{FindsSaving, WorkerView}
-use Rattle.fc_workers.specs.Producing.{first_tracked, with_new_track, without_job}
+use Rattle.fc_backend.specs.Called.{FindsSaving}
+use Rattle.fc_workers.specs.Views.{WorkerView}
+use Rattle.fc_backend.specs.Messages.{first_tracked, with_new_track, without_job}
 use Rattle.fc_workers.specs.Steps.{AsksRun, IsPlainRun}
 use Rattle.fc_workers.specs.Work.{IsReplied}
 use Rattle.fc_workers.specs.Workers.{Dispatched}

@@ -4,7 +4,6 @@ use Rattle.coap_msg.specs.declared.types.Emission.{Emission}
 use Rattle.fc_observe.specs.declared.entry.Turn.{Turn}
 use Rattle.fc_registry.specs.declared.job.Job.{Job}
 use Rattle.fc_registry.specs.declared.note.Noted.{Noted}
-use Rattle.fc_registry.specs.declared.note.Noted.TheVariants.{Send}
 use Rattle.fc_registry.specs.declared.note.Notification.{Notification}
 use Rattle.fc_registry.specs.Taken.{Taken}
 use Rattle.fc_registry.specs.Taken.{Given, Missing, Stale, Refused}
@@ -12,11 +11,12 @@ use Rattle.fc_registry.specs.Notes.{sent_of}
 use Rattle.fc_registry.specs.Slots.{Ticket}
 use Rattle.fc_core.specs.Contents.{Content}
 use Rattle.fc_calls.specs.Doings.{SaysFound}
-use Rattle.fc_workers.specs.Workers.{Share}
-use Rattle.fc_workers.specs.Answers.{IsSomeAnswer, IsSomeDraw, IsSomeNote, saturated}
-use Rattle.fc_workers.specs.Logs.{TrackedLog}
+use Rattle.fc_backend.specs.Statistics.{Share}
+use Rattle.fc_backend.specs.Answers.{IsSomeAnswer, IsSomeDraw, IsSomeNote, saturated}
+use Rattle.fc_backend.specs.Logs.{TrackedLog}
 use Rattle.fc_calls.specs.Logged.{AnswersRequest, DrawsId, GivesUpTurn, NotesTurn}
-use Rattle.fc_workers.specs.Called.{SendsReply, WorkerView}
+use Rattle.fc_backend.specs.Called.{SendsReply}
+use Rattle.fc_workers.specs.Views.{WorkerView}
 
 -- statistics that count one more reply: as sent if it went out, otherwise as failed.
 abbrev pub with_reply : {T : Type 0} → Bool → Share T → Share T
@@ -26,13 +26,16 @@ module _ {T : Type 0} (s : WorkerView T) where
   -- ---- requests
 
   -- the time was requested, and then some front answered the job at that time. This reply, or
-  -- nothing, is to be sent.
+  -- nothing, is to be sent. The next call was the hook after the answer, once, with the job and this
+  -- reply.
   pub record GivesAnswer (job : Job) (content : Content) (reply : Option Emission) (before after : TrackedLog) : Type 0 where
     pub now : ℕ
     pub asked : TrackedLog
     pub time : s.time now before asked
-    pub answers : s.logged (AnswersRequest now job content reply) asked after
+    pub log : TrackedLog
+    pub answers : s.logged (AnswersRequest now job content reply) asked log
     pub answer : IsSomeAnswer now job content reply
+    pub after_answer : s.after_answer job reply log after
 
   -- ---- leases
 
@@ -103,24 +106,3 @@ module _ {T : Type 0} (s : WorkerView T) where
   IsSent number None before after = after ≡ before
   IsSent number (Some reply) before after =
       (out : Bool) × (log : TrackedLog) × s.wire (SendsReply number reply out) before.log log × (after ≡ with_reply out (record before { log = log }))
-
--- ---- replies
-
--- some front's answer to some job.
-pub record IsAnswer (emission : Emission) : Type 0 where
-  pub now : ℕ
-  pub job : Job
-  pub content : Content
-  pub answer : IsSomeAnswer now job content (Some emission)
-
--- some shard's notification to the observer of some lease.
-pub record IsNote (emission : Emission) : Type 0 where
-  pub now : ℕ
-  pub told : Notification
-  pub turn : Turn
-  pub id : ℕ
-  pub note : IsSomeNote now told turn id (Send emission)
-
--- an emission that a worker may send.
-abbrev pub GoesOut : Emission → Type 0
-GoesOut emission = IsAnswer emission ⊎ IsNote emission

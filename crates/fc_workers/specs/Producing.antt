@@ -1,26 +1,13 @@
 -- The tracks of the thread that produces a server's jobs: each is right, and their keys are in
 -- order.
 use Rattle.std.specs.Prelude.{◌≡◌, ℕ, ◌+◌, [], length}
-use Rattle.fc_book.specs.Tracks.{entries_of, first_own, own_view, without_first}
+use Rattle.fc_book.specs.Tracks.{entries_of, without_first}
 use Rattle.fc_registry.specs.declared.job.Job.{Job}
 use Rattle.fc_linear.specs.Parts.{HaveNextNumbers}
 use Rattle.fc_filed.specs.Threads.{HasJobFirst, HasOwnTrack, key_of_first}
-use Rattle.fc_workers.specs.Filed.{HasRightJobs}
-use Rattle.fc_workers.specs.LegalOrder.{FilesFrom, brought_in}
-use Rattle.fc_workers.specs.Logs.{TrackedLog}
-use Rattle.fc_workers.specs.Messages.{IsNewJob, TrackedJob, first_brought, with_tracks}
-
--- the log after the track with this key begins: it is first, and has no entry.
-abbrev pub with_new_track : ℕ → TrackedLog → TrackedLog
-with_new_track key log = with_tracks (own_view key []) log
-
--- the job with the first track of the log.
-abbrev pub first_tracked : Job → TrackedLog → TrackedJob
-first_tracked job log = record { job = job; tracks = first_own log.tracks }
-
--- the log after its first track is moved to a message.
-abbrev pub without_job : TrackedLog → TrackedLog
-without_job log = record log { tracks = without_first log.tracks }
+use Rattle.fc_backend.specs.RightTracks.{HasRightJobs, FilesFrom, brought_in}
+use Rattle.fc_backend.specs.Logs.{TrackedLog}
+use Rattle.fc_backend.specs.Messages.{IsNewJob, first_brought, first_tracked}
 
 -- each job's track that the thread has is right for its job. The thread has produced its jobs in
 -- the order of their keys. Its calls for jobs are on tracks from that of the server's first job on.

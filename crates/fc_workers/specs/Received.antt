@@ -2,10 +2,9 @@
 use Rattle.std.specs.Prelude.{◌≡◌, ℕ}
 use Rattle.fc_book.specs.Tracks.{HasKey}
 use Rattle.fc_filed.specs.Threads.{HasOwnTrack}
-use Rattle.fc_workers.specs.Filed.{HasRightJobs}
-use Rattle.fc_workers.specs.LegalOrder.{FilesFrom, brought_in}
-use Rattle.fc_workers.specs.Logs.{TrackedLog}
-use Rattle.fc_workers.specs.Messages.{first_brought}
+use Rattle.fc_backend.specs.RightTracks.{HasRightJobs, FilesFrom, brought_in}
+use Rattle.fc_backend.specs.Logs.{TrackedLog}
+use Rattle.fc_backend.specs.Messages.{first_brought}
 
 -- the worker still has its own track and each track that it had, and may begin tracks as before.
 -- Each job's track that it has is right for its job. It has produced no further job. If its entries

@@ -1,19 +1,16 @@
 -- The statistics of a worker, related to the jobs that it received.
 use Rattle.std.specs.Prelude.{◌≡◌, ℕ, ◌+◌, ◌<◌, List, [], ◌∷◌, ◌++◌, length, map, reverse, slice_index_or}
 use Rattle.std.specs.List.{All}
-use Rattle.fc_jobs.specs.Ends.{Channel, Got, nothing_got, with_got}
+use Rattle.fc_jobs.specs.Ends.{Channel, nothing_got, with_got}
 use Rattle.fc_jobs.specs.declared.protocol.Numbered.{Numbered}
 use Rattle.fc_filed.specs.Threads.{HasOwnTrack}
-use Rattle.fc_workers.specs.Logs.{TrackedLog}
-use Rattle.fc_workers.specs.Messages.{IsNewJob, TrackedJob, with_tracks}
-use Rattle.fc_workers.specs.Workers.{WorkerSeed, Share}
-use Rattle.fc_workers.specs.Answers.{HasRisen, saturated}
-use Rattle.fc_workers.specs.Called.{WorkerView}
+use Rattle.fc_backend.specs.Logs.{TrackedLog}
+use Rattle.fc_backend.specs.Messages.{IsNewJob, TrackedJob, with_tracks}
+use Rattle.fc_backend.specs.Statistics.{Share, new_share}
+use Rattle.fc_workers.specs.Workers.{WorkerSeed}
+use Rattle.fc_backend.specs.Answers.{HasRisen, saturated}
+use Rattle.fc_workers.specs.Views.{WorkerView}
 use Rattle.fc_workers.specs.Work.{IsReplied}
-
--- the statistics of a worker that hasn't begun.
-abbrev pub new_share : {T : Type 0} → Got TrackedJob → T → TrackedLog → Share T
-new_share got tallies log = record { tallies = tallies; log = log; got = got; sent = 0; failed = 0; refusals = 0; overtakings = 0 }
 
 -- there is a worker seed for each of these tallies, and its worker has received no job yet. The
 -- first worker seed has the last of these logs, and so on.

@@ -8,10 +8,10 @@ use Rattle.fc_core.specs.Stage.{ToMatch, ToTake, ToCommit, ToInstall, ToRemove, 
 use Rattle.fc_core.specs.Contents.{IsOf}
 use Rattle.fc_core.specs.Stages.{snapshots}
 use Rattle.fc_core.specs.Steps.{Call, next_stage}
-use Rattle.fc_workers.specs.Workers.{Share}
-use Rattle.fc_workers.specs.Logs.{TrackedLog}
+use Rattle.fc_backend.specs.Statistics.{Share}
+use Rattle.fc_backend.specs.Logs.{TrackedLog}
 use Rattle.fc_calls.specs.Logged.{LoggedCall, LooksAt}
-use Rattle.fc_workers.specs.Called.{WorkerView}
+use Rattle.fc_workers.specs.Views.{WorkerView}
 use Rattle.fc_workers.specs.Work.{AreCalls, HasCounted, IsCallAt, stage_after, snapshots_made, total}
 
 -- the job requests a run.

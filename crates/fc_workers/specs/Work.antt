@@ -23,15 +23,16 @@ use Rattle.fc_core.specs.Ends.{refused}
 use Rattle.fc_core.specs.Fits.{IsSafe}
 use Rattle.fc_core.specs.Stages.{asked_stage, image_of, snapshots}
 use Rattle.fc_core.specs.Steps.{Call, Matches, Lists, Takes, Commits, Installs, Rejects, Refuses, RefusesChange, Removes, Describes, Raises, called_at, next_stage}
-use Rattle.fc_workers.specs.Answers.{IsSnapshotWith, IsSomeCommit, IsSomeInstall, IsSomeReceipt, IsSomeRemoval, AreTallied, HasRisen, commit_overtakings, snapshot_refusals}
+use Rattle.fc_backend.specs.Answers.{IsSnapshotWith, IsSomeCommit, IsSomeInstall, IsSomeReceipt, IsSomeRemoval, AreTallied, HasRisen, commit_overtakings, snapshot_refusals}
 use Rattle.fc_calls.specs.Kept.{commit_changes, install_changes, removal_changes}
-use Rattle.fc_workers.specs.Logs.{FilesRefusal, TrackedLog}
+use Rattle.fc_backend.specs.Logs.{FilesRefusal, TrackedLog}
 use Rattle.fc_calls.specs.Logged.{CommitsRun, InstallsProgram, LooksAt, RaisesWord, RemovesProgram, TellsReceipt}
 use Rattle.fc_linear.specs.Operations.{RefusesInstall, RejectsImage}
-use Rattle.fc_workers.specs.Called.{EndsJob, RefusesSave, WorkerView}
-use Rattle.fc_workers.specs.Filed.{HasFiled}
+use Rattle.fc_backend.specs.Called.{EndsJob, RefusesSave}
+use Rattle.fc_workers.specs.Views.{WorkerView}
+use Rattle.fc_backend.specs.Filed.{HasFiled}
 use Rattle.fc_workers.specs.Outgoing.{GivesAnswer, IsSent, IsTurnReply}
-use Rattle.fc_workers.specs.Workers.{Share}
+use Rattle.fc_backend.specs.Statistics.{Share}
 
 -- ---- counts of calls
 
@@ -74,7 +75,7 @@ module _ {T : Type 0} (s : WorkerView T) where
   -- the ticket was committed at that time.
   pub record IsCommitted (number : ℕ) (t : Ticket) (committed : Committed) (before after : TrackedLog) : Type 0 where
     pub passed : TrackedLog
-    pub gate : s.gate number before passed
+    pub gate : s.between number before passed
     pub now : ℕ
     pub asked : TrackedLog
     pub time : s.time now passed asked
@@ -85,7 +86,7 @@ module _ {T : Type 0} (s : WorkerView T) where
   -- time was requested. The commit can't be saved, and this is filed with its update.
   pub record IsCommitRefused (number : ℕ) (job : Job) (t : Ticket) (before after : TrackedLog) : Type 0 where
     pub passed : TrackedLog
-    pub gate : s.gate number before passed
+    pub gate : s.between number before passed
     pub now : ℕ
     pub asked : TrackedLog
     pub time : s.time now passed asked

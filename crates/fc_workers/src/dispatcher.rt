@@ -2,25 +2,22 @@
 //!
 //! A pool's driver calls it for each datagram (`fc_service`).
 ghost use Rattle.std.specs.Prelude.{◌≡◌, false, length, MatchBool};
-ghost use Rattle.fc_workers.specs.Answers.{IsSomeIdle, IsSomeTick};
+ghost use Rattle.fc_backend.specs.Answers.{IsSomeIdle, IsSomeTick};
 ghost use Rattle.fc_calls.specs.Logged.{AdvancesFront, AdvancesShard};
-ghost use Rattle.fc_workers.specs.Called.{CountsObservers, LeavesUnquiet, LooksAhead, ReadsGauges, worker_view};
+ghost use Rattle.fc_backend.specs.Called.{CountsObservers, LeavesUnquiet, LooksAhead, ReadsGauges};
+ghost use Rattle.fc_workers.specs.Views.{worker_view};
 ghost use Rattle.fc_workers.specs.Dispatch.{HasCalled, IsAdvancedOrSkipped, IsTakenIn, IsTimerFired, IsTurnAsked};
-ghost use Rattle.fc_workers.specs.Messages.{first_brought};
+ghost use Rattle.fc_backend.specs.Messages.{first_brought, with_new_track};
 ghost use Rattle.fc_filed.specs.Threads.{HasOwnTrack};
-ghost use Rattle.fc_workers.specs.OneOrder.{IsNewLog};
-ghost use Rattle.fc_workers.specs.Producing.{HasRightOrder, with_new_track};
-ghost use Rattle.fc_workers.specs.Shares.{new_share};
+ghost use Rattle.fc_backend.specs.Logs.{IsNewLog};
+ghost use Rattle.fc_workers.specs.Producing.{HasRightOrder};
+ghost use Rattle.fc_backend.specs.Statistics.{new_share};
 
-use crate::bench::Bench;
-use crate::context::{Context, Gate, TimeSource, Wire};
+use crate::context::Context;
 use crate::dispatcher_state::DispatcherState;
-use crate::job_keys::JobKeys;
-use crate::job_message::JobMessage;
-use crate::share::{Share, ShareOf};
-use crate::track_log::TrackLog;
 use crate::worker_seed::SeedOf;
 use coap_msg::{Emission, Endpoint};
+use fc_backend::{Bench, Gate, JobKeys, JobMessage, Share, ShareOf, TimeSource, TrackLog, Wire};
 use fc_core::{FrontGauges, Handled};
 use fc_jobs::{Jobs, Sent};
 use fc_observe::Ticked;
@@ -135,7 +132,9 @@ impl<'a, B: Bench, G: Gate, W: Wire, M: TimeSource> Dispatcher<'a, B, G, W, M> {
         ensures share { result ≡ self.entry.done.share }
         ensures order { HasRightOrder B.Book.first_job result.log }
     {
-        self.state.close()
+        let DispatcherState { done, .. } = self.state;
+        let Dispatched { share, .. } = done;
+        share
     }
 
     /// Handles a datagram, at a time in milliseconds.
@@ -151,7 +150,7 @@ impl<'a, B: Bench, G: Gate, W: Wire, M: TimeSource> Dispatcher<'a, B, G, W, M> {
         bytes: &[u8],
         reply: &mut Emission,
     ) -> Handled
-        ensures taken_in { IsTakenIn (worker_view B.changes B.ended B.called B.logged M.is_time M.is_random G.passed W.called)
+        ensures taken_in { IsTakenIn (worker_view B.changes B.ended B.called B.logged M.is_time M.is_random G.passed G.answered W.called)
             self.old.offload now from bytes.now result reply.new self.old.done self.new.done }
         ensures offload { self.new.offload ≡ self.old.offload }
     {
@@ -164,7 +163,9 @@ impl<'a, B: Bench, G: Gate, W: Wire, M: TimeSource> Dispatcher<'a, B, G, W, M> {
         ensures kept { HasCalled self.old.done self.new.done }
         ensures offload { self.new.offload ≡ self.old.offload }
     {
-        self.state.tick(rt, now);
+        let state = &mut self.state;
+        let log = &mut state.done.share.log;
+        state.context.bench.tick(rt, now, log);
     }
 
     /// Fires the timer of a slot at a time in milliseconds, and dispatches its job.
@@ -172,7 +173,7 @@ impl<'a, B: Bench, G: Gate, W: Wire, M: TimeSource> Dispatcher<'a, B, G, W, M> {
     /// Returns the number of the job if it was sent to the workers. Returns `None` if the job has
     /// ended here.
     pub fn fire<R: Wait>(&mut self, rt: &R, slot: SlotNumber, now: u64) -> Option<u64>
-        ensures fired { IsTimerFired (worker_view B.changes B.ended B.called B.logged M.is_time M.is_random G.passed W.called)
+        ensures fired { IsTimerFired (worker_view B.changes B.ended B.called B.logged M.is_time M.is_random G.passed G.answered W.called)
             self.old.offload slot now result self.old.done self.new.done }
         ensures offload { self.new.offload ≡ self.old.offload }
     {
@@ -188,7 +189,9 @@ impl<'a, B: Bench, G: Gate, W: Wire, M: TimeSource> Dispatcher<'a, B, G, W, M> {
         ensures kept { HasCalled self.old.done self.new.done }
         ensures offload { self.new.offload ≡ self.old.offload }
     {
-        self.state.resend(rt, shard, now)
+        let state = &mut self.state;
+        let log = &mut state.done.share.log;
+        state.context.bench.tick_shard(rt, shard, now, log)
     }
 
     /// Advances a shard, 0 to 7, to a time in ms if it is idle then, or skips it.
@@ -198,7 +201,7 @@ impl<'a, B: Bench, G: Gate, W: Wire, M: TimeSource> Dispatcher<'a, B, G, W, M> {
     /// If it isn't, nothing changes.
     pub fn advance_or_skip<R: Wait>(&mut self, rt: &R, shard: u8, now: u64) -> bool
         ensures passed { MatchBool result
-            (IsAdvancedOrSkipped (worker_view B.changes B.ended B.called B.logged M.is_time M.is_random G.passed W.called) shard now self.old.done self.new.done)
+            (IsAdvancedOrSkipped (worker_view B.changes B.ended B.called B.logged M.is_time M.is_random G.passed G.answered W.called) shard now self.old.done self.new.done)
             (IsSomeIdle now false × B.called (LeavesUnquiet shard now) × (self.new.done ≡ self.old.done)) }
         ensures offload { self.new.offload ≡ self.old.offload }
     {
@@ -212,7 +215,7 @@ impl<'a, B: Bench, G: Gate, W: Wire, M: TimeSource> Dispatcher<'a, B, G, W, M> {
     pub fn idle_until<R: Wait>(&self, rt: &R, shard: u8) -> u64
         ensures { B.called (LooksAhead shard result) }
     {
-        self.state.idle_until(rt, shard)
+        self.state.context.bench.idle_until(rt, shard)
     }
 
     /// Returns how many exchanges and transfers the front holds at `now`, and their limits.
@@ -221,7 +224,7 @@ impl<'a, B: Bench, G: Gate, W: Wire, M: TimeSource> Dispatcher<'a, B, G, W, M> {
     pub fn gauges<R: Wait>(&self, rt: &R, now: u64) -> FrontGauges
         ensures { B.called (ReadsGauges now result) }
     {
-        self.state.gauges(rt, now)
+        self.state.context.bench.gauges(rt, now)
     }
 
     /// Returns how many observers each slot of a shard, 0 to 7, has, by its place in the shard.
@@ -230,14 +233,14 @@ impl<'a, B: Bench, G: Gate, W: Wire, M: TimeSource> Dispatcher<'a, B, G, W, M> {
     pub fn observer_counts<R: Wait>(&self, rt: &R, shard: u8) -> [u8; PLACES]
         ensures { B.called (CountsObservers shard result) }
     {
-        self.state.observer_counts(rt, shard)
+        self.state.context.bench.observer_counts(rt, shard)
     }
 
     /// Returns how many jobs were sent to the workers.
     pub fn offloaded(&self) -> u64
         ensures { result ≡ length self.now.done.sent.sent }
     {
-        self.state.offloaded()
+        self.state.done.sent.count()
     }
 
     /// Asks a shard, 0 to 7, for its next lease, and dispatches the lease's job.
@@ -245,7 +248,7 @@ impl<'a, B: Bench, G: Gate, W: Wire, M: TimeSource> Dispatcher<'a, B, G, W, M> {
     /// The lease is that of the first observer with a pending notification at a time in
     /// milliseconds. Returns whether there was such an observer.
     pub fn notify<R: Wait>(&mut self, rt: &R, shard: u8, now: u64) -> bool
-        ensures asked { IsTurnAsked (worker_view B.changes B.ended B.called B.logged M.is_time M.is_random G.passed W.called)
+        ensures asked { IsTurnAsked (worker_view B.changes B.ended B.called B.logged M.is_time M.is_random G.passed G.answered W.called)
             self.old.offload shard now result self.old.done self.new.done }
         ensures offload { self.new.offload ≡ self.old.offload }
     {

@@ -1,36 +1,30 @@
 //! The state of a dispatcher, and how it dispatches a job.
-ghost use Rattle.std.specs.Prelude.{◌≡◌, ◌≢◌, ◌+◌, ◌<◌, [], true, false, length, MatchBool, None, Some};
+ghost use Rattle.std.specs.Prelude.{◌≡◌, ◌≢◌, ◌+◌, ◌<◌, [], true, false, MatchBool, None, Some};
 ghost use Rattle.fc_book.specs.Tracks.{first_own};
-ghost use Rattle.fc_workers.specs.Answers.{IsSomeIdle, IsSomeTick, saturated};
-ghost use Rattle.fc_calls.specs.Logged.{AdvancesFront, AdvancesShard};
-ghost use Rattle.fc_workers.specs.Called.{CountsObservers, LeavesUnquiet, LooksAhead, ReadsGauges, worker_view};
+ghost use Rattle.fc_backend.specs.Answers.{IsSomeIdle, saturated};
+ghost use Rattle.fc_backend.specs.Called.{LeavesUnquiet};
+ghost use Rattle.fc_workers.specs.Views.{worker_view};
 ghost use Rattle.fc_workers.specs.Dispatch.{AreSignalled, HasBegunNext, HasCalled, HasLeastCost, IsAdvancedOrSkipped, IsDispatched, IsFoundCheap, IsHeldUp, IsSentOrWorked, IsTakenIn, IsTimerFired, IsTurnAsked, MayGo, MayHaveReadCost, job_sent, least_cost, logged_at, may_change_slot, requests_change, unsent};
-ghost use Rattle.fc_workers.specs.Logs.{TrackedLog as Log};
-ghost use Rattle.fc_workers.specs.Messages.{first_brought};
+ghost use Rattle.fc_backend.specs.Logs.{TrackedLog as Log, IsNewLog};
+ghost use Rattle.fc_backend.specs.Messages.{first_brought, with_new_track};
 ghost use Rattle.fc_filed.specs.Threads.{HasOwnTrack};
-ghost use Rattle.fc_workers.specs.OneOrder.{IsNewLog};
-ghost use Rattle.fc_workers.specs.Producing.{HasDispatched, HasProduced, MayProduce, with_new_track};
-ghost use Rattle.fc_workers.specs.Shares.{new_share};
+ghost use Rattle.fc_workers.specs.Producing.{HasDispatched, HasProduced, MayProduce};
+ghost use Rattle.fc_backend.specs.Statistics.{new_share};
 ghost use Rattle.fc_workers.specs.Steps.{IsPlainRun};
 ghost use Rattle.fc_workers.specs.Work.{IsReplied};
 
-use crate::bench::Bench;
-use crate::context::{Context, Gate, TimeSource, Wire};
+use crate::context::Context;
 use crate::dispatcher::{Dispatched, DispatchedOf, Offload, UNSENT};
-use crate::job_keys::JobKeys;
-use crate::job_message::JobMessage;
 use crate::scratch::Scratch;
-use crate::share::{Share, ShareOf};
-use crate::track_log::TrackLog;
 use crate::worker_seed::{SeedOf, WorkerSeed};
 use coap_msg::{Emission, Endpoint};
+use fc_backend::{Bench, Gate, JobKeys, JobMessage, Share, ShareOf, TimeSource, TrackLog, Wire};
+use fc_core::Handled;
 use fc_core::front::blank_job;
 use fc_core::heads::{is_present, serial_in};
-use fc_core::{FrontGauges, Handled};
 use fc_help::Method;
 use fc_jobs::{Jobs, Sent};
-use fc_observe::Ticked;
-use fc_registry::{Ask, Job, PLACES, SHARDS, SlotNumber};
+use fc_registry::{Ask, Job, SHARDS, SlotNumber};
 use std::mem;
 use std::sync::Wait;
 
@@ -39,7 +33,7 @@ use std::sync::Wait;
 /// Between two calls the first track of its log is that of its next job, without an entry.
 #[derive(Drop)]
 pub(crate) struct DispatcherState<'a, B: Bench, G: Gate, W: Wire, M: TimeSource> {
-    context: &'a Context<'a, B, G, W, M>,
+    pub(crate) context: &'a Context<'a, B, G, W, M>,
     jobs: &'a Jobs<JobMessage<B::Book>>,
     pub(crate) offload: Offload,
     pub(crate) keys: JobKeys<B::Book>,
@@ -90,15 +84,6 @@ impl<'a, B: Bench, G: Gate, W: Wire, M: TimeSource> DispatcherState<'a, B, G, W,
         }
     }
 
-    // Closes the channel, and returns the dispatcher's own statistics.
-    pub(crate) fn close(self) -> ShareOf<B::Tallies, B::Book>
-        ensures { result ≡ self.entry.done.share }
-    {
-        let DispatcherState { done, .. } = self;
-        let Dispatched { share, .. } = done;
-        share
-    }
-
     // Handles a datagram, at a time in milliseconds.
     //
     // A response is written over `reply`, and a job is dispatched. A signal, which is an
@@ -113,7 +98,7 @@ impl<'a, B: Bench, G: Gate, W: Wire, M: TimeSource> DispatcherState<'a, B, G, W,
         reply: &mut Emission,
     ) -> Handled
         requires ready { MayProduce B.Book.first_job self.old.keys self.old.done.share.log }
-        ensures taken_in { IsTakenIn (worker_view B.changes B.ended B.called B.logged M.is_time M.is_random G.passed W.called)
+        ensures taken_in { IsTakenIn (worker_view B.changes B.ended B.called B.logged M.is_time M.is_random G.passed G.answered W.called)
             self.old.offload now from bytes.now result reply.new self.old.done self.new.done }
         ensures offload { self.new.offload ≡ self.old.offload }
         ensures ready { MayProduce B.Book.first_job self.new.keys self.new.done.share.log }
@@ -132,25 +117,13 @@ impl<'a, B: Bench, G: Gate, W: Wire, M: TimeSource> DispatcherState<'a, B, G, W,
         handled
     }
 
-    // Advances the front to a time in milliseconds.
-    pub(crate) fn tick<R: Wait>(&mut self, rt: &R, now: u64)
-        requires ready { MayProduce B.Book.first_job self.old.keys self.old.done.share.log }
-        ensures logged { B.logged (AdvancesFront now) self.old.done.share.log self.new.done.share.log }
-        ensures kept { HasCalled self.old.done self.new.done }
-        ensures offload { self.new.offload ≡ self.old.offload }
-        ensures ready { MayProduce B.Book.first_job self.new.keys self.new.done.share.log }
-    {
-        let log = &mut self.done.share.log;
-        self.context.bench.tick(rt, now, log);
-    }
-
     // Fires the timer of a slot at a time in milliseconds, and dispatches its job.
     //
     // Returns the number of the job if it was sent to the workers. Returns `None` if the job has
     // ended here.
     pub(crate) fn fire<R: Wait>(&mut self, rt: &R, slot: SlotNumber, now: u64) -> Option<u64>
         requires ready { MayProduce B.Book.first_job self.old.keys self.old.done.share.log }
-        ensures fired { IsTimerFired (worker_view B.changes B.ended B.called B.logged M.is_time M.is_random G.passed W.called)
+        ensures fired { IsTimerFired (worker_view B.changes B.ended B.called B.logged M.is_time M.is_random G.passed G.answered W.called)
             self.old.offload slot now result self.old.done self.new.done }
         ensures offload { self.new.offload ≡ self.old.offload }
         ensures ready { MayProduce B.Book.first_job self.new.keys self.new.done.share.log }
@@ -166,21 +139,6 @@ impl<'a, B: Bench, G: Gate, W: Wire, M: TimeSource> DispatcherState<'a, B, G, W,
         }
     }
 
-    // Advances a shard, 0 to 7, to a time in milliseconds.
-    //
-    // Returns a message to retransmit, that an observer was removed, or neither.
-    pub(crate) fn resend<R: Wait>(&mut self, rt: &R, shard: u8, now: u64) -> Ticked
-        requires ready { MayProduce B.Book.first_job self.old.keys self.old.done.share.log }
-        ensures ticked { IsSomeTick now result }
-        ensures logged { B.logged (AdvancesShard shard now result) self.old.done.share.log self.new.done.share.log }
-        ensures kept { HasCalled self.old.done self.new.done }
-        ensures offload { self.new.offload ≡ self.old.offload }
-        ensures ready { MayProduce B.Book.first_job self.new.keys self.new.done.share.log }
-    {
-        let log = &mut self.done.share.log;
-        self.context.bench.tick_shard(rt, shard, now, log)
-    }
-
     // Advances a shard, 0 to 7, to a time in ms if it is idle then, or skips it.
     //
     // It is idle if no notification has timed out and no observer has a pending one. A shard that
@@ -189,7 +147,7 @@ impl<'a, B: Bench, G: Gate, W: Wire, M: TimeSource> DispatcherState<'a, B, G, W,
     pub(crate) fn advance_or_skip<R: Wait>(&mut self, rt: &R, shard: u8, now: u64) -> bool
         requires ready { MayProduce B.Book.first_job self.old.keys self.old.done.share.log }
         ensures passed { MatchBool result
-            (IsAdvancedOrSkipped (worker_view B.changes B.ended B.called B.logged M.is_time M.is_random G.passed W.called) shard now self.old.done self.new.done)
+            (IsAdvancedOrSkipped (worker_view B.changes B.ended B.called B.logged M.is_time M.is_random G.passed G.answered W.called) shard now self.old.done self.new.done)
             (IsSomeIdle now false × B.called (LeavesUnquiet shard now) × (self.new.done ≡ self.old.done)) }
         ensures offload { self.new.offload ≡ self.old.offload }
         ensures ready { MayProduce B.Book.first_job self.new.keys self.new.done.share.log }
@@ -199,48 +157,13 @@ impl<'a, B: Bench, G: Gate, W: Wire, M: TimeSource> DispatcherState<'a, B, G, W,
         bench.skip_if_idle(shard, now, log) || bench.advance_if_idle(rt, shard, now, log)
     }
 
-    // Returns a time before which a shard, 0 to 7, is idle unless the shard is called.
-    //
-    // It bounds the wait for the next datagram. Another thread may call the shard at any time. The
-    // clause says that the bench returned this time; its meaning for a server is `TellsIdleUntil`.
-    pub(crate) fn idle_until<R: Wait>(&self, rt: &R, shard: u8) -> u64
-        ensures { B.called (LooksAhead shard result) }
-    {
-        self.context.bench.idle_until(rt, shard)
-    }
-
-    // Returns how many exchanges and transfers the front holds at `now`, and their limits.
-    //
-    // `now` is in milliseconds. See [`Bench::gauges`].
-    pub(crate) fn gauges<R: Wait>(&self, rt: &R, now: u64) -> FrontGauges
-        ensures { B.called (ReadsGauges now result) }
-    {
-        self.context.bench.gauges(rt, now)
-    }
-
-    // Returns how many observers each slot of a shard, 0 to 7, has, by its place in the shard.
-    //
-    // See [`Bench::observer_counts`].
-    pub(crate) fn observer_counts<R: Wait>(&self, rt: &R, shard: u8) -> [u8; PLACES]
-        ensures { B.called (CountsObservers shard result) }
-    {
-        self.context.bench.observer_counts(rt, shard)
-    }
-
-    // Returns how many jobs were sent to the workers.
-    pub(crate) fn offloaded(&self) -> u64
-        ensures { result ≡ length self.now.done.sent.sent }
-    {
-        self.done.sent.count()
-    }
-
     // Asks a shard, 0 to 7, for its next lease, and dispatches the lease's job.
     //
     // The lease is that of the first observer with a pending notification at a time in
     // milliseconds. Returns whether there was such an observer.
     pub(crate) fn notify<R: Wait>(&mut self, rt: &R, shard: u8, now: u64) -> bool
         requires ready { MayProduce B.Book.first_job self.old.keys self.old.done.share.log }
-        ensures asked { IsTurnAsked (worker_view B.changes B.ended B.called B.logged M.is_time M.is_random G.passed W.called)
+        ensures asked { IsTurnAsked (worker_view B.changes B.ended B.called B.logged M.is_time M.is_random G.passed G.answered W.called)
             self.old.offload shard now result self.old.done self.new.done }
         ensures offload { self.new.offload ≡ self.old.offload }
         ensures ready { MayProduce B.Book.first_job self.new.keys self.new.done.share.log }
@@ -263,7 +186,7 @@ impl<'a, B: Bench, G: Gate, W: Wire, M: TimeSource> DispatcherState<'a, B, G, W,
     // next job begins last.
     fn dispatch<R: Wait>(&mut self, rt: &R)
         requires produced { HasProduced B.Book.first_job self.old.keys self.old.job self.old.done.share.log }
-        ensures dispatched { IsDispatched (worker_view B.changes B.ended B.called B.logged M.is_time M.is_random G.passed W.called)
+        ensures dispatched { IsDispatched (worker_view B.changes B.ended B.called B.logged M.is_time M.is_random G.passed G.answered W.called)
             self.old.offload self.old.job self.old.done self.new.done }
         ensures offload { self.new.offload ≡ self.old.offload }
         ensures ready { MayProduce B.Book.first_job self.new.keys self.new.done.share.log }
@@ -287,7 +210,7 @@ impl<'a, B: Bench, G: Gate, W: Wire, M: TimeSource> DispatcherState<'a, B, G, W,
     // [`DispatcherState::dispatch`].
     fn dispatch_job<R: Wait>(&mut self, rt: &R)
         requires produced { HasProduced B.Book.first_job self.old.keys self.old.job self.old.done.share.log }
-        ensures dispatched { IsSentOrWorked (worker_view B.changes B.ended B.called B.logged M.is_time M.is_random G.passed W.called)
+        ensures dispatched { IsSentOrWorked (worker_view B.changes B.ended B.called B.logged M.is_time M.is_random G.passed G.answered W.called)
             self.old.offload self.old.job self.old.done self.new.done }
         ensures offload { self.new.offload ≡ self.old.offload }
         ensures right { HasDispatched B.Book.first_job self.new.keys self.new.done.share.log }
@@ -302,7 +225,7 @@ impl<'a, B: Bench, G: Gate, W: Wire, M: TimeSource> DispatcherState<'a, B, G, W,
     // Returns whether the job may go to the workers since a save would hold it up here. Returns
     // `false` if no worker has asked for a job yet.
     fn is_held_up(&mut self) -> bool
-        ensures may { result ≡ true → MayGo (worker_view B.changes B.ended B.called B.logged M.is_time M.is_random G.passed W.called) self.old.offload self.old.job self.old.done.share.log self.old.done.share.log }
+        ensures may { result ≡ true → MayGo (worker_view B.changes B.ended B.called B.logged M.is_time M.is_random G.passed G.answered W.called) self.old.offload self.old.job self.old.done.share.log self.old.done.share.log }
         ensures kept { self.new.done ≡ self.old.done }
         ensures job { self.new.job ≡ self.old.job }
         ensures keys { self.new.keys ≡ self.old.keys }
@@ -321,7 +244,7 @@ impl<'a, B: Bench, G: Gate, W: Wire, M: TimeSource> DispatcherState<'a, B, G, W,
     // cost is, or runs the job here.
     fn dispatch_by_cost<R: Wait>(&mut self, rt: &R)
         requires produced { HasProduced B.Book.first_job self.old.keys self.old.job self.old.done.share.log }
-        ensures dispatched { IsSentOrWorked (worker_view B.changes B.ended B.called B.logged M.is_time M.is_random G.passed W.called)
+        ensures dispatched { IsSentOrWorked (worker_view B.changes B.ended B.called B.logged M.is_time M.is_random G.passed G.answered W.called)
             self.old.offload self.old.job self.old.done self.new.done }
         ensures offload { self.new.offload ≡ self.old.offload }
         ensures right { HasDispatched B.Book.first_job self.new.keys self.new.done.share.log }
@@ -338,7 +261,7 @@ impl<'a, B: Bench, G: Gate, W: Wire, M: TimeSource> DispatcherState<'a, B, G, W,
     // job here, from its first stage to its answer.
     fn dispatch_whole<R: Wait>(&mut self, rt: &R)
         requires produced { HasProduced B.Book.first_job self.old.keys self.old.job self.old.done.share.log }
-        ensures dispatched { IsSentOrWorked (worker_view B.changes B.ended B.called B.logged M.is_time M.is_random G.passed W.called)
+        ensures dispatched { IsSentOrWorked (worker_view B.changes B.ended B.called B.logged M.is_time M.is_random G.passed G.answered W.called)
             self.old.offload self.old.job self.old.done self.new.done }
         ensures offload { self.new.offload ≡ self.old.offload }
         ensures right { HasDispatched B.Book.first_job self.new.keys self.new.done.share.log }
@@ -357,7 +280,7 @@ impl<'a, B: Bench, G: Gate, W: Wire, M: TimeSource> DispatcherState<'a, B, G, W,
         requires plain { IsPlainRun self.old.job }
         requires least { least_cost self.old.offload self.old.job ≡ Some least }
         requires produced { HasProduced B.Book.first_job self.old.keys self.old.job self.old.done.share.log }
-        ensures dispatched { IsSentOrWorked (worker_view B.changes B.ended B.called B.logged M.is_time M.is_random G.passed W.called)
+        ensures dispatched { IsSentOrWorked (worker_view B.changes B.ended B.called B.logged M.is_time M.is_random G.passed G.answered W.called)
             self.old.offload self.old.job self.old.done self.new.done }
         ensures offload { self.new.offload ≡ self.old.offload }
         ensures right { HasDispatched B.Book.first_job self.new.keys self.new.done.share.log }
@@ -377,9 +300,9 @@ impl<'a, B: Bench, G: Gate, W: Wire, M: TimeSource> DispatcherState<'a, B, G, W,
     fn send_or_work<R: Wait>(&mut self, rt: &R)
         requires produced { HasProduced B.Book.first_job self.old.keys self.old.job self.old.done.share.log }
         ensures dispatched { (log : Log)
-            → MayGo (worker_view B.changes B.ended B.called B.logged M.is_time M.is_random G.passed W.called) self.old.offload self.old.job log self.old.done.share.log
+            → MayGo (worker_view B.changes B.ended B.called B.logged M.is_time M.is_random G.passed G.answered W.called) self.old.offload self.old.job log self.old.done.share.log
             → first_own self.old.done.share.log.tracks ≡ first_own log.tracks
-            → IsSentOrWorked (worker_view B.changes B.ended B.called B.logged M.is_time M.is_random G.passed W.called)
+            → IsSentOrWorked (worker_view B.changes B.ended B.called B.logged M.is_time M.is_random G.passed G.answered W.called)
             self.old.offload self.old.job (logged_at log self.old.done) self.new.done }
         ensures offload { self.new.offload ≡ self.old.offload }
         ensures right { HasDispatched B.Book.first_job self.new.keys self.new.done.share.log }
@@ -418,7 +341,7 @@ impl<'a, B: Bench, G: Gate, W: Wire, M: TimeSource> DispatcherState<'a, B, G, W,
     fn work<R: Wait>(&mut self, rt: &R)
         requires produced { HasProduced B.Book.first_job self.old.keys self.old.job self.old.done.share.log }
         ensures sent { self.new.done.sent ≡ self.old.done.sent }
-        ensures worked { IsReplied (worker_view B.changes B.ended B.called B.logged M.is_time M.is_random G.passed W.called)
+        ensures worked { IsReplied (worker_view B.changes B.ended B.called B.logged M.is_time M.is_random G.passed G.answered W.called)
             unsent self.old.job self.old.done.share self.new.done.share }
         ensures ends { B.ended self.new.done.share.tallies ≡ saturated (B.ended self.old.done.share.tallies + 1) }
         ensures offload { self.new.offload ≡ self.old.offload }
@@ -434,8 +357,8 @@ impl<'a, B: Bench, G: Gate, W: Wire, M: TimeSource> DispatcherState<'a, B, G, W,
     // `Every` it first waits until one has, or none ever will.
     fn may_go<R: Wait>(&mut self, rt: &R) -> bool
         ensures may { MatchBool result
-            (MayGo (worker_view B.changes B.ended B.called B.logged M.is_time M.is_random G.passed W.called) self.old.offload self.old.job self.old.done.share.log self.new.done.share.log)
-            (MayHaveReadCost (worker_view B.changes B.ended B.called B.logged M.is_time M.is_random G.passed W.called) (least_cost self.old.offload self.old.job) self.old.job self.old.done.share.log self.new.done.share.log) }
+            (MayGo (worker_view B.changes B.ended B.called B.logged M.is_time M.is_random G.passed G.answered W.called) self.old.offload self.old.job self.old.done.share.log self.new.done.share.log)
+            (MayHaveReadCost (worker_view B.changes B.ended B.called B.logged M.is_time M.is_random G.passed G.answered W.called) (least_cost self.old.offload self.old.job) self.old.job self.old.done.share.log self.new.done.share.log) }
         ensures called { HasCalled self.old.done self.new.done }
         ensures job { self.new.job ≡ self.old.job }
         ensures keys { self.new.keys ≡ self.old.keys }
@@ -455,7 +378,7 @@ impl<'a, B: Bench, G: Gate, W: Wire, M: TimeSource> DispatcherState<'a, B, G, W,
     // Passes an Acknowledgement, or a Reset message if `reset`, to each shard.
     fn signal<R: Wait>(&mut self, rt: &R, from: Endpoint, id: u16, reset: bool)
         requires ready { MayProduce B.Book.first_job self.old.keys self.old.done.share.log }
-        ensures signalled { AreSignalled (worker_view B.changes B.ended B.called B.logged M.is_time M.is_random G.passed W.called)
+        ensures signalled { AreSignalled (worker_view B.changes B.ended B.called B.logged M.is_time M.is_random G.passed G.answered W.called)
             8 from id reset self.old.done.share.log self.new.done.share.log }
         ensures kept { HasCalled self.old.done self.new.done }
         ensures offload { self.new.offload ≡ self.old.offload }
@@ -470,7 +393,7 @@ impl<'a, B: Bench, G: Gate, W: Wire, M: TimeSource> Context<'a, B, G, W, M> {
     // Returns whether a job reads its slot, and a change of the slot's shard is being saved. If the
     // slot has the state of one of a run's ETags, the run needs no lock. Nothing is filed.
     fn is_held_up(&self, job: &Job, log: &mut TrackLog<B::Book>) -> bool
-        ensures held { result ≡ true → IsHeldUp (worker_view B.changes B.ended B.called B.logged M.is_time M.is_random G.passed W.called) job.now log.old log.new }
+        ensures held { result ≡ true → IsHeldUp (worker_view B.changes B.ended B.called B.logged M.is_time M.is_random G.passed G.answered W.called) job.now log.old log.new }
         ensures kept { log.new ≡ log.old }
     {
         let slot = job.origin.slot;
@@ -491,8 +414,8 @@ impl<'a, B: Bench, G: Gate, W: Wire, M: TimeSource> Context<'a, B, G, W, M> {
         log: &mut TrackLog<B::Book>,
     ) -> bool
         ensures cost { MatchBool result
-            (HasLeastCost (worker_view B.changes B.ended B.called B.logged M.is_time M.is_random G.passed W.called) least job.now log.old log.new)
-            (MayHaveReadCost (worker_view B.changes B.ended B.called B.logged M.is_time M.is_random G.passed W.called) least job.now log.old log.new) }
+            (HasLeastCost (worker_view B.changes B.ended B.called B.logged M.is_time M.is_random G.passed G.answered W.called) least job.now log.old log.new)
+            (MayHaveReadCost (worker_view B.changes B.ended B.called B.logged M.is_time M.is_random G.passed G.answered W.called) least job.now log.old log.new) }
         ensures whatever { least ≡ None → result ≡ true }
     {
         let Some(least) = least else {
@@ -511,8 +434,8 @@ impl<'a, B: Bench, G: Gate, W: Wire, M: TimeSource> Context<'a, B, G, W, M> {
         log: &mut TrackLog<B::Book>,
     ) -> bool
         ensures { MatchBool result
-            (HasLeastCost (worker_view B.changes B.ended B.called B.logged M.is_time M.is_random G.passed W.called) (Some least) job.now log.old log.new)
-            (IsFoundCheap (worker_view B.changes B.ended B.called B.logged M.is_time M.is_random G.passed W.called) least job.now log.old log.new) }
+            (HasLeastCost (worker_view B.changes B.ended B.called B.logged M.is_time M.is_random G.passed G.answered W.called) (Some least) job.now log.old log.new)
+            (IsFoundCheap (worker_view B.changes B.ended B.called B.logged M.is_time M.is_random G.passed G.answered W.called) least job.now log.old log.new) }
     {
         match &job.ask {
             Ask::Run(_) if !self.is_valid(job, log) => {
@@ -548,7 +471,7 @@ impl<'a, B: Bench, G: Gate, W: Wire, M: TimeSource> Context<'a, B, G, W, M> {
         reset: bool,
         log: &mut TrackLog<B::Book>,
     )
-        ensures { AreSignalled (worker_view B.changes B.ended B.called B.logged M.is_time M.is_random G.passed W.called)
+        ensures { AreSignalled (worker_view B.changes B.ended B.called B.logged M.is_time M.is_random G.passed G.answered W.called)
             8 from id reset log.old log.new }
     {
         'shards: for shard in 0..SHARDS {

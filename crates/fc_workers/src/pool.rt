@@ -2,16 +2,13 @@
 ghost use Rattle.std.specs.Prelude.{◌≡◌, Bool, IfOk, vec_len};
 ghost use Rattle.std.specs.List.{All};
 ghost use Rattle.fc_jobs.specs.Ends.{nothing_got, nothing_sent};
-ghost use Rattle.fc_workers.specs.Called.{worker_view};
-ghost use Rattle.fc_workers.specs.OneOrder.{IsNewLog};
+ghost use Rattle.fc_workers.specs.Views.{worker_view};
+ghost use Rattle.fc_backend.specs.Logs.{IsNewLog};
 ghost use Rattle.fc_workers.specs.Shares.{AreNewSeats, AreSharesOf, IsShareOf};
 
-use crate::bench::Bench;
-use crate::context::{Context, Gate, TimeSource, Wire};
-use crate::job_message::JobMessage;
-use crate::share::ShareOf;
-use crate::track_log::TrackLog;
+use crate::context::Context;
 use crate::worker_seed::{SeedOf, WorkerSeed, worker};
+use fc_backend::{Bench, Gate, JobMessage, ShareOf, TimeSource, TrackLog, Wire};
 use fc_filed::ServerName;
 use fc_jobs::{Got, Jobs, Sent};
 use std::alloc::{AllocError, Global};
@@ -97,7 +94,7 @@ where
     B::Tallies: Send,
     B::Book: Send,
     requires { All (λ s. s.got.channel ≡ jobs.now) seats.items }
-    ensures { IfOk result (λ v. AreSharesOf B.Book.first_job (worker_view B.changes B.ended B.called B.logged M.is_time M.is_random G.passed W.called)
+    ensures { IfOk result (λ v. AreSharesOf B.Book.first_job (worker_view B.changes B.ended B.called B.logged M.is_time M.is_random G.passed G.answered W.called)
         seats.items v.items) }
 {
     thread::map_vec(
@@ -105,7 +102,7 @@ where
         seats,
         &|seat: SeedOf<B::Tallies, B::Book>| -> ShareOf<B::Tallies, B::Book>
             requires { seat.got.channel ≡ jobs.now }
-            ensures { IsShareOf B.Book.first_job (worker_view B.changes B.ended B.called B.logged M.is_time M.is_random G.passed W.called) seat result }
+            ensures { IsShareOf B.Book.first_job (worker_view B.changes B.ended B.called B.logged M.is_time M.is_random G.passed G.answered W.called) seat result }
         { worker(rt, context, jobs, seat) },
     )
 }
@@ -123,7 +120,7 @@ struct PromisedShares<B: Bench, G: Gate, W: Wire, M: TimeSource> {
 impl<B: Bench, G: Gate, W: Wire, M: TimeSource> Promise<
     Result<Vec<ShareOf<B::Tallies, B::Book>>, AllocError>,
 > for PromisedShares<B, G, W, M> {
-    ghost kept_by = { λ p r. IfOk r (λ v. AreSharesOf B.Book.first_job (worker_view B.changes B.ended B.called B.logged M.is_time M.is_random G.passed W.called)
+    ghost kept_by = { λ p r. IfOk r (λ v. AreSharesOf B.Book.first_job (worker_view B.changes B.ended B.called B.logged M.is_time M.is_random G.passed G.answered W.called)
         p.seats.value.items v.items) };
 }
 
@@ -161,7 +158,7 @@ where
     requires seats { All (λ s. s.got.channel ≡ jobs.now) seats.items }
     requires drive { F.IsAlwaysCallable drive }
     ensures fed { (has_workers : Bool) × F.post drive has_workers result.0 }
-    ensures shares { IfOk result.1 (λ v. AreSharesOf B.Book.first_job (worker_view B.changes B.ended B.called B.logged M.is_time M.is_random G.passed W.called)
+    ensures shares { IfOk result.1 (λ v. AreSharesOf B.Book.first_job (worker_view B.changes B.ended B.called B.logged M.is_time M.is_random G.passed G.answered W.called)
         seats.items v.items) }
 {
     thread::scope(
@@ -170,7 +167,7 @@ where
         move |scope| -> (X, Result<Vec<ShareOf<B::Tallies, B::Book>>, AllocError>)
             requires { All (λ s. s.got.channel ≡ jobs.now) seats.items × F.IsAlwaysCallable drive }
             ensures { ((has_workers : Bool) × F.post drive has_workers result.0)
-                × IfOk result.1 (λ v. AreSharesOf B.Book.first_job (worker_view B.changes B.ended B.called B.logged M.is_time M.is_random G.passed W.called)
+                × IfOk result.1 (λ v. AreSharesOf B.Book.first_job (worker_view B.changes B.ended B.called B.logged M.is_time M.is_random G.passed G.answered W.called)
                 seats.items v.items) }
         {
             let has_seats = !seats.is_empty();
@@ -185,7 +182,7 @@ where
                 move || -> Result<Vec<ShareOf<B::Tallies, B::Book>>, AllocError>
                     requires { All (λ s. s.got.channel ≡ jobs.now) seats.items }
                     ensures { IfOk result
-                        (λ v. AreSharesOf B.Book.first_job (worker_view B.changes B.ended B.called B.logged M.is_time M.is_random G.passed W.called)
+                        (λ v. AreSharesOf B.Book.first_job (worker_view B.changes B.ended B.called B.logged M.is_time M.is_random G.passed G.answered W.called)
                         seats.items v.items) }
                 {
                     let shares = run_workers(rt, context, jobs, seats);

@@ -9,20 +9,18 @@ ghost use Rattle.fc_core.specs.Ends.{refused};
 ghost use Rattle.fc_core.specs.Stages.{image_of};
 ghost use Rattle.fc_core.specs.Stage.{ToAnswer, ToInstall, ToRemove};
 ghost use Rattle.fc_linear.specs.Operations.{RefusesInstall, RejectsImage};
-ghost use Rattle.fc_workers.specs.Answers.{saturated};
+ghost use Rattle.fc_backend.specs.Answers.{saturated};
 ghost use Rattle.fc_workers.specs.Dispatch.{MayGo};
 ghost use Rattle.fc_workers.specs.declared.dispatcher.Offload.TheVariants.{Expensive};
-ghost use Rattle.fc_workers.specs.Filed.{HasFiled};
-ghost use Rattle.fc_workers.specs.Called.{worker_view};
+ghost use Rattle.fc_backend.specs.Filed.{HasFiled};
+ghost use Rattle.fc_workers.specs.Views.{worker_view};
 ghost use Rattle.fc_workers.specs.Work.{IsWorkedTo};
 ghost use Rattle.fc_workers.specs.Steps.{IsCheapAt, IsPlainRun, IsReady, IsStep, IsToAnswer, IsToCommit, IsToTake, ListsOn, Walked};
-ghost use Rattle.fc_workers.specs.Workers.{Share as Done};
+ghost use Rattle.fc_backend.specs.Statistics.{Share as Done};
 
-use crate::bench::Bench;
-use crate::context::{Context, Gate, TimeSource, Wire};
+use crate::context::Context;
 use crate::scratch::Scratch;
-use crate::share::{Share, ShareOf};
-use crate::track_log::TrackLog;
+use fc_backend::{Bench, Gate, Share, ShareOf, TimeSource, TrackLog, Wire};
 use fc_core::answer::Words;
 use fc_core::heads::WORDS;
 use fc_core::task::image;
@@ -59,7 +57,7 @@ impl<'a, B: Bench, G: Gate, W: Wire, M: TimeSource> Context<'a, B, G, W, M> {
         share: &mut ShareOf<B::Tallies, B::Book>,
     )
         requires asked { job.now.turn ≡ None }
-        ensures worked { IsWorkedTo (worker_view B.changes B.ended B.called B.logged M.is_time M.is_random G.passed W.called)
+        ensures worked { IsWorkedTo (worker_view B.changes B.ended B.called B.logged M.is_time M.is_random G.passed G.answered W.called)
             number job.now scratch.new.stage share.old share.new }
         ensures ended { B.ended share.new.tallies ≡ B.ended share.old.tallies }
     {
@@ -83,9 +81,9 @@ impl<'a, B: Bench, G: Gate, W: Wire, M: TimeSource> Context<'a, B, G, W, M> {
         requires ready { IsReady job.now scratch.old.stage }
         ensures answers { IsToAnswer job.now scratch.new.stage }
         ensures worked { (before : Done B.Tallies)
-            → Walked (worker_view B.changes B.ended B.called B.logged M.is_time M.is_random G.passed W.called)
+            → Walked (worker_view B.changes B.ended B.called B.logged M.is_time M.is_random G.passed G.answered W.called)
             number job.now scratch.old.stage before share.old
-            → IsWorkedTo (worker_view B.changes B.ended B.called B.logged M.is_time M.is_random G.passed W.called)
+            → IsWorkedTo (worker_view B.changes B.ended B.called B.logged M.is_time M.is_random G.passed G.answered W.called)
             number job.now scratch.new.stage before share.new }
         ensures ended { B.ended share.new.tallies ≡ B.ended share.old.tallies }
     {
@@ -139,11 +137,11 @@ impl<'a, B: Bench, G: Gate, W: Wire, M: TimeSource> Context<'a, B, G, W, M> {
     ) -> bool
         requires plain { IsPlainRun job.now }
         ensures begun { result ≡ true → (number : ℕ)
-            → Walked (worker_view B.changes B.ended B.called B.logged M.is_time M.is_random G.passed W.called)
+            → Walked (worker_view B.changes B.ended B.called B.logged M.is_time M.is_random G.passed G.answered W.called)
             number job.now scratch.new.stage share.old share.new }
         ensures cheap { result ≡ true → IsCheapAt least scratch.new.stage }
         ensures expensive { result ≡ false
-            → MayGo (worker_view B.changes B.ended B.called B.logged M.is_time M.is_random G.passed W.called)
+            → MayGo (worker_view B.changes B.ended B.called B.logged M.is_time M.is_random G.passed G.answered W.called)
             (Expensive least) job.now share.old.log share.new.log × (share.new ≡ record share.old { log = share.new.log }) }
         ensures tallies { share.new.tallies ≡ share.old.tallies }
     {
@@ -186,7 +184,7 @@ impl<'a, B: Bench, G: Gate, W: Wire, M: TimeSource> Context<'a, B, G, W, M> {
         stage: &mut Stage,
         share: &mut ShareOf<B::Tallies, B::Book>,
     )
-        ensures step { (number : ℕ) → IsStep (worker_view B.changes B.ended B.called B.logged M.is_time M.is_random G.passed W.called)
+        ensures step { (number : ℕ) → IsStep (worker_view B.changes B.ended B.called B.logged M.is_time M.is_random G.passed G.answered W.called)
             number job.now ToRemove stage.new share.old share.new }
         ensures ended { B.ended share.new.tallies ≡ B.ended share.old.tallies }
     {
@@ -208,7 +206,7 @@ impl<'a, B: Bench, G: Gate, W: Wire, M: TimeSource> Context<'a, B, G, W, M> {
         requires at { IsToTake stage.old }
         requires ready { IsReady job.now stage.old }
         requires asked { job.now.turn ≡ None }
-        ensures step { (number : ℕ) → IsStep (worker_view B.changes B.ended B.called B.logged M.is_time M.is_random G.passed W.called)
+        ensures step { (number : ℕ) → IsStep (worker_view B.changes B.ended B.called B.logged M.is_time M.is_random G.passed G.answered W.called)
             number job.now stage.old stage.new share.old share.new }
         ensures ended { B.ended share.new.tallies ≡ B.ended share.old.tallies }
     {
@@ -238,7 +236,7 @@ impl<'a, B: Bench, G: Gate, W: Wire, M: TimeSource> Context<'a, B, G, W, M> {
     )
         requires at { IsToCommit stage.old }
         requires ready { IsReady job.now stage.old }
-        ensures step { IsStep (worker_view B.changes B.ended B.called B.logged M.is_time M.is_random G.passed W.called)
+        ensures step { IsStep (worker_view B.changes B.ended B.called B.logged M.is_time M.is_random G.passed G.answered W.called)
             number job.now stage.old stage.new share.old share.new }
         ensures ended { B.ended share.new.tallies ≡ B.ended share.old.tallies }
     {
@@ -277,7 +275,7 @@ impl<'a, B: Bench, G: Gate, W: Wire, M: TimeSource> Context<'a, B, G, W, M> {
         stage: &mut Stage,
         share: &mut ShareOf<B::Tallies, B::Book>,
     )
-        ensures step { (number : ℕ) → IsStep (worker_view B.changes B.ended B.called B.logged M.is_time M.is_random G.passed W.called)
+        ensures step { (number : ℕ) → IsStep (worker_view B.changes B.ended B.called B.logged M.is_time M.is_random G.passed G.answered W.called)
             number job.now ToInstall stage.new share.old share.new }
         ensures ended { B.ended share.new.tallies ≡ B.ended share.old.tallies }
     {
@@ -307,7 +305,7 @@ impl<'a, B: Bench, G: Gate, W: Wire, M: TimeSource> Context<'a, B, G, W, M> {
         requires accepted { IsAccepted (image_of job.now.ask) program }
         requires runs { IsRunnable program }
         requires judged { judged (image_of job.now.ask) ≡ Accepts program }
-        ensures step { (number : ℕ) → IsStep (worker_view B.changes B.ended B.called B.logged M.is_time M.is_random G.passed W.called)
+        ensures step { (number : ℕ) → IsStep (worker_view B.changes B.ended B.called B.logged M.is_time M.is_random G.passed G.answered W.called)
             number job.now ToInstall stage.new share.old share.new }
         ensures ended { B.ended share.new.tallies ≡ B.ended share.old.tallies }
     {

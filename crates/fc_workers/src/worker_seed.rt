@@ -1,21 +1,17 @@
 //! Workers: a worker's initial state, and how a worker runs a job.
 ghost use Rattle.std.specs.Prelude.{◌≡◌, ◌+◌, ℕ, true, None, IfOk};
 ghost use Rattle.fc_core.specs.Receiving.{emission_if};
-ghost use Rattle.fc_workers.specs.Answers.{saturated};
-ghost use Rattle.fc_workers.specs.Called.{worker_view};
+ghost use Rattle.fc_backend.specs.Answers.{saturated, GoesOut};
+ghost use Rattle.fc_workers.specs.Views.{worker_view};
 ghost use Rattle.fc_workers.specs.Shares.{IsShareOf};
-ghost use Rattle.fc_workers.specs.Outgoing.{GoesOut};
 ghost use Rattle.fc_workers.specs.Steps.{IsReady, IsToAnswer, Walked};
 ghost use Rattle.fc_workers.specs.Work.{IsFinished, IsReplied, IsRequestWorked, IsWorked, IsWorkedTo};
-ghost use Rattle.fc_workers.specs.Workers.{Share as Done};
+ghost use Rattle.fc_backend.specs.Statistics.{Share as Done};
 
-use crate::bench::Bench;
-use crate::context::{Context, Gate, TimeSource, Wire};
-use crate::job_message::JobMessage;
+use crate::context::Context;
 use crate::scratch::Scratch;
-use crate::share::{Share, ShareOf};
-use crate::track_log::TrackLog;
 use coap_msg::Emission;
+use fc_backend::{Bench, Gate, JobMessage, Share, ShareOf, TimeSource, TrackLog, Wire};
 use fc_jobs::{Got, Jobs};
 use fc_machine::Frame;
 use fc_observe::Turn;
@@ -75,7 +71,7 @@ pub fn worker<B: Bench, G: Gate, W: Wire, M: TimeSource, R: Wait>(
     seat: SeedOf<B::Tallies, B::Book>,
 ) -> ShareOf<B::Tallies, B::Book>
     requires { seat.got.channel ≡ jobs.now }
-    ensures { IsShareOf B.Book.first_job (worker_view B.changes B.ended B.called B.logged M.is_time M.is_random G.passed W.called) seat result }
+    ensures { IsShareOf B.Book.first_job (worker_view B.changes B.ended B.called B.logged M.is_time M.is_random G.passed G.answered W.called) seat result }
 {
     let WorkerSeed {
         got,
@@ -110,7 +106,7 @@ impl<'a, B: Bench, G: Gate, W: Wire, M: TimeSource> Context<'a, B, G, W, M> {
         job: &Job,
         share: &mut ShareOf<B::Tallies, B::Book>,
     )
-        ensures worked { IsReplied (worker_view B.changes B.ended B.called B.logged M.is_time M.is_random G.passed W.called)
+        ensures worked { IsReplied (worker_view B.changes B.ended B.called B.logged M.is_time M.is_random G.passed G.answered W.called)
             number job.now share.old share.new }
         ensures ended { B.ended share.new.tallies ≡ saturated (B.ended share.old.tallies + 1) }
         ensures got { share.new.got ≡ share.old.got }
@@ -135,9 +131,9 @@ impl<'a, B: Bench, G: Gate, W: Wire, M: TimeSource> Context<'a, B, G, W, M> {
         requires asked { job.now.turn ≡ None }
         requires ready { IsReady job.now scratch.old.stage }
         ensures worked { (before : Done B.Tallies)
-            → Walked (worker_view B.changes B.ended B.called B.logged M.is_time M.is_random G.passed W.called)
+            → Walked (worker_view B.changes B.ended B.called B.logged M.is_time M.is_random G.passed G.answered W.called)
             number job.now scratch.old.stage before share.old
-            → IsReplied (worker_view B.changes B.ended B.called B.logged M.is_time M.is_random G.passed W.called)
+            → IsReplied (worker_view B.changes B.ended B.called B.logged M.is_time M.is_random G.passed G.answered W.called)
             number job.now before share.new }
         ensures ended { B.ended share.new.tallies ≡ saturated (B.ended share.old.tallies + 1) }
     {
@@ -156,7 +152,7 @@ impl<'a, B: Bench, G: Gate, W: Wire, M: TimeSource> Context<'a, B, G, W, M> {
         job: &Job,
         share: &mut ShareOf<B::Tallies, B::Book>,
     ) -> bool
-        ensures worked { IsWorked (worker_view B.changes B.ended B.called B.logged M.is_time M.is_random G.passed W.called)
+        ensures worked { IsWorked (worker_view B.changes B.ended B.called B.logged M.is_time M.is_random G.passed G.answered W.called)
             number job.now share.old share.new (emission_if result scratch.new.reply) }
         ensures ended { B.ended share.new.tallies ≡ saturated (B.ended share.old.tallies + 1) }
         ensures got { share.new.got ≡ share.old.got }
@@ -182,7 +178,7 @@ impl<'a, B: Bench, G: Gate, W: Wire, M: TimeSource> Context<'a, B, G, W, M> {
         share: &mut ShareOf<B::Tallies, B::Book>,
     ) -> bool
         requires asked { job.now.turn ≡ None }
-        ensures worked { IsRequestWorked (worker_view B.changes B.ended B.called B.logged M.is_time M.is_random G.passed W.called)
+        ensures worked { IsRequestWorked (worker_view B.changes B.ended B.called B.logged M.is_time M.is_random G.passed G.answered W.called)
             number job.now share.old share.new (emission_if result scratch.new.reply) }
         ensures ended { B.ended share.new.tallies ≡ saturated (B.ended share.old.tallies + 1) }
         ensures got { share.new.got ≡ share.old.got }
@@ -202,9 +198,9 @@ impl<'a, B: Bench, G: Gate, W: Wire, M: TimeSource> Context<'a, B, G, W, M> {
     ) -> bool
         requires { IsToAnswer job.now scratch.old.stage }
         ensures worked { (number : ℕ) (before : Done B.Tallies)
-            → IsWorkedTo (worker_view B.changes B.ended B.called B.logged M.is_time M.is_random G.passed W.called)
+            → IsWorkedTo (worker_view B.changes B.ended B.called B.logged M.is_time M.is_random G.passed G.answered W.called)
             number job.now scratch.old.stage before share.old
-            → IsRequestWorked (worker_view B.changes B.ended B.called B.logged M.is_time M.is_random G.passed W.called)
+            → IsRequestWorked (worker_view B.changes B.ended B.called B.logged M.is_time M.is_random G.passed G.answered W.called)
             number job.now before share.new (emission_if result scratch.new.reply) }
         ensures goes_out { result ≡ true → GoesOut scratch.new.reply }
         ensures ended { B.ended share.new.tallies ≡ saturated (B.ended share.old.tallies + 1) }
@@ -215,8 +211,12 @@ impl<'a, B: Bench, G: Gate, W: Wire, M: TimeSource> Context<'a, B, G, W, M> {
         };
         let Share { tallies, log, .. } = share;
         let now = self.now(rt, log);
-        self.bench
-            .respond(rt, now, job, answer, &mut scratch.reply, tallies, log)
+        let reply = &mut scratch.reply;
+        let has_reply = self
+            .bench
+            .respond(rt, now, job, answer, reply, tallies, log);
+        self.after_answer(job, has_reply, reply, log);
+        has_reply
     }
 
     // Sends `reply` if `replies`, and counts it as sent or as failed. The last call reports to the
@@ -230,7 +230,7 @@ impl<'a, B: Bench, G: Gate, W: Wire, M: TimeSource> Context<'a, B, G, W, M> {
         share: &mut ShareOf<B::Tallies, B::Book>,
     )
         requires { replies ≡ true → GoesOut reply.now }
-        ensures finished { IsFinished (worker_view B.changes B.ended B.called B.logged M.is_time M.is_random G.passed W.called)
+        ensures finished { IsFinished (worker_view B.changes B.ended B.called B.logged M.is_time M.is_random G.passed G.answered W.called)
             number (emission_if replies reply.now) share.old share.new }
         ensures tallies { share.new.tallies ≡ share.old.tallies }
         ensures got { share.new.got ≡ share.old.got }

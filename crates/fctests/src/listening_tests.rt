@@ -5,6 +5,7 @@
 use crate::serving::slots_without_store;
 use crate::socket_tests::unrecorded;
 use coap_msg::Endpoint;
+use fc_backend::{CallLog, TimeSource};
 use fc_cli::Status;
 use fc_core::DEFAULT_POLICY;
 use fc_core::front::blank_emission;
@@ -13,7 +14,6 @@ use fc_host::clock::Elapsed;
 use fc_host::sensors::NoSensors;
 use fc_host::socket::{BUFFER, Receiving, Sink, Source, open};
 use fc_service::serve::{Extent, Listening, serve};
-use fc_workers::{CallLog, TimeSource};
 use log::sink::Memory;
 use log::{LevelFilter, Logged};
 use std::io::Write;

@@ -1,7 +1,8 @@
 //! The clients' side of a traced pool: what they receive, the clock, and the device.
 use coap_msg::Emission;
+use fc_backend::{CallLog, Device, Gate, TimeSource, Wire};
 use fc_help::{READINGS, Readings};
-use fc_workers::{CallLog, Device, Gate, TimeSource, Wire};
+use fc_registry::Job;
 use std::alloc::Global;
 use std::sync::atomic::{AtomicU64, Ordering};
 use std::sync::{Mutex, Wait};
@@ -141,7 +142,7 @@ impl Device for Clients {
     }
 }
 
-/// A test hook that delays no job.
+/// Hooks that do nothing.
 #[derive(Drop)]
 pub(crate) struct Open;
 
@@ -149,6 +150,13 @@ impl Gate for Open {
     fn between<R: Wait>(&self, rt: &R, number: u64, log: &mut CallLog) {
         let _ = rt;
         let _ = number;
+        let _ = log;
+    }
+
+    fn after_answer(&self, job: &Job, has_reply: bool, reply: &Emission, log: &mut CallLog) {
+        let _ = job;
+        let _ = has_reply;
+        let _ = reply;
         let _ = log;
     }
 }

@@ -1,6 +1,6 @@
 //! The store of a traced pool, which refuses some updates.
+use fc_locked::ReadyStore;
 use fc_store::{MemoryStore, SlotUpdate, Store};
-use fc_workers::ReadyStore;
 use std::alloc::{AllocError, Global};
 
 /// The store refuses one update of this many.

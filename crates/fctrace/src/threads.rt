@@ -1,18 +1,16 @@
 //! The threads of a traced pool: its workers and its driver.
 ghost use Rattle.std.specs.Prelude.{◌≡◌, ◌+◌, ◌<◌, IfOk, vec_len};
 ghost use Rattle.std.specs.List.{All};
-ghost use Rattle.fc_workers.specs.Messages.{first_brought};
-ghost use Rattle.fc_workers.specs.OneOrder.{IsNewLog};
+ghost use Rattle.fc_backend.specs.Messages.{first_brought};
+ghost use Rattle.fc_backend.specs.Logs.{IsNewLog};
 
 use crate::clients::Open;
 use crate::traced_bench::TracedBench;
 use crate::traced_run::TracedRun;
+use fc_backend::{Bench, JobKeys, JobMessage, Share, ShareOf, TrackLog};
 use fc_filed::ServerName;
 use fc_jobs::{Jobs, Sent};
-use fc_workers::{
-    Bench, Context, Dispatcher, JobKeys, JobMessage, SeedOf, Share, ShareOf, TrackLog, make_seats,
-    worker,
-};
+use fc_workers::{Context, Dispatcher, SeedOf, make_seats, worker};
 use std::alloc::AllocError;
 use std::sync::Wait;
 use std::thread;

@@ -1,6 +1,7 @@
 //! A backend whose calls are traced.
 use crate::call_trace::CallTrace;
 use coap_msg::{Emission, Endpoint};
+use fc_backend::{Bench, TrackLog};
 use fc_core::{Answer, FrontGauges, Handled};
 use fc_filed::ServerBook;
 use fc_help::Readings;
@@ -11,7 +12,6 @@ use fc_registry::{
     SlotSnapshot, Taken, Ticket,
 };
 use fc_verify::Verified;
-use fc_workers::{Bench, TrackLog};
 use std::sync::{Arc, Mutex, Wait};
 
 /// A backend, as one thread calls it, that adds each call to a trace.

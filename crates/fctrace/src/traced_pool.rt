@@ -1,23 +1,22 @@
 //! A run of a traced pool: a new server, its threads, and the trace of their calls.
 ghost use Rattle.std.specs.Prelude.{◌≡◌, ◌+◌, IfOk, vec_len};
 ghost use Rattle.std.specs.List.{All};
-ghost use Rattle.fc_workers.specs.Messages.{first_brought};
-ghost use Rattle.fc_workers.specs.Naming.{AreNamed};
-ghost use Rattle.fc_workers.specs.OneOrder.{IsNewLog};
+ghost use Rattle.fc_backend.specs.Messages.{first_brought};
+ghost use Rattle.fc_locked.specs.Naming.{AreNamed};
+ghost use Rattle.fc_backend.specs.Logs.{IsNewLog};
 
 use crate::call_trace::CallTrace;
 use crate::clients::Clients;
 use crate::refusing_store::RefusingStore;
 use crate::threads::{PoolShares, PoolSharesOf, run_threads};
 use crate::traced_run::TracedRun;
+use fc_backend::{JobKeys, TrackLog};
 use fc_core::{DEFAULT_POLICY, Policy};
 use fc_filed::NewServerBook;
+use fc_locked::{Blanks, Books, ClosedServer, Locked, ReadyStore, ServerOf, Tallies, Unassigned};
 use fc_server::{Begin, FirstServer};
 use fc_store::Store;
-use fc_workers::{
-    Blanks, Books, ClosedServer, JobKeys, Locked, Offload, ReadyStore, ServerOf, Tallies, TrackLog,
-    Unassigned,
-};
+use fc_workers::Offload;
 use std::alloc::{AllocError, Global};
 use std::marker::Brand;
 use std::sync::Wait;

@@ -1,20 +1,21 @@
 //! A shard under its lock: the changes that its calls count.
 ghost use Rattle.std.specs.Prelude.{◌≡◌, ◌+◌, false};
 ghost use Rattle.fc_store.specs.Stored.{blank_slot};
-ghost use Rattle.fc_workers.specs.Naming.{AreNamed};
+ghost use Rattle.fc_locked.specs.Naming.{AreNamed};
 
 use crate::job_tests::job;
 use crate::overtaking_tests::{Bare, COUNTER};
+use fc_backend::{Bench, TrackLog};
 use fc_core::DEFAULT_POLICY;
 use fc_filed::NewServerBook;
 use fc_help::{Method, NO_READINGS, Request};
+use fc_locked::{Blanks, Books, Locked};
 use fc_machine::{Frame, run};
 use fc_registry::{Ask, Committed, Job, Removal, SlotNumber, SlotSnapshot, Taken, Ticket};
 use fc_server::{Begin, FirstServer};
 use fc_service::pool::no_store;
 use fc_store::NoStore;
 use fc_verify::verify;
-use fc_workers::{Bench, Blanks, Books, Locked, TrackLog};
 use std::alloc::Global;
 use std::marker::Brand;
 use std::sync::{Arc, Wait};

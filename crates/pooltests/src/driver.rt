@@ -3,9 +3,10 @@
 //! It delivers datagrams to a server, and sends the jobs to the workers.
 use crate::overtaking_tests::Replies;
 use coap_msg::Endpoint;
+use fc_backend::{Bench, Gate};
 use fc_core::front::blank_emission;
 use fc_registry::SlotNumber;
-use fc_workers::{Bench, Dispatcher, Gate};
+use fc_workers::Dispatcher;
 use std::alloc::{AllocError, Global};
 use std::sync::Wait;
 

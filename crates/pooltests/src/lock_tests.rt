@@ -5,10 +5,12 @@ use crate::driver::{Deliver, Request, datagram};
 use crate::overtaking_tests::{
     COUNTER, CREATED, Crew, Drive, Held, Replies, Reply, Trial, hold, work_fed,
 };
+use coap_msg::Emission;
+use fc_backend::{Bench, CallLog, Device, Gate};
 use fc_calls::ShardCall;
-use fc_registry::{Shard, SlotNumber};
+use fc_locked::{Books, Locked};
+use fc_registry::{Job, Shard, SlotNumber};
 use fc_store::Store;
-use fc_workers::{Bench, Books, CallLog, Device, Gate, Locked};
 use std::alloc::{AllocError, Global};
 use std::sync::Wait;
 use std::test::Fail;
@@ -56,7 +58,7 @@ impl<'a, B: Books, D: Device, K: Store + Drop> Locks for Locked<'a, B, D, K> {
     }
 }
 
-// A test hook that delays no job.
+// Hooks that do nothing.
 #[derive(Drop)]
 pub(crate) struct Open;
 
@@ -64,6 +66,13 @@ impl Gate for Open {
     fn between<R: Wait>(&self, rt: &R, number: u64, log: &mut CallLog) {
         let _ = rt;
         let _ = number;
+        let _ = log;
+    }
+
+    fn after_answer(&self, job: &Job, has_reply: bool, reply: &Emission, log: &mut CallLog) {
+        let _ = job;
+        let _ = has_reply;
+        let _ = reply;
         let _ = log;
     }
 }

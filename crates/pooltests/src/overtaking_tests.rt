@@ -4,9 +4,9 @@
 ghost use Rattle.std.specs.Prelude.{◌≡◌, ◌+◌, ◌<◌, false, vec_len};
 ghost use Rattle.std.specs.List.{All};
 ghost use Rattle.fc_store.specs.Stored.{blank_slot};
-ghost use Rattle.fc_workers.specs.Messages.{first_brought};
-ghost use Rattle.fc_workers.specs.Naming.{AreNamed};
-ghost use Rattle.fc_workers.specs.OneOrder.{IsNewLog};
+ghost use Rattle.fc_backend.specs.Messages.{first_brought};
+ghost use Rattle.fc_locked.specs.Naming.{AreNamed};
+ghost use Rattle.fc_backend.specs.Logs.{IsNewLog};
 
 use crate::driver::{Deliver, Driver, Request};
 use crate::job_tests::job;
@@ -14,19 +14,20 @@ use crate::lock_tests::{Locks, ShardHeld};
 use crate::told_tests::Told;
 use arrayvec::ArrayVec;
 use coap_msg::Emission;
+use fc_backend::{
+    Bench, CallLog, Device, Gate, JobKeys, JobMessage, ShareOf, TimeSource, TrackLog, Wire,
+};
 use fc_core::DEFAULT_POLICY;
 use fc_filed::{NewServerBook, ServerName};
 use fc_help::{NO_READINGS, Readings};
 use fc_jobs::{Jobs, Sent};
-use fc_registry::SlotNumber;
+use fc_locked::{Blanks, Books, Locked};
+use fc_registry::{Job, SlotNumber};
 use fc_server::{DEFAULT_BEGIN, FirstServer};
 use fc_service::pool::no_store;
 use fc_store::NoStore;
 use fc_verify::{Verified, verify};
-use fc_workers::{
-    Bench, Blanks, Books, CallLog, Context, Device, Dispatcher, Gate, JobKeys, JobMessage, Locked,
-    Offload, SeedOf, ShareOf, TimeSource, TrackLog, Wire, drive_workers, make_seats,
-};
+use fc_workers::{Context, Dispatcher, Offload, SeedOf, drive_workers, make_seats};
 use std::alloc::{AllocError, Global};
 use std::marker::Brand;
 use std::sync::atomic::{AtomicUsize, Ordering};
@@ -172,6 +173,13 @@ impl<'c, 'r, C: Clock> Gate for Holding<'c, 'r, C> {
         if number == 1 {
             self.replies.wait_for(rt, self.clock, 2);
         }
+    }
+
+    fn after_answer(&self, job: &Job, has_reply: bool, reply: &Emission, log: &mut CallLog) {
+        let _ = job;
+        let _ = has_reply;
+        let _ = reply;
+        let _ = log;
     }
 }
 
@@ -359,6 +367,13 @@ impl<'a, B: Bench> Gate for Changing<'a, B> {
             let Turn { tallies, log, .. } = &mut *turn;
             let _made = self.bench.install(rt, &job(0), counter, tallies, log);
         }
+    }
+
+    fn after_answer(&self, job: &Job, has_reply: bool, reply: &Emission, log: &mut CallLog) {
+        let _ = job;
+        let _ = has_reply;
+        let _ = reply;
+        let _ = log;
     }
 }
 

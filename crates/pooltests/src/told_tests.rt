@@ -4,22 +4,20 @@
 //! contracts don't say in which state of the front or of a shard such a call is made. They don't
 //! state the effect of the random word either.
 ghost use Rattle.std.specs.Prelude.{◌≡◌};
-ghost use Rattle.fc_workers.specs.Messages.{first_brought};
-ghost use Rattle.fc_workers.specs.OneOrder.{IsNewLog};
+ghost use Rattle.fc_backend.specs.Messages.{first_brought};
+ghost use Rattle.fc_backend.specs.Logs.{IsNewLog};
 
 use crate::driver::{PEER, Request, datagram};
 use crate::lock_tests::Open;
 use crate::overtaking_tests::{COUNTER, Crew, Held, Replies, Trial, hold};
+use fc_backend::{Bench, CallLog, JobKeys, JobMessage, ShareOf, TimeSource, TrackLog};
 use fc_core::Handled;
 use fc_core::front::{blank_emission, blank_job};
 use fc_filed::ServerName;
 use fc_jobs::{Jobs, Sent};
 use fc_observe::{Ticked, Turn};
 use fc_registry::SlotNumber;
-use fc_workers::{
-    Bench, CallLog, Context, Dispatcher, JobKeys, JobMessage, Offload, SeedOf, ShareOf, TimeSource,
-    TrackLog, WorkerSeed, make_seats,
-};
+use fc_workers::{Context, Dispatcher, Offload, SeedOf, WorkerSeed, make_seats};
 use std::alloc::{AllocError, Global};
 use std::sync::Wait;
 use std::sync::atomic::{AtomicU64, Ordering};

@@ -1,7 +1,7 @@
 use Rattle.std.proofs.Common.{◌≡◌, ◌∙◌, ℕ, ◌+◌, List, [], ◌∷◌, ap}
-use Rattle.fc_workers.specs.Answers.{saturated}
-use Rattle.fc_workers.specs.Counts.{Tallies}
-use Rattle.fc_workers.specs.Workers.{Share}
+use Rattle.fc_backend.specs.Answers.{saturated}
+use Rattle.fc_locked.specs.Counts.{Tallies}
+use Rattle.fc_backend.specs.Statistics.{Share}
 use Rattle.fc_service.specs.Counting.{both_replies, replies_by, replies_of}
 use Rattle.fc_service.specs.declared.replies.Replies.{Replies}
 use Rattle.fc_service.proofs.laws.replies_of_all_threads_are_counted.Goals as goal

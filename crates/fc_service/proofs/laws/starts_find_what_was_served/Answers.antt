@@ -1,7 +1,7 @@
 use Rattle.std.proofs.Common.{◌+◌, length}
 use Rattle.fc_filed.proofs.Recovered.{finds_history}
-use Rattle.fc_workers.specs.Messages.{first_brought}
-use Rattle.fc_workers.specs.OneOrder.{logs_of}
+use Rattle.fc_backend.specs.Messages.{first_brought}
+use Rattle.fc_locked.specs.OneOrder.{logs_of}
 use Rattle.fc_service.proofs.FirstSerials.{restored_are_stored}
 use Rattle.fc_service.proofs.laws.starts_find_what_was_served.Goals as goal
 

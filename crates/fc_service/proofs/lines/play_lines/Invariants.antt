@@ -1,7 +1,7 @@
 use Rattle.std.proofs.Common.{◌≡◌, length}
 use Rattle.std.specs.Io.Iter.{split_byte, split_known_bytes}
 use Rattle.fc_service.specs.Playing.{HasPlayed}
-use Rattle.fc_workers.specs.Answers.{saturated}
+use Rattle.fc_backend.specs.Answers.{saturated}
 use Rattle.fc_service.proofs.lines.play_lines.Given as goal
 
 -- the lines read so far were played, and `number` is their number, at most 2^64 - 1.

@@ -1,8 +1,8 @@
 use Rattle.std.proofs.Common.{◌≡◌, ◌+◌, [], ◌∷◌, length, map, arith}
 use Rattle.std.proofs.lemmas.List.{length-append, length-map}
-use Rattle.fc_workers.specs.OneOrder.{logs_of}
-use Rattle.fc_workers.specs.Workers.{Share}
-use Rattle.fc_workers.proofs.Pools.{pool_is_saved}
+use Rattle.fc_locked.specs.OneOrder.{logs_of}
+use Rattle.fc_backend.specs.Statistics.{Share}
+use Rattle.fc_service.proofs.Pools.{pool_is_saved}
 use Rattle.fc_service.proofs.pool.close.Goals as goal
 
 pub returns-clause-order : goal.returns-clause-order

@@ -1,6 +1,6 @@
 use Rattle.std.proofs.Common.{◌≡◌, ◌+◌, arith, subst, sym}
 use Rattle.std.specs.Prelude.{vec_len}
-use Rattle.fc_workers.specs.SharedStores.{HasSaved}
+use Rattle.fc_locked.specs.SharedStores.{HasSaved}
 use Rattle.fc_service.specs.Pooled.{IsFed, offload_where, locked_view}
 use Rattle.fc_service.proofs.pool.run_named.Goals as goal
 

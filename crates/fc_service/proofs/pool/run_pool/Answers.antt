@@ -2,8 +2,8 @@ use Rattle.std.proofs.Common.{subst}
 use Rattle.std.specs.Prelude.{IfOk}
 use Rattle.fc_filed.specs.Recovered.{HaveSavedOrder}
 use Rattle.fc_server.specs.States.{ServerState}
-use Rattle.fc_workers.specs.Closing.{HasCountedAll}
-use Rattle.fc_workers.specs.SharedStores.{HasSaved}
+use Rattle.fc_locked.specs.Closing.{HasCountedAll}
+use Rattle.fc_locked.specs.SharedStores.{HasSaved}
 use Rattle.fc_service.specs.Pooled.{IsFedBeside, locked_view, offload_where}
 use Rattle.fc_service.proofs.pool.run_pool.Goals as goal
 

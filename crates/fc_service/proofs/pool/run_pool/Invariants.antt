@@ -1,4 +1,4 @@
-use Rattle.fc_workers.specs.Naming.{names_of}
+use Rattle.fc_locked.specs.Naming.{names_of}
 use Rattle.fc_service.proofs.pool.run_pool.Given as goal
 
 abbrev pub ghosts-run_named : goal.ghosts-run_named

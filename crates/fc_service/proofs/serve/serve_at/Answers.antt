@@ -2,7 +2,7 @@ use Rattle.std.proofs.Common.{◌≡◌, List, subst}
 use Rattle.std.specs.Prelude.{IfSome}
 use Rattle.fc_filed.specs.Recovered.{HaveSavedOrder}
 use Rattle.fc_host.specs.declared.timer.Timer.{Timer}
-use Rattle.fc_workers.specs.SharedStores.{HasSaved}
+use Rattle.fc_locked.specs.SharedStores.{HasSaved}
 use Rattle.fc_service.specs.Rounds.{IsServed, round_calls}
 use Rattle.fc_service.specs.declared.replies.Replies.{Replies as Counts}
 use Rattle.fc_service.proofs.serve.serve_at.Goals as goal

@@ -1,10 +1,10 @@
 use Rattle.std.proofs.Common.{◌≡◌, ◌+◌, ◌∙◌, ap, subst}
 use Rattle.fc_host.specs.Clocks.{AreReadAt}
 use Rattle.fc_filed.specs.Recovered.{HaveSavedOrder}
-use Rattle.fc_workers.specs.LegalOrder.{HaveSavedLegalOrder}
-use Rattle.fc_workers.specs.OneOrder.{logs_of}
-use Rattle.fc_workers.specs.SharedStores.{HasSaved}
-use Rattle.fc_workers.specs.Workers.{Share}
+use Rattle.fc_locked.specs.LegalOrder.{HaveSavedLegalOrder}
+use Rattle.fc_locked.specs.OneOrder.{logs_of}
+use Rattle.fc_locked.specs.SharedStores.{HasSaved}
+use Rattle.fc_backend.specs.Statistics.{Share}
 use Rattle.fc_workers.specs.declared.dispatcher.Offload.{Offload}
 use Rattle.fc_service.specs.Counting.{both_replies, replies_by, replies_of}
 use Rattle.fc_service.specs.Pooled.{IsNew, locked_view, offload_where}

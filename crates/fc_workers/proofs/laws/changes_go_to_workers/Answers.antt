@@ -7,9 +7,10 @@ use Rattle.fc_registry.specs.Calls.{is_post}
 use Rattle.fc_registry.specs.declared.job.Ask.{Ask}
 use Rattle.fc_registry.specs.declared.job.Ask.TheVariants.{Describe, Install, Remove, Run}
 use Rattle.fc_registry.specs.declared.job.Job.{Job}
-use Rattle.fc_workers.specs.Called.{FindsSaving, WorkerView, worker_view}
+use Rattle.fc_backend.specs.Called.{FindsSaving}
+use Rattle.fc_workers.specs.Views.{WorkerView, worker_view}
 use Rattle.fc_workers.specs.Dispatch.{HasLeastCost, HasReadCost, IsHeldUp, MayGo, ReadsSlot, may_change_slot, requests_change, unsent}
-use Rattle.fc_workers.specs.Logs.{TrackedLog}
+use Rattle.fc_backend.specs.Logs.{TrackedLog}
 use Rattle.fc_workers.specs.Steps.{AsksRun}
 use Rattle.fc_workers.specs.Work.{IsReplied}
 use Rattle.fc_workers.specs.declared.dispatcher.Offload.TheVariants.{ChangesAndExpensive}
@@ -59,27 +60,27 @@ returns-clause-post g c = λ log. inr refl
 
 pub returns-clause-install : goal.returns-clause-install
 returns-clause-install g c = λ job image initial log turn is.
-    let s = worker_view g.B.Bench.changes g.B.Bench.ended g.B.Bench.called g.B.Bench.logged g.M.TimeSource.is_time g.M.TimeSource.is_random g.G.Gate.passed g.W.Wire.called in
+    let s = worker_view g.B.Bench.changes g.B.Bench.ended g.B.Bench.called g.B.Bench.logged g.M.TimeSource.is_time g.M.TimeSource.is_random g.G.Gate.passed g.G.Gate.answered g.W.Wire.called in
     goes s job log (change_of job (Install image initial) turn is refl)
 
 pub returns-clause-removal : goal.returns-clause-removal
 returns-clause-removal g c = λ job log turn is.
-    let s = worker_view g.B.Bench.changes g.B.Bench.ended g.B.Bench.called g.B.Bench.logged g.M.TimeSource.is_time g.M.TimeSource.is_random g.G.Gate.passed g.W.Wire.called in
+    let s = worker_view g.B.Bench.changes g.B.Bench.ended g.B.Bench.called g.B.Bench.logged g.M.TimeSource.is_time g.M.TimeSource.is_random g.G.Gate.passed g.G.Gate.answered g.W.Wire.called in
     goes s job log (change_of job Remove turn is refl)
 
 pub returns-clause-unread : goal.returns-clause-unread
 returns-clause-unread g c =
-    let s = worker_view g.B.Bench.changes g.B.Bench.ended g.B.Bench.called g.B.Bench.logged g.M.TimeSource.is_time g.M.TimeSource.is_random g.G.Gate.passed g.W.Wire.called in
+    let s = worker_view g.B.Bench.changes g.B.Bench.ended g.B.Bench.called g.B.Bench.logged g.M.TimeSource.is_time g.M.TimeSource.is_random g.G.Gate.passed g.G.Gate.answered g.W.Wire.called in
     unread s
 
 pub returns-clause-here : goal.returns-clause-here
 returns-clause-here g c = λ before after is.
-    let s = worker_view g.B.Bench.changes g.B.Bench.ended g.B.Bench.called g.B.Bench.logged g.M.TimeSource.is_time g.M.TimeSource.is_random g.G.Gate.passed g.W.Wire.called in
+    let s = worker_view g.B.Bench.changes g.B.Bench.ended g.B.Bench.called g.B.Bench.logged g.M.TimeSource.is_time g.M.TimeSource.is_random g.G.Gate.passed g.G.Gate.answered g.W.Wire.called in
     subst (λ (log : TrackedLog). IsReplied s unsent (timer_job 5) (record before.share { log = log }) after.share) is.stays is.worked
 
 pub returns-clause-expensive : goal.returns-clause-expensive
 returns-clause-expensive g c = λ job request before after is get read.
-    let s = worker_view g.B.Bench.changes g.B.Bench.ended g.B.Bench.called g.B.Bench.logged g.M.TimeSource.is_time g.M.TimeSource.is_random g.G.Gate.passed g.W.Wire.called in
+    let s = worker_view g.B.Bench.changes g.B.Bench.ended g.B.Bench.called g.B.Bench.logged g.M.TimeSource.is_time g.M.TimeSource.is_random g.G.Gate.passed g.G.Gate.answered g.W.Wire.called in
     inr (subst (HasCost s job before after) (sym (get_of job request is get)) (6000, omega arith, read))
 
 pub returns-clause-held : goal.returns-clause-held
@@ -87,17 +88,17 @@ returns-clause-held g c = λ job request log is found. inl (subst ReadsSlot (sym
 
 pub returns-clause-cheap : goal.returns-clause-cheap
 returns-clause-cheap g c = λ job request before after is get may.
-    let s = worker_view g.B.Bench.changes g.B.Bench.ended g.B.Bench.called g.B.Bench.logged g.M.TimeSource.is_time g.M.TimeSource.is_random g.G.Gate.passed g.W.Wire.called in
+    let s = worker_view g.B.Bench.changes g.B.Bench.ended g.B.Bench.called g.B.Bench.logged g.M.TimeSource.is_time g.M.TimeSource.is_random g.G.Gate.passed g.G.Gate.answered g.W.Wire.called in
     goes_by s job before after (get_of job request is get) may
 
 pub returns-clause-lease : goal.returns-clause-lease
 returns-clause-lease g c = λ job number before after turn may.
-    let s = worker_view g.B.Bench.changes g.B.Bench.ended g.B.Bench.called g.B.Bench.logged g.M.TimeSource.is_time g.M.TimeSource.is_random g.G.Gate.passed g.W.Wire.called in
+    let s = worker_view g.B.Bench.changes g.B.Bench.ended g.B.Bench.called g.B.Bench.logged g.M.TimeSource.is_time g.M.TimeSource.is_random g.G.Gate.passed g.G.Gate.answered g.W.Wire.called in
     goes_by s job before after (ap (λ (t : Option ℕ). is_none t && requests_change job.ask) turn) may
 
 pub returns-clause-described : goal.returns-clause-described
 returns-clause-described g c = λ job before after is may.
-    let s = worker_view g.B.Bench.changes g.B.Bench.ended g.B.Bench.called g.B.Bench.logged g.M.TimeSource.is_time g.M.TimeSource.is_random g.G.Gate.passed g.W.Wire.called in
+    let s = worker_view g.B.Bench.changes g.B.Bench.ended g.B.Bench.called g.B.Bench.logged g.M.TimeSource.is_time g.M.TimeSource.is_random g.G.Gate.passed g.G.Gate.answered g.W.Wire.called in
     let unchanging = no_change job.turn (requests_change job.ask) (ap requests_change is) in
     describes s job before after is (goes_by s job before after unchanging may)
 

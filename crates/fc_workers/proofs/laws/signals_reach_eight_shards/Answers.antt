@@ -1,7 +1,7 @@
 use Rattle.std.proofs.Common.{subst}
 use Rattle.fc_calls.specs.Logged.{HandsSignal}
 use Rattle.fc_workers.specs.Dispatch.{AreSignalled}
-use Rattle.fc_workers.specs.Logs.{TrackedLog}
+use Rattle.fc_backend.specs.Logs.{TrackedLog}
 use Rattle.fc_workers.proofs.laws.signals_reach_eight_shards.Goals as goal
 
 pub returns : goal.returns

@@ -1,7 +1,7 @@
 use Rattle.std.proofs.Common.{IfOk, arith}
 use Rattle.std.specs.declared.result.Result.{Result}
 use Rattle.std.specs.declared.result.Result.TheVariants.{Ok, Err}
-use Rattle.fc_workers.specs.Called.{worker_view}
+use Rattle.fc_workers.specs.Views.{worker_view}
 use Rattle.fc_workers.proofs.Seats.{share_at}
 use Rattle.fc_workers.proofs.pool.run_workers.Goals as goal
 
@@ -13,7 +13,7 @@ by_both (Err e) P Q R f p q = tt
 pub returns : goal.returns
 returns g c =
     let s = (worker_view g.B.Bench.changes g.B.Bench.ended g.B.Bench.called g.B.Bench.logged
-    g.M.TimeSource.is_time g.M.TimeSource.is_random g.G.Gate.passed g.W.Wire.called) in
+    g.M.TimeSource.is_time g.M.TimeSource.is_random g.G.Gate.passed g.G.Gate.answered g.W.Wire.called) in
     by_both c.map_vec.result _ _ _
     (λ v len each. record {
       count = omega (arith, len, v.ok, c.args.seats.ok);

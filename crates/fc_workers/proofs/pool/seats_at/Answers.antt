@@ -4,10 +4,11 @@ use Rattle.std.proofs.lemmas.List.{append-nil, length-append, map-append, map-id
 use Rattle.std.proofs.lemmas.Iterator.Adapters.{YieldsList-from_vec}
 use Rattle.std.proofs.lemmas.Iterator.Consumers.{YieldsList-end}
 use Rattle.fc_jobs.specs.Ends.{Got, nothing_got}
-use Rattle.fc_workers.specs.Logs.{TrackedLog}
-use Rattle.fc_workers.specs.Messages.{TrackedJob}
+use Rattle.fc_backend.specs.Logs.{TrackedLog}
+use Rattle.fc_backend.specs.Messages.{TrackedJob}
 use Rattle.fc_workers.specs.Workers.{WorkerSeed}
-use Rattle.fc_workers.proofs.Seats.{all_popped, all_pushed, last_popped, moved_last}
+use Rattle.fc_backend.proofs.Popped.{last_popped}
+use Rattle.fc_workers.proofs.Seats.{all_popped, all_pushed, moved_last}
 use Rattle.fc_workers.proofs.pool.seats_at.Goals as goal
 
 no_more : (logs : List TrackedLog) → length logs ≡ 0 → logs ≡ []

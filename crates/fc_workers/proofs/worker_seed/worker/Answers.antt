@@ -2,10 +2,10 @@ use Rattle.std.proofs.Common.{◌∙◌, ap, subst, sym}
 use Rattle.fc_jobs.specs.Ends.{Got}
 use Rattle.fc_jobs.specs.declared.protocol.Numbered.{Numbered}
 use Rattle.fc_registry.specs.declared.job.Job.{Job}
-use Rattle.fc_workers.specs.Logs.{TrackedLog}
-use Rattle.fc_workers.specs.Messages.{TrackedJob}
-use Rattle.fc_workers.specs.Workers.{Share}
-use Rattle.fc_workers.specs.Called.{worker_view}
+use Rattle.fc_backend.specs.Logs.{TrackedLog}
+use Rattle.fc_backend.specs.Messages.{TrackedJob}
+use Rattle.fc_backend.specs.Statistics.{Share}
+use Rattle.fc_workers.specs.Views.{worker_view}
 use Rattle.fc_workers.specs.Shares.{HasEnded}
 use Rattle.fc_workers.specs.Work.{IsReplied}
 use Rattle.fc_workers.proofs.Turns.{sets_out, turns_on}
@@ -18,13 +18,13 @@ loop-init g c = (
   tt,
   ap (λ (s : Share _). s.got.channel) c.new-share.ensures ∙ c.requires,
   sets_out g.B.Book.ServerName.first_job (worker_view g.B.Bench.changes g.B.Bench.ended g.B.Bench.called g.B.Bench.logged
-      g.M.TimeSource.is_time g.M.TimeSource.is_random g.G.Gate.passed g.W.Wire.called) c.new-share.result,
+      g.M.TimeSource.is_time g.M.TimeSource.is_random g.G.Gate.passed g.G.Gate.answered g.W.Wire.called) c.new-share.result,
 )
 
 pub loop-preserved : goal.loop-preserved
 loop-preserved g c =
     let s = (worker_view g.B.Bench.changes g.B.Bench.ended g.B.Bench.called g.B.Bench.logged
-    g.M.TimeSource.is_time g.M.TimeSource.is_random g.G.Gate.passed g.W.Wire.called) in
+    g.M.TimeSource.is_time g.M.TimeSource.is_random g.G.Gate.passed g.G.Gate.answered g.W.Wire.called) in
     let first_job = g.B.Book.ServerName.first_job in
     let n : Numbered TrackedJob = record { number = c.in-Some-next.number; message = c.in-Some-next.message } in
     let got = c.in-Some-next.ensures.got in
@@ -42,7 +42,7 @@ loop-preserved g c =
 pub returns : goal.returns
 returns g c =
     let s = (worker_view g.B.Bench.changes g.B.Bench.ended g.B.Bench.called g.B.Bench.logged
-    g.M.TimeSource.is_time g.M.TimeSource.is_random g.G.Gate.passed g.W.Wire.called) in
+    g.M.TimeSource.is_time g.M.TimeSource.is_random g.G.Gate.passed g.G.Gate.answered g.W.Wire.called) in
     let first_job = g.B.Book.ServerName.first_job in
     let ended : HasEnded first_job s c.new-share.result c.match-next.share = elim c.match-next.branch [
       | in-None w ↦ subst (λ (x : Share _). HasEnded first_job s c.new-share.result x) (sym w.share-is) c.loop.invariant.3

@@ -1,5 +1,5 @@
 use Rattle.std.specs.Prelude.{true}
-use Rattle.fc_workers.specs.Naming.{names_of}
+use Rattle.fc_locked.specs.Naming.{names_of}
 use Rattle.fctrace.specs.contracts.refusing_store.RefusingStoreStore.TheImpl as refusing
 use Rattle.fctrace.proofs.traced_pool.run_traced.Given as goal
 

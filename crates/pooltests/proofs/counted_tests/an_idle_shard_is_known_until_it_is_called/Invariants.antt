@@ -1,6 +1,6 @@
 use Rattle.std.specs.Prelude.{false}
 use Rattle.fc_store.specs.Stored.{blank_slot}
-use Rattle.fc_workers.specs.Naming.{names_of}
+use Rattle.fc_locked.specs.Naming.{names_of}
 use Rattle.pooltests.proofs.counted_tests.an_idle_shard_is_known_until_it_is_called.Given as goal
 
 abbrev pub ghosts-know : goal.ghosts-know

@@ -1,6 +1,6 @@
 use Rattle.std.specs.Prelude.{false}
 use Rattle.fc_store.specs.Stored.{blank_slot}
-use Rattle.fc_workers.specs.Naming.{names_of}
+use Rattle.fc_locked.specs.Naming.{names_of}
 use Rattle.pooltests.proofs.overtaking_tests.hold.Given as goal
 
 abbrev pub ghosts-hold_named : goal.ghosts-hold_named

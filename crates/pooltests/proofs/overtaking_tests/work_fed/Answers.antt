@@ -3,7 +3,7 @@ use Rattle.std.specs.List.{All}
 use Rattle.std.specs.Prelude.{vec_len}
 use Rattle.std.proofs.lemmas.List.Elements.{All-take}
 use Rattle.fc_jobs.specs.Ends.{Got, nothing_got}
-use Rattle.fc_workers.specs.Messages.{TrackedJob}
+use Rattle.fc_backend.specs.Messages.{TrackedJob}
 use Rattle.fc_workers.specs.Workers.{WorkerSeed}
 use Rattle.pooltests.proofs.overtaking_tests.work_fed.Goals as goal
 

@@ -3,7 +3,7 @@ use Rattle.std.specs.Prelude.{MatchBool}
 use Rattle.fc_registry.specs.Shards.{no_shard}
 use Rattle.fc_registry.specs.Slots.{Shard}
 use Rattle.fc_registry.specs.Watches.{at_time, is_idle}
-use Rattle.fc_workers.specs.Answers.{IsSomeIdle}
+use Rattle.fc_backend.specs.Answers.{IsSomeIdle}
 use Rattle.fc_service.proofs.pool.PooledIngressIngress.advance_if_idle.Goals as goal
 
 -- a shard without observers is idle at each time.

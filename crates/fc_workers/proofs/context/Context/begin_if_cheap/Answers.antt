@@ -1,7 +1,7 @@
 use Rattle.std.proofs.Common.{arith, refl}
 use Rattle.fc_registry.specs.Views.{taken_with}
-use Rattle.fc_workers.specs.Answers.{IsSnapshotWith}
-use Rattle.fc_workers.specs.Called.{worker_view}
+use Rattle.fc_backend.specs.Answers.{IsSnapshotWith}
+use Rattle.fc_workers.specs.Views.{worker_view}
 use Rattle.fc_workers.proofs.Steps.{plain_takes, sets_out, took_step, walks_on}
 use Rattle.fc_workers.proofs.context.Context.begin_if_cheap.Goals as goal
 
@@ -11,7 +11,7 @@ invariant_of-stage-2 g c = (c.took.ensures c.take_if_cheap.new.found c.stage.ins
 pub returns-clause-begun : goal.returns-clause-begun
 returns-clause-begun g c is number =
     let s = (worker_view g.B.Bench.changes g.B.Bench.ended g.B.Bench.called g.B.Bench.logged
-    g.M.TimeSource.is_time g.M.TimeSource.is_random g.G.Gate.passed g.W.Wire.called) in
+    g.M.TimeSource.is_time g.M.TimeSource.is_random g.G.Gate.passed g.G.Gate.answered g.W.Wire.called) in
     let job = c.args.job.now in
     let share = c.args.share.now in
     let found = c.take_if_cheap.new.found in

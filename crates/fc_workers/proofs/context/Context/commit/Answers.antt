@@ -9,10 +9,10 @@ use Rattle.fc_registry.specs.Taken.{ticket_with}
 use Rattle.fc_core.specs.Room.{stage_of}
 use Rattle.fc_core.specs.Stage.{Stage, ToCommit}
 use Rattle.fc_core.specs.declared.stage.Step.TheVariants as steps
-use Rattle.fc_workers.specs.Answers.{AreTallied, IsSomeCommit}
+use Rattle.fc_backend.specs.Answers.{AreTallied, IsSomeCommit}
 use Rattle.fc_calls.specs.Logged.{CommitsRun}
-use Rattle.fc_workers.specs.Called.{worker_view}
-use Rattle.fc_workers.specs.Logs.{FilesRefusal, TrackedLog}
+use Rattle.fc_workers.specs.Views.{worker_view}
+use Rattle.fc_backend.specs.Logs.{FilesRefusal, TrackedLog}
 use Rattle.fc_workers.specs.Steps.{IsReady, IsStep}
 use Rattle.fc_workers.specs.Work.{IsCommitRefused, IsCommitted}
 use Rattle.fc_workers.proofs.Steps.{commit_step, from_stage, is_run, stands_at, unsaved_step}
@@ -25,7 +25,7 @@ invariant_of-stage g c = (c.committed.ensures c.stage.inside.found c.stage.insid
 pub returns-in-Some-clause-step : goal.returns-in-Some-clause-step
 returns-in-Some-clause-step g c =
     let s = (worker_view g.B.Bench.changes g.B.Bench.ended g.B.Bench.called g.B.Bench.logged
-    g.M.TimeSource.is_time g.M.TimeSource.is_random g.G.Gate.passed g.W.Wire.called) in
+    g.M.TimeSource.is_time g.M.TimeSource.is_random g.G.Gate.passed g.G.Gate.answered g.W.Wire.called) in
     let room = c.stage.inside in
     let t = c.of-ticket.result in
     let count = c.in-ToCommit.count in
@@ -59,7 +59,7 @@ returns-in-Some-clause-step g c =
 pub returns-in-None-clause-step : goal.returns-in-None-clause-step
 returns-in-None-clause-step g c =
     let s = (worker_view g.B.Bench.changes g.B.Bench.ended g.B.Bench.called g.B.Bench.logged
-    g.M.TimeSource.is_time g.M.TimeSource.is_random g.G.Gate.passed g.W.Wire.called) in
+    g.M.TimeSource.is_time g.M.TimeSource.is_random g.G.Gate.passed g.G.Gate.answered g.W.Wire.called) in
     let room = c.stage.inside in
     let t = c.of-ticket.result in
     let count = c.in-ToCommit.count in

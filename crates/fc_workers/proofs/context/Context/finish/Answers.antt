@@ -1,6 +1,6 @@
 use Rattle.std.proofs.Common.{Bool, ap, ◌∙◌}
 use Rattle.fc_core.specs.Receiving.{emission_if}
-use Rattle.fc_workers.specs.Called.{worker_view}
+use Rattle.fc_workers.specs.Views.{worker_view}
 use Rattle.fc_workers.proofs.Replies.{sends_nothing, sends_reply}
 use Rattle.fc_workers.proofs.context.Context.finish.Goals as goal
 use Rattle.fc_workers.proofs.context.Context.finish.Goals.{then-replies, else-replies}
@@ -8,7 +8,7 @@ use Rattle.fc_workers.proofs.context.Context.finish.Goals.{then-replies, else-re
 pub returns-clause-finished : goal.returns-clause-finished
 returns-clause-finished g c =
     let s = (worker_view g.B.Bench.changes g.B.Bench.ended g.B.Bench.called g.B.Bench.logged
-    g.M.TimeSource.is_time g.M.TimeSource.is_random g.G.Gate.passed g.W.Wire.called) in
+    g.M.TimeSource.is_time g.M.TimeSource.is_random g.G.Gate.passed g.G.Gate.answered g.W.Wire.called) in
     let share = c.args.share.now in
     let reply = c.args.reply.now in
     record {

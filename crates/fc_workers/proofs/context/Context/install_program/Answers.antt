@@ -5,10 +5,11 @@ use Rattle.fc_registry.specs.Changes.{Installed}
 use Rattle.fc_registry.specs.declared.receipt.Receipt.{Receipt}
 use Rattle.fc_core.specs.Fits.{IsSafe}
 use Rattle.fc_core.specs.Stages.{image_of, made}
-use Rattle.fc_workers.specs.Answers.{IsSomeInstall}
+use Rattle.fc_backend.specs.Answers.{IsSomeInstall}
 use Rattle.fc_calls.specs.Logged.{InstallsProgram}
-use Rattle.fc_workers.specs.Called.{RefusesSave, worker_view}
-use Rattle.fc_workers.specs.Logs.{FilesRefusal}
+use Rattle.fc_backend.specs.Called.{RefusesSave}
+use Rattle.fc_workers.specs.Views.{worker_view}
+use Rattle.fc_backend.specs.Logs.{FilesRefusal}
 use Rattle.fc_workers.proofs.Steps.{install_step, refuse_step, same_tallies}
 use Rattle.fc_workers.proofs.context.Context.install_program.Goals as goal
 
@@ -21,7 +22,7 @@ returns-in-Some-clause-step g c number =
     c.in-Ok.ensures.ok c.in-Some.ensures.logged in
     let safe : IsSafe c.args.program = record { runs = c.requires.runs; longest = c.requires.accepted.shapely.cost } in
     install_step (worker_view g.B.Bench.changes g.B.Bench.ended g.B.Bench.called g.B.Bench.logged
-    g.M.TimeSource.is_time g.M.TimeSource.is_random g.G.Gate.passed g.W.Wire.called) number c.args.job.now
+    g.M.TimeSource.is_time g.M.TimeSource.is_random g.G.Gate.passed g.G.Gate.answered g.W.Wire.called) number c.args.job.now
     c.args.program answer c.args.share.now c.install.new.tallies c.install.new.log c.requires.judged safe installs is
     c.in-Some.ensures.changes next
 
@@ -33,7 +34,7 @@ returns-in-Ok-clause-step g c number =
     let refused = subst (λ (p : Program). g.B.Bench.called (RefusesSave job.origin.slot (Installed p (initial_vars_of job.ask))) × FilesRefusal job.origin.slot (Installed p (initial_vars_of job.ask)) (image_of job.ask) before after)
     c.in-Ok.ensures.ok (c.in-None.ensures.refused refl) in
     refuse_step (worker_view g.B.Bench.changes g.B.Bench.ended g.B.Bench.called g.B.Bench.logged
-    g.M.TimeSource.is_time g.M.TimeSource.is_random g.G.Gate.passed g.W.Wire.called) number job
+    g.M.TimeSource.is_time g.M.TimeSource.is_random g.G.Gate.passed g.G.Gate.answered g.W.Wire.called) number job
     c.args.share.now c.install.new.tallies after (inr (c.args.program, (c.requires.judged, refused.0, refused.1))) c.in-None.ensures.changes c.answer_unsaved.ensures.answer c.answer_unsaved.ensures.counted
 
 pub returns-clause-step : goal.returns-clause-step
@@ -41,5 +42,5 @@ returns-clause-step g c number =
     let share = c.args.share.now in
     let refused = c.answer_uninstalled in
     refuse_step (worker_view g.B.Bench.changes g.B.Bench.ended g.B.Bench.called g.B.Bench.logged
-    g.M.TimeSource.is_time g.M.TimeSource.is_random g.G.Gate.passed g.W.Wire.called) number c.args.job.now
+    g.M.TimeSource.is_time g.M.TimeSource.is_random g.G.Gate.passed g.G.Gate.answered g.W.Wire.called) number c.args.job.now
     share share.tallies refused.new.share.log (inl (c.requires.accepted.shapely.program.head, refused.ensures.filed)) (same_tallies (g.B.Bench.changes share.tallies) c.args.job.now.origin.slot) refused.ensures.answer refused.ensures.counted

@@ -2,9 +2,9 @@ use Rattle.std.proofs.Common.{◌≡◌, ◌∙◌, ap, subst}
 use Rattle.fc_registry.specs.Views.{taken_with}
 use Rattle.fc_core.specs.Stage.{Stage, ToTake}
 use Rattle.fc_core.specs.declared.stage.Step.TheVariants as steps
-use Rattle.fc_workers.specs.Workers.{Share}
-use Rattle.fc_workers.specs.Answers.{IsSnapshotWith}
-use Rattle.fc_workers.specs.Called.{worker_view}
+use Rattle.fc_backend.specs.Statistics.{Share}
+use Rattle.fc_backend.specs.Answers.{IsSnapshotWith}
+use Rattle.fc_workers.specs.Views.{worker_view}
 use Rattle.fc_workers.specs.Steps.{IsReady}
 use Rattle.fc_workers.proofs.Steps.{asked_ends, from_stage, stands_at, took_step}
 use Rattle.fc_workers.proofs.context.Context.take.Goals as goal
@@ -15,7 +15,7 @@ invariant_of-stage g c = (c.took.ensures c.take-taken.new.found c.stage.inside.s
 pub returns-clause-step : goal.returns-clause-step
 returns-clause-step g c number =
     let s = (worker_view g.B.Bench.changes g.B.Bench.ended g.B.Bench.called g.B.Bench.logged
-    g.M.TimeSource.is_time g.M.TimeSource.is_random g.G.Gate.passed g.W.Wire.called) in
+    g.M.TimeSource.is_time g.M.TimeSource.is_random g.G.Gate.passed g.G.Gate.answered g.W.Wire.called) in
     let room = c.stage.inside in
     let count = c.in-ToTake.count in
     let at : c.args.stage.now ≡ ToTake count =

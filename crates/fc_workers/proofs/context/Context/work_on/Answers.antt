@@ -6,7 +6,7 @@ use Rattle.fc_core.specs.Contents.{Listed}
 use Rattle.fc_core.specs.Stages.{after_list, word_raised}
 use Rattle.fc_core.specs.declared.stage.Step.{Step}
 use Rattle.fc_core.specs.declared.stage.Step.TheVariants as steps
-use Rattle.fc_workers.specs.Called.{worker_view}
+use Rattle.fc_workers.specs.Views.{worker_view}
 use Rattle.fc_workers.specs.Steps.{IsReady, IsToAnswer, Walked, calls_left}
 use Rattle.fc_workers.proofs.Steps.{arrives, describe_step, lists_on, match_step, raise_step, stands_at, walks_on}
 use Rattle.fc_workers.proofs.context.Context.work_on.Goals as goal
@@ -17,7 +17,7 @@ calls-init g c = (c.requires.ready, λ before w. w, refl)
 pub calls-preserved-in-ToTake-1 : goal.calls-preserved-in-ToTake-1
 calls-preserved-in-ToTake-1 g c =
     let s = (worker_view g.B.Bench.changes g.B.Bench.ended g.B.Bench.called g.B.Bench.logged
-    g.M.TimeSource.is_time g.M.TimeSource.is_random g.G.Gate.passed g.W.Wire.called) in (
+    g.M.TimeSource.is_time g.M.TimeSource.is_random g.G.Gate.passed g.G.Gate.answered g.W.Wire.called) in (
       (c.take.ensures.step c.args.number).follows.ready,
       λ before w. walks_on s c.args.number c.args.job.now refl (c.calls.invariant.1 before w) (c.take.ensures.step c.args.number),
       c.take.ensures.ended ∙ c.calls.invariant.2,
@@ -29,7 +29,7 @@ calls-smaller-in-ToTake-1 g c = (c.take.ensures.step c.args.number).follows.fewe
 pub calls-preserved-in-ToCommit-1 : goal.calls-preserved-in-ToCommit-1
 calls-preserved-in-ToCommit-1 g c =
     let s = (worker_view g.B.Bench.changes g.B.Bench.ended g.B.Bench.called g.B.Bench.logged
-    g.M.TimeSource.is_time g.M.TimeSource.is_random g.G.Gate.passed g.W.Wire.called) in (
+    g.M.TimeSource.is_time g.M.TimeSource.is_random g.G.Gate.passed g.G.Gate.answered g.W.Wire.called) in (
       c.commit.ensures.step.follows.ready,
       λ before w. walks_on s c.args.number c.args.job.now refl (c.calls.invariant.1 before w) c.commit.ensures.step,
       c.commit.ensures.ended ∙ c.calls.invariant.2,
@@ -38,7 +38,7 @@ calls-preserved-in-ToCommit-1 g c =
 pub calls-preserved-in-ToMatch-1 : goal.calls-preserved-in-ToMatch-1
 calls-preserved-in-ToMatch-1 g c =
     let s = (worker_view g.B.Bench.changes g.B.Bench.ended g.B.Bench.called g.B.Bench.logged
-    g.M.TimeSource.is_time g.M.TimeSource.is_random g.G.Gate.passed g.W.Wire.called) in
+    g.M.TimeSource.is_time g.M.TimeSource.is_random g.G.Gate.passed g.G.Gate.answered g.W.Wire.called) in
     let room = c.stage.inside in
     let at : c.calls.scratch.stage ≡ ToMatch =
     stands_at c.calls.scratch.stage room.step steps.ToMatch room.found room.seen room.answer c.stage.view_is c.in-ToMatch.is in
@@ -51,7 +51,7 @@ calls-preserved-in-ToMatch-1 g c =
 pub calls-preserved-in-ToInstall-1 : goal.calls-preserved-in-ToInstall-1
 calls-preserved-in-ToInstall-1 g c =
     let s = (worker_view g.B.Bench.changes g.B.Bench.ended g.B.Bench.called g.B.Bench.logged
-    g.M.TimeSource.is_time g.M.TimeSource.is_random g.G.Gate.passed g.W.Wire.called) in
+    g.M.TimeSource.is_time g.M.TimeSource.is_random g.G.Gate.passed g.G.Gate.answered g.W.Wire.called) in
     let room = c.stage.inside in
     let at : c.calls.scratch.stage ≡ ToInstall =
     stands_at c.calls.scratch.stage room.step steps.ToInstall room.found room.seen room.answer c.stage.view_is c.in-ToInstall.is in (
@@ -70,7 +70,7 @@ calls-smaller-in-ToInstall-1 g c =
 pub calls-preserved-in-ToRemove-1 : goal.calls-preserved-in-ToRemove-1
 calls-preserved-in-ToRemove-1 g c =
     let s = (worker_view g.B.Bench.changes g.B.Bench.ended g.B.Bench.called g.B.Bench.logged
-    g.M.TimeSource.is_time g.M.TimeSource.is_random g.G.Gate.passed g.W.Wire.called) in
+    g.M.TimeSource.is_time g.M.TimeSource.is_random g.G.Gate.passed g.G.Gate.answered g.W.Wire.called) in
     let room = c.stage.inside in
     let at : c.calls.scratch.stage ≡ ToRemove =
     stands_at c.calls.scratch.stage room.step steps.ToRemove room.found room.seen room.answer c.stage.view_is c.in-ToRemove.is in (
@@ -89,7 +89,7 @@ calls-smaller-in-ToRemove-1 g c =
 pub calls-preserved-in-ToDescribe-1 : goal.calls-preserved-in-ToDescribe-1
 calls-preserved-in-ToDescribe-1 g c =
     let s = (worker_view g.B.Bench.changes g.B.Bench.ended g.B.Bench.called g.B.Bench.logged
-    g.M.TimeSource.is_time g.M.TimeSource.is_random g.G.Gate.passed g.W.Wire.called) in
+    g.M.TimeSource.is_time g.M.TimeSource.is_random g.G.Gate.passed g.G.Gate.answered g.W.Wire.called) in
     let room = c.stage.inside in
     let at : c.calls.scratch.stage ≡ ToDescribe =
     stands_at c.calls.scratch.stage room.step steps.ToDescribe room.found room.seen room.answer c.stage.view_is c.in-ToDescribe.is in
@@ -103,7 +103,7 @@ calls-preserved-in-ToDescribe-1 g c =
 pub calls-preserved-in-ToList-1 : goal.calls-preserved-in-ToList-1
 calls-preserved-in-ToList-1 g c =
     let s = (worker_view g.B.Bench.changes g.B.Bench.ended g.B.Bench.called g.B.Bench.logged
-    g.M.TimeSource.is_time g.M.TimeSource.is_random g.G.Gate.passed g.W.Wire.called) in
+    g.M.TimeSource.is_time g.M.TimeSource.is_random g.G.Gate.passed g.G.Gate.answered g.W.Wire.called) in
     let room = c.stage.inside in
     let at : c.calls.scratch.stage ≡ ToList room.seen =
     stands_at c.calls.scratch.stage room.step steps.ToList room.found room.seen room.answer c.stage.view_is c.in-ToList.is in
@@ -120,7 +120,7 @@ calls-preserved-in-ToList-1 g c =
 pub calls-preserved : goal.calls-preserved
 calls-preserved g c =
     let s = (worker_view g.B.Bench.changes g.B.Bench.ended g.B.Bench.called g.B.Bench.logged
-    g.M.TimeSource.is_time g.M.TimeSource.is_random g.G.Gate.passed g.W.Wire.called) in
+    g.M.TimeSource.is_time g.M.TimeSource.is_random g.G.Gate.passed g.G.Gate.answered g.W.Wire.called) in
     let room = c.stage.inside in
     let at : c.calls.scratch.stage ≡ ToRaise c.in-ToRaise.word room.answer =
     stands_at c.calls.scratch.stage room.step (steps.ToRaise c.in-ToRaise.word) room.found room.seen room.answer c.stage.view_is c.in-ToRaise.is in
@@ -144,7 +144,7 @@ returns-in-ToAnswer-clause-answers g c =
 pub returns-in-ToAnswer-clause-worked : goal.returns-in-ToAnswer-clause-worked
 returns-in-ToAnswer-clause-worked g c before w =
     let s = (worker_view g.B.Bench.changes g.B.Bench.ended g.B.Bench.called g.B.Bench.logged
-    g.M.TimeSource.is_time g.M.TimeSource.is_random g.G.Gate.passed g.W.Wire.called) in
+    g.M.TimeSource.is_time g.M.TimeSource.is_random g.G.Gate.passed g.G.Gate.answered g.W.Wire.called) in
     let room = c.stage.inside in
     let at : c.calls.scratch.stage ≡ ToAnswer room.answer =
     stands_at c.calls.scratch.stage room.step steps.ToAnswer room.found room.seen room.answer c.stage.view_is c.in-ToAnswer.is in

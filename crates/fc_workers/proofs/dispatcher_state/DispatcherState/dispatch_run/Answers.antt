@@ -1,8 +1,8 @@
 use Rattle.std.proofs.Common.{◌≡◌, ◌∙◌, ◌+◌, ℕ, Option, Some, ap, inl, inr, refl, subst, sym}
-use Rattle.fc_workers.specs.Answers.{saturated}
-use Rattle.fc_workers.specs.Called.{worker_view}
+use Rattle.fc_backend.specs.Answers.{saturated}
+use Rattle.fc_workers.specs.Views.{worker_view}
 use Rattle.fc_workers.specs.Dispatch.{IsSentOrWorked, MayHaveReadCost, logged_at, unsent}
-use Rattle.fc_workers.specs.Workers.{Share}
+use Rattle.fc_backend.specs.Statistics.{Share}
 use Rattle.fc_workers.specs.declared.dispatcher.Offload.TheVariants.{Expensive}
 use Rattle.fc_workers.proofs.Handled.{may_go_by_cost, still_going}
 use Rattle.fc_workers.proofs.Filed.{bench_files}
@@ -16,7 +16,7 @@ work_begun-requires-clause-ready g c = (c.if-begun.ensures.begun refl unsent).re
 pub returns-then-begun-clause-dispatched : goal.returns-then-begun-clause-dispatched
 returns-then-begun-clause-dispatched g c =
     let s = (worker_view g.B.Bench.changes g.B.Bench.ended g.B.Bench.called g.B.Bench.logged
-    g.M.TimeSource.is_time g.M.TimeSource.is_random g.G.Gate.passed g.W.Wire.called) in
+    g.M.TimeSource.is_time g.M.TimeSource.is_random g.G.Gate.passed g.G.Gate.answered g.W.Wire.called) in
     let share = c.args.self.now.done.share in
     inr (record {
       sent = refl;
@@ -31,7 +31,7 @@ returns-then-begun-clause-dispatched g c =
 pub returns-else-begun-clause-dispatched : goal.returns-else-begun-clause-dispatched
 returns-else-begun-clause-dispatched g c =
     let s = (worker_view g.B.Bench.changes g.B.Bench.ended g.B.Bench.called g.B.Bench.logged
-    g.M.TimeSource.is_time g.M.TimeSource.is_random g.G.Gate.passed g.W.Wire.called) in
+    g.M.TimeSource.is_time g.M.TimeSource.is_random g.G.Gate.passed g.G.Gate.answered g.W.Wire.called) in
     let offload = c.args.self.now.offload in
     let job = c.args.self.now.job in
     let before = c.args.self.now.done in
@@ -46,15 +46,15 @@ returns-else-begun-clause-dispatched g c =
 pub returns-then-begun-clause-right : goal.returns-then-begun-clause-right
 returns-then-begun-clause-right g c =
     let s = (worker_view g.B.Bench.changes g.B.Bench.ended g.B.Bench.called g.B.Bench.logged
-    g.M.TimeSource.is_time g.M.TimeSource.is_random g.G.Gate.passed g.W.Wire.called) in
+    g.M.TimeSource.is_time g.M.TimeSource.is_random g.G.Gate.passed g.G.Gate.answered g.W.Wire.called) in
     let share = c.args.self.now.done.share in
     worked_here g.B.Book.ServerName.first_job c.args.self.now.keys c.args.self.now.job s
-    (bench_files g.B.Bench.changes g.B.Bench.ended g.B.Bench.called g.B.Bench.logged g.M.TimeSource.is_time g.M.TimeSource.is_random g.G.Gate.passed g.W.Wire.called g.B.Bench.files)
+    (bench_files g.B.Bench.changes g.B.Bench.ended g.B.Bench.called g.B.Bench.logged g.M.TimeSource.is_time g.M.TimeSource.is_random g.G.Gate.passed g.G.Gate.answered g.W.Wire.called g.B.Bench.files)
     unsent share c.work_begun.new.share c.requires.produced (c.work_begun.ensures.worked share (c.if-begun.ensures.begun refl unsent))
 
 pub send_or_work-requires : goal.send_or_work-requires
 send_or_work-requires g c =
     let s = (worker_view g.B.Bench.changes g.B.Bench.ended g.B.Bench.called g.B.Bench.logged
-    g.M.TimeSource.is_time g.M.TimeSource.is_random g.G.Gate.passed g.W.Wire.called) in
+    g.M.TimeSource.is_time g.M.TimeSource.is_random g.G.Gate.passed g.G.Gate.answered g.W.Wire.called) in
     let found = c.if-begun.ensures.expensive refl in
     record { produced = (still_going g.B.Book.ServerName.first_job c.args.self.now.keys s g.B.Bench.files (Expensive c.args.least) c.args.self.now.job c.args.self.now.done.share.log c.begin_if_cheap-begun.new.share.log found.0 c.requires.produced).0 }

@@ -1,20 +1,21 @@
 use Rattle.std.proofs.Common.{◌≡◌, ◌∙◌, ◌+◌, ℕ, Bool, false, true, ap, inr, subst, sym}
 use Rattle.std.specs.Prelude.{MatchBool}
 use Rattle.fc_registry.specs.declared.job.Job.{Job}
-use Rattle.fc_workers.specs.Answers.{saturated}
-use Rattle.fc_workers.specs.Called.{worker_view}
+use Rattle.fc_backend.specs.Answers.{saturated}
+use Rattle.fc_workers.specs.Views.{worker_view}
 use Rattle.fc_workers.specs.Dispatch.{IsSentOrWorked, MayGo, MayHaveReadCost, least_cost, logged_at, unsent}
-use Rattle.fc_workers.specs.Logs.{TrackedLog}
+use Rattle.fc_backend.specs.Logs.{TrackedLog}
 use Rattle.fc_workers.specs.Producing.{HasProduced}
 use Rattle.fc_workers.specs.Work.{IsReplied}
-use Rattle.fc_workers.specs.Workers.{Dispatched, Share}
+use Rattle.fc_backend.specs.Statistics.{Share}
+use Rattle.fc_workers.specs.Workers.{Dispatched}
 use Rattle.fc_workers.specs.declared.dispatcher.Offload.{Offload}
 use Rattle.fc_workers.proofs.Handled.{still_produced_if}
 use Rattle.fc_workers.proofs.dispatcher_state.DispatcherState.dispatch_whole.Goals as goal
 
 pub send_or_work-requires : goal.send_or_work-requires
 send_or_work-requires g c =
-    let s = worker_view g.B.Bench.changes g.B.Bench.ended g.B.Bench.called g.B.Bench.logged g.M.TimeSource.is_time g.M.TimeSource.is_random g.G.Gate.passed g.W.Wire.called in
+    let s = worker_view g.B.Bench.changes g.B.Bench.ended g.B.Bench.called g.B.Bench.logged g.M.TimeSource.is_time g.M.TimeSource.is_random g.G.Gate.passed g.G.Gate.answered g.W.Wire.called in
     let self = c.args.self.now in
     let still = still_produced_if g.B.Book.ServerName.first_job self.keys s g.B.Bench.files c.may_go.result self.offload self.job self.done.share.log c.may_go.new.self.done.share.log c.may_go.ensures.may c.requires.produced in
     record {
@@ -24,7 +25,7 @@ send_or_work-requires g c =
 
 pub work-requires : goal.work-requires
 work-requires g c =
-    let s = worker_view g.B.Bench.changes g.B.Bench.ended g.B.Bench.called g.B.Bench.logged g.M.TimeSource.is_time g.M.TimeSource.is_random g.G.Gate.passed g.W.Wire.called in
+    let s = worker_view g.B.Bench.changes g.B.Bench.ended g.B.Bench.called g.B.Bench.logged g.M.TimeSource.is_time g.M.TimeSource.is_random g.G.Gate.passed g.G.Gate.answered g.W.Wire.called in
     let self = c.args.self.now in
     let still = still_produced_if g.B.Book.ServerName.first_job self.keys s g.B.Bench.files c.may_go.result self.offload self.job self.done.share.log c.may_go.new.self.done.share.log c.may_go.ensures.may c.requires.produced in
     record {
@@ -35,7 +36,7 @@ work-requires g c =
 -- the job may go: it was sent, or run here after all.
 pub returns-then-may_go-clause-dispatched : goal.returns-then-may_go-clause-dispatched
 returns-then-may_go-clause-dispatched g c =
-    let s = worker_view g.B.Bench.changes g.B.Bench.ended g.B.Bench.called g.B.Bench.logged g.M.TimeSource.is_time g.M.TimeSource.is_random g.G.Gate.passed g.W.Wire.called in
+    let s = worker_view g.B.Bench.changes g.B.Bench.ended g.B.Bench.called g.B.Bench.logged g.M.TimeSource.is_time g.M.TimeSource.is_random g.G.Gate.passed g.G.Gate.answered g.W.Wire.called in
     let self = c.args.self.now in
     let gone = c.may_go.new.self in
     let new = c.send_or_work.new.self.done in
@@ -52,7 +53,7 @@ returns-then-may_go-clause-dispatched g c =
 -- the job stays here: the cost in its slot may have been read.
 pub returns-else-may_go-clause-dispatched : goal.returns-else-may_go-clause-dispatched
 returns-else-may_go-clause-dispatched g c =
-    let s = worker_view g.B.Bench.changes g.B.Bench.ended g.B.Bench.called g.B.Bench.logged g.M.TimeSource.is_time g.M.TimeSource.is_random g.G.Gate.passed g.W.Wire.called in
+    let s = worker_view g.B.Bench.changes g.B.Bench.ended g.B.Bench.called g.B.Bench.logged g.M.TimeSource.is_time g.M.TimeSource.is_random g.G.Gate.passed g.G.Gate.answered g.W.Wire.called in
     let self = c.args.self.now in
     let stayed = c.may_go.new.self in
     let new = c.work.new.self.done in

@@ -1,6 +1,6 @@
 use Rattle.std.proofs.Common.{◌≡◌, ◌<◌, ◌≤◌, length, arith, subst, sym}
 use Rattle.fc_registry.specs.declared.job.Job.{Job}
-use Rattle.fc_workers.specs.Called.{worker_view}
+use Rattle.fc_workers.specs.Views.{worker_view}
 use Rattle.fc_workers.specs.Dispatch.{IsHandedOver, IsWorkedHere, WithNext, logged_at}
 use Rattle.fc_workers.specs.Producing.{HasProduced}
 use Rattle.fc_workers.proofs.Handled.{fired, handed_over, run_here}
@@ -9,7 +9,7 @@ use Rattle.fc_workers.proofs.dispatcher_state.DispatcherState.fire.Goals as goal
 pub dispatch-requires : goal.dispatch-requires
 dispatch-requires g c =
     let s = (worker_view g.B.Bench.changes g.B.Bench.ended g.B.Bench.called g.B.Bench.logged
-    g.M.TimeSource.is_time g.M.TimeSource.is_random g.G.Gate.passed g.W.Wire.called) in
+    g.M.TimeSource.is_time g.M.TimeSource.is_random g.G.Gate.passed g.G.Gate.answered g.W.Wire.called) in
     record {
       produced = subst (λ (j : Job). HasProduced g.B.Book.ServerName.first_job c.args.self.now.keys j c.fire.new.log) (sym c.fire.ensures.job)
           (fired g.B.Book.ServerName.first_job c.args.self.now.keys s g.B.Bench.files c.args.slot c.args.now c.args.self.now.done.share.log c.fire.new.log c.fire.ensures.logged c.requires.ready);
@@ -18,7 +18,7 @@ dispatch-requires g c =
 pub returns-then-count-number-clause-fired : goal.returns-then-count-number-clause-fired
 returns-then-count-number-clause-fired g c =
     let s = (worker_view g.B.Bench.changes g.B.Bench.ended g.B.Bench.called g.B.Bench.logged
-    g.M.TimeSource.is_time g.M.TimeSource.is_random g.G.Gate.passed g.W.Wire.called) in
+    g.M.TimeSource.is_time g.M.TimeSource.is_random g.G.Gate.passed g.G.Gate.answered g.W.Wire.called) in
     let before = logged_at c.fire.new.log c.args.self.now.done in
     let after = c.dispatch.new.self.done in
     let more : length before.sent.sent < length after.sent.sent = omega (arith, c.count-number.ensures, c.count.ensures, c.if-count-number.true) in
@@ -35,7 +35,7 @@ returns-then-count-number-clause-fired g c =
 pub returns-else-count-number-clause-fired : goal.returns-else-count-number-clause-fired
 returns-else-count-number-clause-fired g c =
     let s = (worker_view g.B.Bench.changes g.B.Bench.ended g.B.Bench.called g.B.Bench.logged
-    g.M.TimeSource.is_time g.M.TimeSource.is_random g.G.Gate.passed g.W.Wire.called) in
+    g.M.TimeSource.is_time g.M.TimeSource.is_random g.G.Gate.passed g.G.Gate.answered g.W.Wire.called) in
     let before = logged_at c.fire.new.log c.args.self.now.done in
     let after = c.dispatch.new.self.done in
     let none : length after.sent.sent ≤ length before.sent.sent = omega (arith, c.count-number.ensures, c.count.ensures, c.if-count-number.false) in

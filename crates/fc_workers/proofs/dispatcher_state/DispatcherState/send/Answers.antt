@@ -1,7 +1,7 @@
 use Rattle.std.proofs.Common.{◌≡◌, ◌∙◌, ap, subst, sym}
 use Rattle.fc_book.specs.Tracks.{first_own}
-use Rattle.fc_workers.specs.Logs.{TrackedLog}
-use Rattle.fc_workers.specs.Messages.{TrackedJob, with_tracks}
+use Rattle.fc_backend.specs.Logs.{TrackedLog}
+use Rattle.fc_backend.specs.Messages.{TrackedJob, with_tracks}
 use Rattle.fc_workers.specs.Producing.{HasDispatched, HasProduced}
 use Rattle.fc_workers.proofs.Producing.{sent_away, taken_back}
 use Rattle.fc_workers.proofs.dispatcher_state.DispatcherState.send.Goals as goal

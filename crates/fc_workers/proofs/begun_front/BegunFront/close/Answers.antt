@@ -1,4 +1,0 @@
-use Rattle.fc_workers.proofs.begun_front.BegunFront.close.Goals as goal
-
-pub returns : goal.returns
-returns g c = record { entries = c.args.self.filed.calls; led = c.close.ensures.led; closed = c.close.ensures.closed }

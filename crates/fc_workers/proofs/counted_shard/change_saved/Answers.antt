@@ -1,5 +1,0 @@
-use Rattle.fc_workers.proofs.Logs.{keeps_tracks_if}
-use Rattle.fc_workers.proofs.counted_shard.change_saved.Goals as goal
-
-pub invariant_of-log : goal.invariant_of-log
-invariant_of-log g c = keeps_tracks_if g.B.Books.first_job c.log.inside.who (g.C.FiledCall.files _) _ c.log.inside.tracks c.ask.ensures.filed c.log.invariant

@@ -1,8 +1,0 @@
-use Rattle.fc_workers.proofs.CostReads.{cost_after, cost_before}
-use Rattle.fc_workers.proofs.laws.costs_are_of_earlier_installs.Goals as goal
-
-pub returns-clause-after : goal.returns-clause-after
-returns-clause-after c = cost_after
-
-pub returns-clause-before : goal.returns-clause-before
-returns-clause-before c = cost_before

@@ -1,5 +1,0 @@
-use Rattle.fc_workers.proofs.TwoDraws.{two_ids}
-use Rattle.fc_workers.proofs.laws.two_threads_draw_two_ids.Goals as goal
-
-pub returns : goal.returns
-returns c = two_ids

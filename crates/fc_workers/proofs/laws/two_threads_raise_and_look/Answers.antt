@@ -1,5 +1,0 @@
-use Rattle.fc_workers.proofs.TwoLooks.{found_word}
-use Rattle.fc_workers.proofs.laws.two_threads_raise_and_look.Goals as goal
-
-pub returns : goal.returns
-returns c = found_word

@@ -1,6 +1,0 @@
-use Rattle.fc_linear.specs.Operations.{RejectsImage}
-use Rattle.fc_workers.proofs.Logs.{keeps_tracks}
-use Rattle.fc_workers.proofs.server.LockedBench.reject_image.Goals as goal
-
-pub invariant_of-log : goal.invariant_of-log
-invariant_of-log g c = keeps_tracks g.B.Books.first_job c.log.inside.who (RejectsImage c.args.job.now c.args.answer.now) c.log.inside.tracks c.reject_image.ensures.filed c.log.invariant
