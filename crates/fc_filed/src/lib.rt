@@ -26,7 +26,7 @@
 //!
 //! The server of `fc_locked` has its front and its shards under their locks in this form, and its
 //! head words are those of its book. Each of its jobs has a track of its own. At the end of a pool
-//! the filed calls are one legal history (`run_pool` of `fc_service`).
+//! the filed calls are one legal history (`run_pool` of `fc_pool`).
 //!
 //! ```rust
 //! ghost use Rattle.std.specs.Prelude.{◌≡◌};

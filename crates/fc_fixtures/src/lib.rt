@@ -6,5 +6,6 @@
 
 pub mod datagrams;
 pub mod faulty;
+pub mod images;
 pub mod ports;
 pub mod tooling;

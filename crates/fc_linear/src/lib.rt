@@ -27,8 +27,8 @@
 //! A server's threads make such a log. The book of [fc_filed](../../fc_filed/src/lib.rt) provides
 //! one order of all filed calls, which is right for each part. The workers and the dispatcher of
 //! `fc_workers` keep each job's track right. So the order is legal
-//! (`right_tracks_make_a_legal_order` of `fc_locked`). So `run_pool` of
-//! `fc_service` guarantees that the calls of a pool are one legal history.
+//! (`right_tracks_make_a_legal_order` of `fc_locked`), and `run_pool` of `fc_pool` guarantees that
+//! the calls of a pool are one legal history.
 //!
 //! By the contracts of `laws`.
 #![tactic(auto)]

@@ -72,7 +72,7 @@
 //!   state without jobs (`starts_find_the_saved_order`).
 //! - **A legal history**: the one order legally continues each history that leaves the first state
 //!   without jobs, under two conditions. The tracks of all jobs are right, and one thread produced
-//!   the jobs in the order of their keys (`laws`). The pools of `fc_service` meet both
+//!   the jobs in the order of their keys (`laws`). The pools of `fc_pool` meet both
 //!   (`HaveLegalOrder`). The longer history's server is the closed one. Reads of costs and skips
 //!   are no events of it.
 //! - If a shard is skipped, the skip is in the one order, and the shard is idle at that place of

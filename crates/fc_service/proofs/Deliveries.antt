@@ -38,14 +38,14 @@ use Rattle.fc_locked.specs.SharedStores.{Saving}
 use Rattle.fc_workers.specs.declared.dispatcher.Offload.{Offload}
 use Rattle.fc_workers.proofs.Deliveries.{Delivers, MayDeliver, both, filed_delivers, taken_in, timer_fired, turn_asked, unchanged}
 use Rattle.fc_workers.proofs.Filed.{bench_files}
-use Rattle.fc_service.proofs.OneDispatcher.{dispatcher_delivers}
+use Rattle.fc_pool.proofs.OneDispatcher.{dispatcher_delivers}
 use Rattle.fc_service.proofs.OneHistory.{AreChained, any_wait}
 use Rattle.fc_service.proofs.Unreported.{reported_simulates, rounds_held}
 use Rattle.fc_service.specs.Firing.{AreFired, Firing, FiresOnce, SkipsBeat, fired_calls, firing_from, readies_firing}
-use Rattle.fc_service.specs.Pooled.{AreSharesAt, FiresPooled, IsNew, PassesOverPooled, PooledIngress, offload_where, pooled_calls}
+use Rattle.fc_pool.specs.Pooled.{AreSharesAt, FiresPooled, IsNew, PassesOverPooled, PooledIngress, offload_where, pooled_calls}
 use Rattle.fc_service.specs.Reporting.{readies_through, reported_calls, reporting_from}
 use Rattle.fc_service.specs.Rounds.{HasServedPooled, IsReceivedBy, IsRoundBy, Round, RoundCalls, deliveries_of, delivery_at, offload_of, served_view}
-use Rattle.fc_service.specs.declared.replies.Replies.{Replies}
+use Rattle.fc_pool.specs.declared.replies.Replies.{Replies}
 
 -- ---- rounds of any server
 

@@ -7,8 +7,8 @@ use Rattle.fc_server.specs.declared.server.Begin.{Begin}
 use Rattle.fc_server.specs.Ingresses.{IngressCalls}
 use Rattle.fc_filed.specs.declared.entry.FiledEntry.{FiledEntry}
 use Rattle.fc_service.specs.Playing.{IsFedByLines, IsPlayedBeside}
-use Rattle.fc_service.specs.Pooled.{PooledIngress, IsFedBeside, offload_where, locked_view, pooled_calls}
-use Rattle.fc_service.specs.declared.replies.Replies.{Replies}
+use Rattle.fc_pool.specs.Pooled.{PooledIngress, IsFedBeside, offload_where, locked_view, pooled_calls}
+use Rattle.fc_pool.specs.declared.replies.Replies.{Replies}
 use Rattle.fc_workers.specs.Views.{WorkerView}
 use Rattle.fc_locked.specs.SharedStores.{Saving}
 use Rattle.fc_locked.specs.declared.closed.ClosedServer.{ClosedServer}

@@ -13,7 +13,7 @@ use Rattle.fc_service.specs.Playing.{output_of}
 use Rattle.fc_server.specs.Ingresses.{IngressCalls}
 use Rattle.fc_server.specs.Flushing.{AreStepsTo, IsStepBy, Moves, FlushingStep, sent_in_step, sent_in_steps}
 use Rattle.fc_service.specs.Traffic.{Sends}
-use Rattle.fc_service.specs.declared.replies.SentReplies.{SentReplies}
+use Rattle.fc_pool.specs.declared.replies.SentReplies.{SentReplies}
 use Rattle.fc_server.specs.declared.flush.Flushing.{Flushing}
 use Rattle.fc_backend.specs.declared.call_log.CallLog.{CallLog}
 

@@ -40,7 +40,7 @@ use Rattle.fc_service.specs.Rounds.{AreRoundsBy, HasServed, IsReceivedBy, IsRoun
 use Rattle.fc_server.specs.Flushing.{AreStepsBy, Asked, IsStepBy, Passed, Resent, FlushingStep, sent_in_step, sent_in_steps}
 use Rattle.fc_service.specs.Traffic.{Sending}
 use Rattle.fc_server.specs.declared.alone.SingleThread.{SingleThread}
-use Rattle.fc_service.specs.declared.replies.Replies.{Replies}
+use Rattle.fc_pool.specs.declared.replies.Replies.{Replies}
 
 -- ---- continuations of a history
 

@@ -23,7 +23,7 @@ use Rattle.fc_backend.specs.declared.call_log.CallLog.{CallLog}
 use Rattle.fc_service.specs.SingleThread.{ReadiesRecorded}
 use Rattle.fc_service.specs.Reporting.{AreGaugesOf, MakesReport, Reporting, ReportsIfDue, reported_calls}
 use Rattle.fc_service.specs.Rounds.{HasReceivedWith, HasRunTimed, HasServedBy, RoundCalls}
-use Rattle.fc_service.specs.declared.replies.Replies.{Replies}
+use Rattle.fc_pool.specs.declared.replies.Replies.{Replies}
 
 -- eight lists of numbers of observers, each of its shard.
 pub of_eight : {S : Type 0} (calls : IngressCalls S) (s : S) (a b c d e f g h : List ℕ) → calls.tells_observers 0 s a → calls.tells_observers 1 s b → calls.tells_observers 2 s c → calls.tells_observers 3 s d

@@ -6,13 +6,13 @@ use Rattle.std.specs.Option.{option_to_list}
 use Rattle.coap_msg.specs.declared.types.Emission.{Emission}
 use Rattle.fc_host.specs.Sockets.{Comes, Incoming, Receive}
 use Rattle.fc_service.proofs.Traffic.{more_came, more_replies, more_sent, none_came, none_sent}
-use Rattle.fc_service.specs.Counting.{no_replies}
+use Rattle.fc_pool.specs.Counting.{no_replies}
 use Rattle.fc_service.specs.Ingresses.{IsHandledBy}
 use Rattle.fc_server.specs.Ingresses.{IngressCalls}
 use Rattle.fc_service.specs.Rounds.{EndsByTimer, HasRounds, IsReadIfAny, IsReceivedBy, Round, RoundCalls, WaitsAfter, received_in, round_receives, sendings_in}
 use Rattle.fc_server.specs.Flushing.{AreFlushed, AreStepsBy, FlushingStep, sent_in_steps}
 use Rattle.fc_service.specs.Traffic.{Sends, counted_each}
-use Rattle.fc_service.specs.declared.replies.SentReplies.{SentReplies}
+use Rattle.fc_pool.specs.declared.replies.SentReplies.{SentReplies}
 use Rattle.fc_backend.specs.declared.call_log.CallLog.{CallLog}
 
 module _ {S : Type 0} (Readies : ℕ → S → S → Type 0) (calls : IngressCalls S) (e : RoundCalls) where

@@ -28,7 +28,7 @@ use Rattle.fc_service.specs.Histories.{Arrival, Beat, Datagram, IsOneHistory, Si
 use Rattle.fc_service.specs.Rounds.{HasServedTimed, IsReceivedBy, IsRoundBy, Round, RoundCalls, sendings_in}
 use Rattle.fc_service.specs.SingleThread.{ReadiesRecorded}
 use Rattle.fc_service.specs.Traffic.{Sending}
-use Rattle.fc_service.specs.declared.replies.Replies.{Replies}
+use Rattle.fc_pool.specs.declared.replies.Replies.{Replies}
 use Rattle.fc_service.proofs.OneHistory.{AreChained, any_wait, GoesOn, Leaves, both_go_on, datagram_goes_on, goes_on_as, leaves_first, none_follows, one_follows, one_history, passed_goes_on, run_follows, steps_go_on}
 
 -- no timer has a job at a worker.

@@ -7,10 +7,10 @@ use Rattle.std.proofs.lemmas.List.Sums.{sum_by-append, sum_by-cons}
 use Rattle.coap_msg.specs.declared.types.Emission.{Emission}
 use Rattle.fc_backend.specs.Answers.{saturated}
 use Rattle.fc_host.specs.Sockets.{Comes, Receive}
-use Rattle.fc_service.specs.Counting.{counted}
+use Rattle.fc_pool.specs.Counting.{counted}
 use Rattle.fc_service.specs.Traffic.{AreHanded, Sending, Sends, counted_each, replies_to}
-use Rattle.fc_service.specs.declared.replies.SentReplies.{SentReplies}
-use Rattle.fc_service.specs.declared.replies.Replies.{Replies}
+use Rattle.fc_pool.specs.declared.replies.SentReplies.{SentReplies}
+use Rattle.fc_pool.specs.declared.replies.Replies.{Replies}
 use Rattle.fc_backend.specs.declared.call_log.CallLog.{CallLog}
 
 -- ---- the datagrams received

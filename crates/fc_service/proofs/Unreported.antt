@@ -25,7 +25,7 @@ use Rattle.fc_service.specs.Histories.{IsOneHistory, arrivals_in, timed_arrivals
 use Rattle.fc_service.specs.Reporting.{MakesReport, Reporting, ReportsIfDue, readies_through, reported_calls, reporting_from}
 use Rattle.fc_service.specs.Rounds.{AreRoundsBy, HasServedReported, HasServedTimed, IsReceivedBy, IsRoundBy, Round, RoundCalls, sendings_in}
 use Rattle.fc_service.specs.SingleThread.{ReadiesRecorded}
-use Rattle.fc_service.specs.declared.replies.Replies.{Replies}
+use Rattle.fc_pool.specs.declared.replies.Replies.{Replies}
 
 -- each call of the holder of a server is a call of the server.
 pub record Simulates {H S : Type 0} (held : H → S) (outer : IngressCalls H) (inner : IngressCalls S) : Type 0 where

@@ -1,8 +1,6 @@
 pub mod Ingresses
 pub mod SingleThread
 pub mod Starting
-pub mod Pooled
-pub mod Counting
 pub mod Traffic
 pub mod Options
 pub mod Playing

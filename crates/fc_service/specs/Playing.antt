@@ -17,10 +17,10 @@ use Rattle.fc_service.specs.SingleThread.{HandsAlone}
 use Rattle.fc_server.specs.SingleThread.{alone_calls}
 use Rattle.fc_service.specs.Ingresses.{IsHandledBy, waited_calls}
 use Rattle.fc_server.specs.Ingresses.{IngressCalls}
-use Rattle.fc_service.specs.Pooled.{IsFedBeside, locked_view}
+use Rattle.fc_pool.specs.Pooled.{IsFedBeside, locked_view}
 use Rattle.fc_server.specs.Flushing.{AreFlushed, AreStepsBy, FlushingStep, sent_in_steps}
 use Rattle.fc_server.specs.declared.alone.SingleThread.{SingleThread}
-use Rattle.fc_service.specs.declared.replies.Replies.{Replies}
+use Rattle.fc_pool.specs.declared.replies.Replies.{Replies}
 use Rattle.fc_workers.specs.declared.dispatcher.Offload.{Offload}
 use Rattle.fc_locked.specs.SharedStores.{Saving}
 

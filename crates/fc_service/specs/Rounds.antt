@@ -27,15 +27,15 @@ use Rattle.fc_host.specs.Sockets.{Comes, Incoming, IsHanded, Receive}
 use Rattle.fc_host.specs.declared.timer.Timer.{Timer}
 use Rattle.fc_service.specs.SingleThread.{ReadiesRecorded}
 use Rattle.fc_host.specs.Clocks.{AreReadAt}
-use Rattle.fc_service.specs.Counting.{both_replies, replies_by, replies_of}
+use Rattle.fc_pool.specs.Counting.{both_replies, replies_by, replies_of}
 use Rattle.fc_service.specs.Ingresses.{IsHandledBy}
 use Rattle.fc_service.specs.Firing.{Firing, fired_calls, firing_from, readies_firing}
-use Rattle.fc_service.specs.Pooled.{AreSharesAt, PooledIngress, IsNew, offload_where, locked_view, pooled_calls}
+use Rattle.fc_pool.specs.Pooled.{AreSharesAt, PooledIngress, IsNew, offload_where, locked_view, pooled_calls}
 use Rattle.fc_service.specs.Reporting.{Reporting, readies_through, reported_calls, reporting_from}
 use Rattle.fc_service.specs.Traffic.{AreHanded, Sending, replies_to}
 use Rattle.fc_service.specs.declared.serve.Extent.{Extent}
-use Rattle.fc_service.specs.declared.replies.SentReplies.{SentReplies}
-use Rattle.fc_service.specs.declared.replies.Replies.{Replies}
+use Rattle.fc_pool.specs.declared.replies.SentReplies.{SentReplies}
+use Rattle.fc_pool.specs.declared.replies.Replies.{Replies}
 
 -- a round: how long its receive waits, the datagram received, if any came in time, and the time.
 -- Then the immediate response, the steps that followed, and the emissions passed to the sink. Then

@@ -3,9 +3,9 @@ use Rattle.std.specs.Prelude.{◌≡◌, Bool, not, List, [], ◌∷◌, count_b
 use Rattle.coap_msg.specs.declared.types.Emission.{Emission}
 use Rattle.fc_backend.specs.Answers.{saturated}
 use Rattle.fc_backend.specs.declared.call_log.CallLog.{CallLog}
-use Rattle.fc_service.specs.Counting.{counted}
-use Rattle.fc_service.specs.declared.replies.SentReplies.{SentReplies}
-use Rattle.fc_service.specs.declared.replies.Replies.{Replies}
+use Rattle.fc_pool.specs.Counting.{counted}
+use Rattle.fc_pool.specs.declared.replies.SentReplies.{SentReplies}
+use Rattle.fc_pool.specs.declared.replies.Replies.{Replies}
 
 -- an emission that was passed to a sink, and whether it was sent.
 pub record Sending : Type 0 where

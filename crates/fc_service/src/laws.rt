@@ -49,7 +49,7 @@ ghost use Rattle.fc_locked.specs.SharedStores.{HasSaved};
 ghost use Rattle.fc_backend.specs.Statistics.{Share};
 ghost use Rattle.fc_backend.specs.declared.call_log.CallLog.{CallLog};
 ghost use Rattle.fc_workers.specs.declared.dispatcher.Offload.TheVariants.{ChangesAndExpensive, Expensive};
-ghost use Rattle.fc_service.specs.Pooled.{PooledIngress, pooled_calls};
+ghost use Rattle.fc_pool.specs.Pooled.{PooledIngress, pooled_calls};
 ghost use Rattle.fc_service.specs.Rounds.{EndsInTime, HasServed, HasServedPooled, HasServedReported, HasServedTimed, IsOneThread, Round, WaitsAfter, deliveries_of, offload_of, round_calls, sendings_in, served_view, until_due};
 ghost use Rattle.fc_server.specs.Flushing.{most_steps};
 ghost use Rattle.fc_service.specs.Serials.{IsNewerNumber, raised_at, serial_of_start, serial_over};
@@ -59,7 +59,7 @@ ghost use Rattle.fc_store.specs.Recovery.{Save, SavesAll, refuses, stores};
 ghost use Rattle.fc_store.specs.Stored.{StoredProgram, StoredSlot, StoredSlots, stored_in};
 ghost use Rattle.fc_store.specs.Updates.{AreSameSlots};
 ghost use Rattle.fc_server.specs.declared.alone.SingleThread.{SingleThread};
-ghost use Rattle.fc_service.specs.declared.replies.Replies.{Replies};
+ghost use Rattle.fc_pool.specs.declared.replies.Replies.{Replies};
 
 use crate::every::LONGEST;
 use fc_backend::TimeSource;

@@ -77,10 +77,10 @@
 //!   round's datagram. The same holds with reports (`laws`).
 //! - **With workers** a dispatcher handles each datagram, in order, and each lease that some shard
 //!   gave. Nothing else in a round changes the dispatched jobs (`serve_at`, by `HasServedPooled`;
-//!   `run_pool` passes on its driver's effects, by `IsFedBeside`). The dispatcher is new: it has
-//!   sent nothing, and its log is new and has its own track. It sends runs of 6,000 steps and more
-//!   to the workers, if it sends any. With a persistent store it also sends jobs that may change a
-//!   slot.
+//!   `run_pool` of `fc_pool` passes on its driver's effects, by `IsFedBeside`). The dispatcher is
+//!   new: it has sent nothing, and its log is new and has its own track. It sends runs of 6,000
+//!   steps and more to the workers, if it sends any. With a persistent store it also sends jobs
+//!   that may change a slot.
 //! - **Shares**: the contract names one share for each worker, of some handles at the dispatcher's
 //!   channel (`AreSharesAt`). It doesn't say that they are those of the started threads, nor that a
 //!   sent job is received. A worker's emission is passed to the sink once, by the worker's own log
@@ -101,17 +101,10 @@
 //!   next start restores what a crash leaves there, each slot without a refused update begins as in
 //!   the history (`next_starts_begin_as_served`). This supposes that the medium returns the data
 //!   that was written to it. The contracts say nothing about a crash during a save.
-//! - **A pool** begins with the first state that its caller passes: empty slots, or slots restored
-//!   from stored states. It returns at its end the front and eight shards. For each shard it also
-//!   returns the number of changes of its slots. The serials of each shard have risen by exactly
-//!   these numbers, which are reported up to 2^64 - 1. The filed calls of its workers led to these
-//!   shards. Its driver's dispatcher sends jobs by the pool's dispatch policy. If the pool reports
-//!   that no worker was started, the dispatcher sends no job to a worker (`offload_where`). A test
-//!   shows that it reports this only if no thread could be created.
 //! - **Each request to change a program that a job answers is recorded once**, after its response
 //!   is made. Nothing else is recorded (`serve_at`). On one thread the calls are `recorded_calls` of
-//!   `fc_record`. With workers, `GivesAnswer` of `fc_workers` has `IsRecorded` for the hook. A test shows that a logger
-//!   writes the record.
+//!   `fc_record`. With workers, `GivesAnswer` of `fc_workers` has `IsRecorded` for the hook. A test
+//!   shows that a logger writes the record.
 //! - **The first serial** of a server rises with the time of its start: by 32 for each millisecond,
 //!   and by 2^24 for each second. So the numbers of Observe keep their order if a server is started
 //!   again (`serials::serial_of_start`, `laws`). A test shows that the time is the system clock's.
@@ -135,8 +128,8 @@
 //! By the contracts of `play::play`, `workers::play_by_workers`, `options::serve_options`,
 //! `lines::play_lines`, `rounds::run_rounds`, `serve::serve`, `serve::serve_at`,
 //! `serve::serve_timed`, `serve::serve_alone`, `Slots::empty`, `Slots::of`, `Slots::restored`,
-//! `restored_slots`, `serials::serial_of_start`, `serials::serial_over`, `pool::run_pool`,
-//! `reports::run_reported`, `Reporting`, `Firing`, `Replies`, `laws`.
+//! `restored_slots`, `serials::serial_of_start`, `serials::serial_over`, `reports::run_reported`,
+//! `Reporting`, `Firing`, `laws`.
 #![tactic(auto)]
 
 mod alone;
@@ -149,8 +142,6 @@ pub mod logging;
 pub mod options;
 pub mod play;
 pub mod policy;
-pub mod pool;
-pub mod replies;
 mod reporting;
 pub mod reports;
 mod rounds;

@@ -2,13 +2,12 @@
 ghost use Rattle.std.specs.Prelude.{◌≡◌};
 ghost use Rattle.fc_service.specs.Rounds.{HasReceivedBy, round_calls};
 
-use crate::pool::Driven;
-use crate::replies::Replies;
 use crate::reporting::{Reporting, Through};
 use crate::rounds::{Preparation, run_rounds};
 use coap_msg::Emission;
 use fc_backend::{CallLog, TimeSource};
 use fc_host::socket::{Sink, Source};
+use fc_pool::{Driven, Replies};
 use fc_record::Reporter;
 use fc_server::Ingress;
 use std::sync::Wait;

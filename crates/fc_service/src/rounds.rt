@@ -8,11 +8,11 @@ ghost use Rattle.fc_service.specs.Rounds.{EndsByTimer, EndsInTime, HasRun, IsRea
 ghost use Rattle.fc_server.specs.Flushing.{AreIdleUntil, AreFlushed, AreStepsBy, FlushingStep, sent_in_steps};
 ghost use Rattle.fc_service.specs.Traffic.{Sends};
 
-use crate::replies::{Replies, SentReplies};
 use coap_msg::{Emission, Endpoint};
 use fc_backend::{CallLog, TimeSource};
 use fc_core::front::blank_emission;
 use fc_host::socket::{BUFFER, SHORTEST_WAIT, Sink, Source};
+use fc_pool::{Replies, SentReplies};
 use fc_server::Ingress;
 use fc_server::flush::{Flushing, STEPS, idle_until};
 use fc_server::ingress::is_reply;

@@ -3,14 +3,13 @@ ghost use Rattle.std.specs.Prelude.{◌≡◌};
 ghost use Rattle.fc_service.specs.Rounds.{HasReceivedWith, round_calls};
 
 use crate::firing::{Firing, ThroughTimers};
-use crate::pool::Driven;
-use crate::replies::Replies;
 use crate::reports::{Reports, run_reported};
 use crate::rounds::Preparation;
 use crate::timer_jobs::TimerJobs;
 use fc_backend::TimeSource;
 use fc_host::socket::{Sink, Source};
 use fc_host::timer::Timer;
+use fc_pool::{Driven, Replies};
 use fc_record::Reporter;
 use fc_server::Ingress;
 use std::sync::Wait;

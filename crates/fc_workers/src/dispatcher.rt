@@ -1,6 +1,6 @@
 //! The dispatcher, which sends jobs to workers or runs them itself.
 //!
-//! A pool's driver calls it for each datagram (`fc_service`).
+//! A pool's driver calls it for each datagram (`fc_pool`).
 ghost use Rattle.std.specs.Prelude.{◌≡◌, false, length, MatchBool};
 ghost use Rattle.fc_backend.specs.Answers.{IsSomeIdle, IsSomeTick};
 ghost use Rattle.fc_calls.specs.Logged.{AdvancesFront, AdvancesShard};

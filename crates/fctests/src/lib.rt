@@ -1,4 +1,4 @@
-//! Tests of the server over sockets and played lines, and of the client's program.
+//! Tests of the server over sockets and played lines, of its start, and of the client's program.
 //!
 //! The expected responses are worked out by hand from the RFCs of the protocol and of the
 //! instructions. The cases of fcvectors test the output of the programs for lines, lists of events,
@@ -31,6 +31,8 @@ mod sensor_tests;
 mod serving;
 #[cfg(test)]
 mod socket_tests;
+#[cfg(test)]
+mod store_tests;
 #[cfg(test)]
 mod timer_tests;
 #[cfg(test)]

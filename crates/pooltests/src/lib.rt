@@ -25,6 +25,4 @@ mod pool_tests;
 #[cfg(test)]
 mod saving_tests;
 #[cfg(test)]
-mod store_tests;
-#[cfg(test)]
 mod told_tests;

@@ -2,12 +2,11 @@
 ghost use Rattle.std.specs.Prelude.{◌≡◌};
 
 use crate::driver::{Deliver, Request, datagram};
-use crate::overtaking_tests::{
-    COUNTER, CREATED, Crew, Drive, Held, Replies, Reply, Trial, hold, work_fed,
-};
+use crate::overtaking_tests::{CREATED, Crew, Drive, Held, Replies, Reply, Trial, hold, work_fed};
 use coap_msg::Emission;
 use fc_backend::{Bench, CallLog, Device, Gate};
 use fc_calls::ShardCall;
+use fc_fixtures::images::COUNTER;
 use fc_locked::{Books, Locked};
 use fc_registry::{Job, Shard, SlotNumber};
 use fc_store::Store;

@@ -1,12 +1,12 @@
 //! Each test makes one call that allocates memory, with enough memory.
 //!
 //! The script tests/refused-memory refuses each allocation of these calls.
-use crate::overtaking_tests::COUNTER;
 use coap_block::Uploads;
 use coap_dedup::{DEFAULT_LIMITS, Exchanges};
 use coap_msg::Endpoint;
 use fc_asm::{assemble, disassemble};
 use fc_core::{DEFAULT_POLICY, Front};
+use fc_fixtures::images::COUNTER;
 use fc_heads::Heads;
 use fc_isa::{Insn, decode, encode, is_program};
 use fc_jobs::Jobs;

@@ -19,12 +19,13 @@ use fc_backend::{
 };
 use fc_core::DEFAULT_POLICY;
 use fc_filed::{NewServerBook, ServerName};
+use fc_fixtures::images::COUNTER;
 use fc_help::{NO_READINGS, Readings};
 use fc_jobs::{Jobs, Sent};
 use fc_locked::{Blanks, Books, Locked};
+use fc_pool::no_store;
 use fc_registry::{Job, SlotNumber};
 use fc_server::{DEFAULT_BEGIN, FirstServer};
-use fc_service::pool::no_store;
 use fc_store::NoStore;
 use fc_verify::{Verified, verify};
 use fc_workers::{Context, Dispatcher, Offload, SeedOf, drive_workers, make_seats};
@@ -36,10 +37,6 @@ use std::test::Fail;
 use std::thread;
 use std::thread::Threads;
 use std::time::{Clock, Duration};
-
-// The image of a counter: each run adds 1 to the one word of the program's variables.
-pub(crate) const COUNTER: &[u8] =
-    b"FCB1\x08\x00\x09\x00\x09\x00\x00\x00\x00\x00\x00\x00\xb7\x01\x00\x00\x00\x00\x00\x00\x85\x00\x00\x00\x03\x00\x00\x00\x07\x00\x00\x00\x01\x00\x00\x00\xbf\x02\x00\x00\x00\x00\x00\x00\xb7\x01\x00\x00\x00\x00\x00\x00\x85\x00\x00\x00\x04\x00\x00\x00\x85\x00\x00\x00\x07\x00\x00\x00\xb7\x00\x00\x00\x00\x00\x00\x00\x95\x00\x00\x00\x00\x00\x00\x00";
 
 // 2.01 (Created), the code of a response (RFC 7252, section 12.1.2).
 pub(crate) const CREATED: u8 = 0x41;

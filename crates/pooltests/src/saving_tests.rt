@@ -6,16 +6,17 @@
 ghost use Rattle.std.specs.Prelude.{◌<◌};
 
 use crate::driver::{PEER, Request, datagram};
-use crate::overtaking_tests::{Bare, COUNTER, Replies};
+use crate::overtaking_tests::{Bare, Replies};
 use coap_msg::Emission;
 use fc_backend::{CallLog, Wire};
 use fc_core::DEFAULT_POLICY;
 use fc_core::front::blank_emission;
+use fc_fixtures::images::COUNTER;
 use fc_locked::ReadyStore;
+use fc_pool::{Driven, Driver, Pool, run_pool};
 use fc_record::NoChanges;
 use fc_registry::SlotNumber;
-use fc_server::{Begin, FirstServer};
-use fc_service::pool::{Driven, Driver, Ingress, Pool, run_pool};
+use fc_server::{Begin, FirstServer, Ingress};
 use fc_store::{MemoryStore, ProgramUpdate, SlotUpdate, Store, StoredProgram, StoredSlot};
 use fc_workers::Offload;
 use std::alloc::{AllocError, Global};

@@ -9,11 +9,12 @@ ghost use Rattle.fc_backend.specs.Logs.{IsNewLog};
 
 use crate::driver::{PEER, Request, datagram};
 use crate::lock_tests::Open;
-use crate::overtaking_tests::{COUNTER, Crew, Held, Replies, Trial, hold};
+use crate::overtaking_tests::{Crew, Held, Replies, Trial, hold};
 use fc_backend::{Bench, CallLog, JobKeys, JobMessage, ShareOf, TimeSource, TrackLog};
 use fc_core::Handled;
 use fc_core::front::{blank_emission, blank_job};
 use fc_filed::ServerName;
+use fc_fixtures::images::COUNTER;
 use fc_jobs::{Jobs, Sent};
 use fc_observe::{Ticked, Turn};
 use fc_registry::SlotNumber;

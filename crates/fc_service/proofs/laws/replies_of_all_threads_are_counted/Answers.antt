@@ -2,8 +2,8 @@ use Rattle.std.proofs.Common.{◌≡◌, ◌∙◌, ℕ, ◌+◌, List, [], ◌�
 use Rattle.fc_backend.specs.Answers.{saturated}
 use Rattle.fc_locked.specs.Counts.{Tallies}
 use Rattle.fc_backend.specs.Statistics.{Share}
-use Rattle.fc_service.specs.Counting.{both_replies, replies_by, replies_of}
-use Rattle.fc_service.specs.declared.replies.Replies.{Replies}
+use Rattle.fc_pool.specs.Counting.{both_replies, replies_by, replies_of}
+use Rattle.fc_pool.specs.declared.replies.Replies.{Replies}
 use Rattle.fc_service.proofs.laws.replies_of_all_threads_are_counted.Goals as goal
 
 -- counts with these numbers.

@@ -5,7 +5,7 @@ use Rattle.std.specs.Prelude.{is_some}
 use Rattle.fc_service.proofs.Waits.{handled_nothing, handled_something}
 use Rattle.fc_service.proofs.Runs.{handled_round, no_rounds, passed_round}
 use Rattle.fc_service.specs.Rounds.{round_calls}
-use Rattle.fc_service.specs.declared.replies.SentReplies.{SentReplies}
+use Rattle.fc_pool.specs.declared.replies.SentReplies.{SentReplies}
 use Rattle.fc_service.proofs.rounds.run_rounds.Goals as goal
 use Rattle.fc_service.proofs.rounds.run_rounds.Goals.{in-Some-came, in-None-came}
 

@@ -4,7 +4,7 @@ use Rattle.fc_filed.specs.Recovered.{HaveSavedOrder}
 use Rattle.fc_host.specs.declared.timer.Timer.{Timer}
 use Rattle.fc_locked.specs.SharedStores.{HasSaved}
 use Rattle.fc_service.specs.Rounds.{IsServed, round_calls}
-use Rattle.fc_service.specs.declared.replies.Replies.{Replies as Counts}
+use Rattle.fc_pool.specs.declared.replies.Replies.{Replies as Counts}
 use Rattle.fc_service.proofs.serve.serve_at.Goals as goal
 
 pub returns-clause-served : goal.returns-clause-served

@@ -6,8 +6,8 @@ use Rattle.fc_locked.specs.OneOrder.{logs_of}
 use Rattle.fc_locked.specs.SharedStores.{HasSaved}
 use Rattle.fc_backend.specs.Statistics.{Share}
 use Rattle.fc_workers.specs.declared.dispatcher.Offload.{Offload}
-use Rattle.fc_service.specs.Counting.{both_replies, replies_by, replies_of}
-use Rattle.fc_service.specs.Pooled.{IsNew, locked_view, offload_where}
+use Rattle.fc_pool.specs.Counting.{both_replies, replies_by, replies_of}
+use Rattle.fc_pool.specs.Pooled.{IsNew, locked_view, offload_where}
 use Rattle.fc_service.specs.Starting.{StartingSlots}
 use Rattle.fc_service.proofs.Fed.{fed_over}
 use Rattle.fc_service.proofs.serve.serve_pooled.Goals as goal

@@ -5,7 +5,7 @@ use Rattle.fc_store.specs.contracts.store.NoStoreStore.TheImpl as nothing
 use Rattle.fc_filed.specs.Recovered.{HaveSavedOrder}
 use Rattle.fc_server.specs.States.{ServerState}
 use Rattle.fc_locked.specs.SharedStores.{HasSaved}
-use Rattle.fc_service.specs.Pooled.{locked_view}
+use Rattle.fc_pool.specs.Pooled.{locked_view}
 use Rattle.fc_service.proofs.Fed.{fed_over, played_beside}
 use Rattle.fc_service.proofs.workers.play_in_pool.Goals as goal
 

@@ -31,8 +31,8 @@ use Rattle.fc_locked.specs.OneOrder.{logs_of}
 use Rattle.fc_workers.specs.Workers.{Dispatched, WorkerSeed}
 use Rattle.fc_workers.specs.declared.dispatcher.Offload.{Offload}
 use Rattle.fc_workers.specs.declared.dispatcher.Offload.TheVariants.{Never}
-use Rattle.fc_service.specs.Counting.{both_replies, replies_by, replies_of}
-use Rattle.fc_service.specs.declared.replies.Replies.{Replies}
+use Rattle.fc_pool.specs.Counting.{both_replies, replies_by, replies_of}
+use Rattle.fc_pool.specs.declared.replies.Replies.{Replies}
 use Rattle.fc_server.specs.Ingresses.{IngressCalls, never}
 use Rattle.fc_server.specs.declared.engine.FireOutcome.{FireOutcome}
 use Rattle.fc_server.specs.declared.engine.FireOutcome.TheVariants as fired

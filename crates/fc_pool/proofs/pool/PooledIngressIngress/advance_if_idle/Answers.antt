@@ -4,7 +4,7 @@ use Rattle.fc_registry.specs.Shards.{no_shard}
 use Rattle.fc_registry.specs.Slots.{Shard}
 use Rattle.fc_registry.specs.Watches.{at_time, is_idle}
 use Rattle.fc_backend.specs.Answers.{IsSomeIdle}
-use Rattle.fc_service.proofs.pool.PooledIngressIngress.advance_if_idle.Goals as goal
+use Rattle.fc_pool.proofs.pool.PooledIngressIngress.advance_if_idle.Goals as goal
 
 -- a shard without observers is idle at each time.
 is_some : (Passes Leaves Stays : Type 0) (passed : Bool) (now : ℕ) → MatchBool passed Passes (IsSomeIdle now false × Leaves × Stays) → (some : Shard) × (passed ≡ is_idle (at_time some now))

@@ -1,6 +1,6 @@
 //! Counts of replies: those that were sent, and those that failed.
 ghost use Rattle.std.specs.Prelude.{◌≡◌};
-ghost use Rattle.fc_service.specs.Counting.{both_replies, counted, no_replies, replies_by, replies_of};
+ghost use Rattle.fc_pool.specs.Counting.{both_replies, counted, no_replies, replies_by, replies_of};
 
 use fc_backend::{CallLog, Share};
 use std::fmt;
@@ -69,14 +69,14 @@ impl Replies {
 
 /// The counts of the replies passed to a sink, and the log of the sink's calls.
 #[derive(Drop)]
-pub(crate) struct SentReplies {
-    pub(crate) replies: Replies,
-    pub(crate) log: CallLog,
+pub struct SentReplies {
+    pub replies: Replies,
+    pub log: CallLog,
 }
 
 impl SentReplies {
     /// Returns counts of zero, and a new log.
-    pub(crate) fn new() -> SentReplies
+    pub fn new() -> SentReplies
         ensures { result.replies ≡ no_replies }
     {
         SentReplies {
@@ -89,7 +89,7 @@ impl SentReplies {
 /// The text of replies, such as `sent 2 failed 0`.
 impl fmt::Display for Replies {
     ghost use Rattle.std.specs.Prelude.{Some};
-    ghost use Rattle.fc_service.specs.Counting.{replies_text};
+    ghost use Rattle.fc_pool.specs.Counting.{replies_text};
 
     ghost output = { λ r. Some (replies_text r) };
 

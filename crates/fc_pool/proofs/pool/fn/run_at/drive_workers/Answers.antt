@@ -2,7 +2,7 @@ use Rattle.std.proofs.Common.{◌∙◌, arith}
 use Rattle.fc_backend.specs.Messages.{with_new_track}
 use Rattle.fc_backend.specs.Statistics.{new_share}
 use Rattle.fc_backend.proofs.Messages.{new_with}
-use Rattle.fc_service.proofs.pool.fn.run_at.drive_workers.Goals as goal
+use Rattle.fc_pool.proofs.pool.fn.run_at.drive_workers.Goals as goal
 
 pub returns : goal.returns
 returns g c = (

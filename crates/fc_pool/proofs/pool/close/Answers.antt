@@ -2,8 +2,8 @@ use Rattle.std.proofs.Common.{◌≡◌, ◌+◌, [], ◌∷◌, length, map, ar
 use Rattle.std.proofs.lemmas.List.{length-append, length-map}
 use Rattle.fc_locked.specs.OneOrder.{logs_of}
 use Rattle.fc_backend.specs.Statistics.{Share}
-use Rattle.fc_service.proofs.Pools.{pool_is_saved}
-use Rattle.fc_service.proofs.pool.close.Goals as goal
+use Rattle.fc_pool.proofs.Pools.{pool_is_saved}
+use Rattle.fc_pool.proofs.pool.close.Goals as goal
 
 pub returns-clause-order : goal.returns-clause-order
 returns-clause-order g c = λ count right order.

@@ -3,13 +3,13 @@ use Rattle.std.specs.Prelude.{IfOk, ⊤, vec_len}
 use Rattle.fc_jobs.specs.Ends.{nothing_got}
 use Rattle.fc_workers.specs.Shares.{AreSharesOf}
 use Rattle.fc_workers.specs.Workers.{WorkerSeed}
-use Rattle.fc_service.specs.Pooled.{open_view}
+use Rattle.fc_pool.specs.Pooled.{open_view}
 use Rattle.fc_record.specs.Recording.{IsRecorded}
 use Rattle.fc_backend.specs.Logs.{IsNewLog}
 use Rattle.fc_workers.proofs.Filed.{bench_files}
-use Rattle.fc_service.proofs.Pools.{shares_right}
-use Rattle.fc_service.proofs.Seats.{all_before}
-use Rattle.fc_service.proofs.pool.run_at.Goals as goal
+use Rattle.fc_pool.proofs.Pools.{shares_right}
+use Rattle.fc_pool.proofs.Seats.{all_before}
+use Rattle.fc_pool.proofs.pool.run_at.Goals as goal
 
 pub returns-clause-right : goal.returns-clause-right
 returns-clause-right g c =

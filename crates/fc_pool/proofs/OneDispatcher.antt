@@ -19,7 +19,7 @@ use Rattle.fc_workers.specs.Workers.{WorkerSeed}
 use Rattle.fc_locked.specs.declared.closed.ClosedServer.{ClosedServer}
 use Rattle.fc_workers.proofs.Deliveries.{turns_worked}
 use Rattle.fc_locked.proofs.LegalOrder.{found}
-use Rattle.fc_service.proofs.Pools.{each_share, of_all}
+use Rattle.fc_pool.proofs.Pools.{each_share, of_all}
 use Rattle.fc_workers.proofs.Seats.{all_of_map}
 
 -- ---- what holds of each thread's entries holds of all

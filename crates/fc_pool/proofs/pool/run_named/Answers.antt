@@ -1,8 +1,8 @@
 use Rattle.std.proofs.Common.{◌≡◌, ◌+◌, arith, subst, sym}
 use Rattle.std.specs.Prelude.{vec_len}
 use Rattle.fc_locked.specs.SharedStores.{HasSaved}
-use Rattle.fc_service.specs.Pooled.{IsFed, offload_where, locked_view}
-use Rattle.fc_service.proofs.pool.run_named.Goals as goal
+use Rattle.fc_pool.specs.Pooled.{IsFed, offload_where, locked_view}
+use Rattle.fc_pool.proofs.pool.run_named.Goals as goal
 
 pub returns-clause-fed : goal.returns-clause-fed
 returns-clause-fed g c =

@@ -4,8 +4,8 @@ use Rattle.fc_filed.specs.Recovered.{HaveSavedOrder}
 use Rattle.fc_server.specs.States.{ServerState}
 use Rattle.fc_locked.specs.Closing.{HasCountedAll}
 use Rattle.fc_locked.specs.SharedStores.{HasSaved}
-use Rattle.fc_service.specs.Pooled.{IsFedBeside, locked_view, offload_where}
-use Rattle.fc_service.proofs.pool.run_pool.Goals as goal
+use Rattle.fc_pool.specs.Pooled.{IsFedBeside, locked_view, offload_where}
+use Rattle.fc_pool.proofs.pool.run_pool.Goals as goal
 
 pub returns-clause-counted : goal.returns-clause-counted
 returns-clause-counted g c = subst (λ (s : ServerState). IfOk c.run_named.result (λ fed. HasCountedAll s.shards fed.closed)) c.in_ok-book.ensures.first c.run_named.ensures.counted

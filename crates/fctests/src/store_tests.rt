@@ -2,9 +2,9 @@
 //!
 //! The first serials are those of docs/PROTOCOL.md: 32 for each millisecond, and 2^24 for each
 //! second, or one more than the greatest stored serial. The rules are those of docs/REFERENCE.md.
-use crate::overtaking_tests::COUNTER;
 use fc_core::DEFAULT_POLICY;
 use fc_core::heads::serial_in;
+use fc_fixtures::images::COUNTER;
 use fc_isa::{Fault, Rule};
 use fc_registry::{RestoreError, SlotNumber, StartError};
 use fc_service::slots::{Slots, restored_slots};

@@ -6,10 +6,10 @@ ghost use Rattle.std.specs.Prelude.{◌≡◌, ◌+◌, ◌<◌, ◌≤◌, ℕ,
 ghost use Rattle.std.specs.List.{All};
 ghost use Rattle.fc_filed.specs.Recovered.{HaveSavedOrder};
 ghost use Rattle.fc_jobs.specs.Ends.{nothing_got, nothing_sent};
-ghost use Rattle.fc_service.specs.Counting.{both_replies, replies_by, replies_of};
+ghost use Rattle.fc_pool.specs.Counting.{both_replies, replies_by, replies_of};
 ghost use Rattle.fc_server.specs.Ingresses.{IngressCalls};
 ghost use Rattle.fc_store.specs.Stored.{blank_slot};
-ghost use Rattle.fc_service.specs.Pooled.{DrivesTo, IsFed, IsFedBeside, offload_where, locked_view, open_view, pooled_calls};
+ghost use Rattle.fc_pool.specs.Pooled.{DrivesTo, IsFed, IsFedBeside, offload_where, locked_view, open_view, pooled_calls};
 ghost use Rattle.fc_workers.specs.Views.{worker_view};
 ghost use Rattle.fc_locked.specs.Closing.{HasCountedAll};
 ghost use Rattle.fc_locked.specs.Naming.{AreNamed};
@@ -32,9 +32,8 @@ use fc_locked::{Blanks, Books, ClosedServer, Locked, ReadyStore, ServerOf, Talli
 use fc_observe::Ticked;
 use fc_record::{Recorder, RecordingGate};
 use fc_registry::{PLACES, SlotNumber};
-use fc_server::FirstServer;
-pub use fc_server::Ingress;
 use fc_server::engine::{FireOutcome, NotifyOutcome};
+use fc_server::{FirstServer, Ingress};
 use fc_store::{NoStore, Store};
 use fc_workers::{Context, Dispatcher, Offload, drive_workers, make_seats};
 use std::alloc::{AllocError, Global};
@@ -76,7 +75,7 @@ struct PooledIngress<'a, 'b, R: Wait, B: Bench, G: Gate, W: Wire, M: TimeSource>
 
 impl<'a, 'b, R: Wait, B: Bench, G: Gate, W: Wire, M: TimeSource> Model
     for PooledIngress<'a, 'b, R, B, G, W, M> {
-    ghost use Rattle.fc_service.specs.Pooled.{PooledIngress as Seen};
+    ghost use Rattle.fc_pool.specs.Pooled.{PooledIngress as Seen};
 
     ghost Value = { Seen B.Tallies };
 

@@ -3,7 +3,7 @@ use Rattle.std.specs.Prelude.{ℕ, ◌+◌, ◌++◌, Bool, true, false, Option,
 use Rattle.std.specs.Fmt.{decimal}
 use Rattle.fc_backend.specs.Answers.{saturated}
 use Rattle.fc_backend.specs.declared.share.Share.{Share}
-use Rattle.fc_service.specs.declared.replies.Replies.{Replies}
+use Rattle.fc_pool.specs.declared.replies.Replies.{Replies}
 
 abbrev pub no_replies : Replies
 no_replies = record { sent = 0; failed = 0 }

@@ -1,0 +1,3 @@
+mod Pools
+pub mod OneDispatcher
+mod Seats
