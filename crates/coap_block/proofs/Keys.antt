@@ -12,7 +12,7 @@ use Rattle.coap_block.proofs.Finds.{find-filter, find_agree, find_before, find_b
 
 -- ---- keys of transfers
 
-equal_parts : (from to : Endpoint) (m n : ℕ) → same_key from m to n ≡ true → (from.ip ≡ to.ip) × (from.port ≡ to.port) × (m ≡ n)
+pub equal_parts : (from to : Endpoint) (m n : ℕ) → same_key from m to n ≡ true → (from.ip ≡ to.ip) × (from.port ≡ to.port) × (m ≡ n)
 equal_parts from to m n e =
     let w = and_parts (same_endpoint from to) (m == n) e in
     let v = and_parts (pointwise nat_eq from.ip to.ip) (from.port == to.port) w.0 in

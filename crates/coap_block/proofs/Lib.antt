@@ -8,3 +8,4 @@ pub mod Joins
 pub mod Refusals
 pub mod Causes
 pub mod Single
+pub mod Places

@@ -9,7 +9,7 @@ use Rattle.coap_block.specs.Transfers.{Addition, transfers}
 use Rattle.coap_block.proofs.Keys.{own_key}
 
 -- the number of transfers that pass the test
-abbrev count : (Transfer → Bool) → List Transfer → ℕ
+abbrev pub count : (Transfer → Bool) → List Transfer → ℕ
 count p held = length (filter p held)
 
 joined_by : (b : Bool) (t : Transfer) (all left right : List Transfer) → length all ≡ length left + length right → length (cond b (t ∷ all) all) ≡ length (cond b (t ∷ left) left) + length right
@@ -30,7 +30,7 @@ left_by true is t few all p e le = subst (λ (b : Bool). length (cond b (t ∷ f
 left_by false true t few all p e le = omega (arith, le)
 left_by false false t few all p e le = le
 
-count_left : (p q : Transfer → Bool) (ts : List Transfer) → count p (filter q ts) ≤ count p ts
+pub count_left : (p q : Transfer → Bool) (ts : List Transfer) → count p (filter q ts) ≤ count p ts
 count_left p q [] = omega arith
 count_left p q (t ∷ ts) = left_by (q t) (p t) t (filter q ts) (filter p ts) p refl (count_left p q ts)
 
@@ -78,7 +78,7 @@ one_after held at from to m n more x false e le =
     let all = count_joined (is_transfer_of to n) (others from m (live at held)) (kept_transfer more at from m x) in
     omega (arith, rest, alive, kept, all, le)
 
-one_added : (held : List Transfer) (at : ℕ) (from to : Endpoint) (m n : ℕ) (block : Option Place) (bytes : List ℕ) → count (is_transfer_of to n) held ≤ 1 → count (is_transfer_of to n) (after_add held at from m block bytes) ≤ 1
+pub one_added : (held : List Transfer) (at : ℕ) (from to : Endpoint) (m n : ℕ) (block : Option Place) (bytes : List ℕ) → count (is_transfer_of to n) held ≤ 1 → count (is_transfer_of to n) (after_add held at from m block bytes) ≤ 1
 one_added held at from to m n None bytes le = le
 one_added held at from to m n (Some b) bytes le = one_after held at from to m n b.more (body_among (live at held) from m b bytes) (same_key from m to n) refl le
 

@@ -1,6 +1,7 @@
 pub mod Cuts
 pub mod Uploads
 pub mod Views
+pub mod Places
 pub mod Transfers
 pub mod UnderWay
 pub mod Pieces

@@ -1,8 +1,10 @@
 //! The transfers in progress, to which the server's front adds the blocks of PUTs.
-ghost use Rattle.std.specs.Prelude.{◌≡◌, ◌≤◌, ◌<◌, [], ◌∷◌, ◌++◌, find, length, IfOk, vec_capacity};
-ghost use Rattle.std.specs.Option.{option_copied, option_map};
-ghost use Rattle.coap_block.specs.Uploads.{add_of, after_add, after_block, before_of, block_added, body_behind, body_with, is_full, is_transfer_of, live, others};
-ghost use Rattle.coap_block.specs.Views.{add_seen};
+ghost use Rattle.std.specs.Prelude.{◌≡◌, ◌≤◌, ◌<◌, [], ◌∷◌, ◌++◌, length, slice_index_or, IfOk, IfSome, vec_capacity};
+ghost use Rattle.std.specs.List.{position, remove};
+ghost use Rattle.coap_block.specs.declared.transfer.Transfer.{Transfer};
+ghost use Rattle.coap_block.specs.Uploads.{add_of, after_add, after_block, before_of, block_added, body_behind, body_with, is_transfer_of, live};
+ghost use Rattle.coap_block.specs.Places.{HasOneKey, IsPlaced};
+ghost use Rattle.coap_block.specs.Views.{add_seen, joined_seen, refusal_seen};
 
 use crate::transfer::{BODY, Body, Transfer, is_transfer_of, is_under_way};
 use coap_msg::Endpoint;
@@ -35,6 +37,14 @@ pub enum Added {
     Full,
 }
 
+// The reason why a payload is refused, as in `Added`.
+enum UploadRefusal {
+    Incomplete,
+    BadLength,
+    TooLarge,
+    Full,
+}
+
 /// The transfers in progress, in the order of their latest blocks.
 ///
 /// Times are in milliseconds.
@@ -46,12 +56,13 @@ pub struct Uploads {
 impl Model for Uploads {
     ghost use Rattle.std.specs.Prelude.{◌≤◌, List, length, vec_capacity};
     ghost use Rattle.coap_block.specs.declared.transfer.Transfer.{Transfer};
+    ghost use Rattle.coap_block.specs.Places.{HasOneKey};
 
     ghost Value = { List Transfer };
 
     ghost view = { λ x. x.held.items };
 
-    ghost invariant = { λ x. (length x.held.items ≤ 16) × (16 ≤ vec_capacity x.held) };
+    ghost invariant = { λ x. (length x.held.items ≤ 16) × (16 ≤ vec_capacity x.held) × HasOneKey x.held.items };
 }
 
 impl Uploads {
@@ -90,8 +101,8 @@ impl Uploads {
         ensures after { self.new ≡ after_add self.old now endpoint slot block1 payload.now }
     {
         match block1 {
-            None => body_with(Body::new(), payload),
-            Some(block) => self.add_block(now, endpoint, slot, block, payload),
+            None => whole(payload),
+            Some(block) => add_block(&mut self.held, now, endpoint, slot, block, payload),
         }
     }
 
@@ -106,37 +117,39 @@ impl Uploads {
             .filter(|transfer| is_under_way(now, transfer))
             .count()
     }
+}
 
-    // Joins a block to its transfer for `add`, or removes the transfer and returns the refusal.
-    fn add_block(
-        &mut self,
-        now: u64,
-        endpoint: Endpoint,
-        slot: u8,
-        block: Block,
-        payload: &[u8],
-    ) -> Added
-        ensures added { add_seen result ≡ block_added self.old now endpoint slot block payload.now }
-        ensures after { self.new ≡ after_block self.old now endpoint slot block payload.now }
-    {
-        expire(&mut self.held, now);
-        let before = before(&self.held, endpoint, slot, block.number());
-        remove(&mut self.held, endpoint, slot);
-        if is_full(block.number(), self.held.len()) {
-            return Added::Full;
+// Joins a block to its transfer for `add`, or removes the transfer and returns the refusal.
+fn add_block(
+    held: &mut Vec<Transfer>,
+    now: u64,
+    endpoint: Endpoint,
+    slot: u8,
+    block: Block,
+    payload: &[u8],
+) -> Added
+    requires few { length held.old.items ≤ 16 }
+    requires room { 16 ≤ vec_capacity held.old }
+    requires single { HasOneKey held.old.items }
+    ensures added { add_seen result ≡ block_added held.old.items now endpoint slot block payload.now }
+    ensures after { held.new.items ≡ after_block held.old.items now endpoint slot block payload.now }
+    ensures room { vec_capacity held.new ≡ vec_capacity held.old }
+    ensures few { length held.new.items ≤ 16 }
+{
+    expire(held, now);
+    let place = match place_for(held, now, endpoint, slot, block) {
+        Ok(place) => place,
+        Err(refusal) => return refused(refusal),
+    };
+    match join(&mut held[place], now, block, payload) {
+        Ok(()) if block.more() => {
+            move_last(held, place);
+            Added::Continue
         }
-        match body_behind(before, block, payload) {
-            Added::Whole(body) if block.more() => {
-                let transfer = Transfer {
-                    endpoint,
-                    slot,
-                    at: now,
-                    body,
-                };
-                keep(&mut self.held, transfer);
-                Added::Continue
-            }
-            added => added,
+        Ok(()) => Added::Whole(held.remove(place).body),
+        Err(refusal) => {
+            let _removed = held.remove(place);
+            refused(refusal)
         }
     }
 }
@@ -150,88 +163,121 @@ fn expire(held: &mut Vec<Transfer>, now: u64)
     held.retain(|transfer| is_under_way(now, transfer));
 }
 
-// Removes the transfer of this endpoint and slot.
-fn remove(held: &mut Vec<Transfer>, endpoint: Endpoint, slot: u8)
-    ensures held { held.new.items ≡ others endpoint slot held.old.items }
-    ensures room { vec_capacity held.new ≡ vec_capacity held.old }
-    ensures fewer { length held.new.items ≤ length held.old.items }
-{
-    held.retain(|transfer| !is_transfer_of(endpoint, slot, transfer));
-}
-
-// Appends a transfer; the caller guarantees that fewer than 16 are stored.
-fn keep(held: &mut Vec<Transfer>, transfer: Transfer)
-    requires few { length held.old.items < 16 }
+// Returns the place of a block's transfer, which number 0 starts as the last one, without any bytes,
+// unless it is in progress.
+fn place_for(
+    held: &mut Vec<Transfer>,
+    now: u64,
+    endpoint: Endpoint,
+    slot: u8,
+    block: Block,
+) -> Result<usize, UploadRefusal>
+    requires few { length held.old.items ≤ 16 }
     requires room { 16 ≤ vec_capacity held.old }
-    ensures held { held.new.items ≡ held.old.items ++ transfer ∷ [] }
+    requires single { HasOneKey held.old.items }
+    ensures place { IsPlaced held.old.items held.new.items endpoint slot block result }
     ensures room { vec_capacity held.new ≡ vec_capacity held.old }
     ensures few { length held.new.items ≤ 16 }
 {
-    held.push_reserved(transfer);
-}
-
-// Returns whether a block with this number starts a transfer, and there is no room among this many
-// others.
-fn is_full(number: u32, others: usize) -> bool
-    ensures { result ≡ is_full number others }
-{
-    number == 0 && others >= TRANSFERS
-}
-
-// Returns the payloads before a block with this number, joined: empty before number 0, else those
-// of the transfer in progress. Returns `None` if there is no such transfer.
-fn before(held: &[Transfer], endpoint: Endpoint, slot: u8, number: u32) -> Option<Body>
-    ensures { option_map (λ b. b.items) result ≡ before_of number (find (is_transfer_of endpoint slot) held.now) }
-{
-    if number == 0 {
-        return Some(Body::new());
+    if let Some(place) = place_of(held, endpoint, slot) {
+        return Ok(place);
     }
-    find(held, endpoint, slot).map(|transfer| copy(&transfer.body))
+    if block.number() > 0 {
+        return Err(UploadRefusal::Incomplete);
+    }
+    let place = held.len();
+    if place >= TRANSFERS {
+        return Err(UploadRefusal::Full);
+    }
+    held.push_reserved(Transfer {
+        endpoint,
+        slot,
+        at: now,
+        body: Body::new(),
+    });
+    Ok(place)
 }
 
-// Returns the transfer of this endpoint and slot, or `None` if there is none.
-fn find(held: &[Transfer], endpoint: Endpoint, slot: u8) -> Option<&Transfer>
-    ensures { option_copied result ≡ find (is_transfer_of endpoint slot) held.now }
+// Returns the place of the transfer of this endpoint and slot, or `None` if there is none.
+fn place_of(held: &[Transfer], endpoint: Endpoint, slot: u8) -> Option<usize>
+    ensures place { result ≡ position (is_transfer_of endpoint slot) held.now }
+    ensures within { IfSome result (λ i. i < length held.now) }
 {
     held.iter()
-        .find(|transfer| is_transfer_of(endpoint, slot, transfer))
+        .position(|transfer| is_transfer_of(endpoint, slot, transfer))
 }
 
-// Returns a copy of a body.
-fn copy(body: &Body) -> Body
-    ensures { result ≡ body.now }
+// Moves the transfer at this place behind the others.
+fn move_last(held: &mut Vec<Transfer>, place: usize)
+    requires { place < length held.old.items }
+    ensures held { (d : Transfer) → held.new.items
+        ≡ remove held.old.items place ++ slice_index_or held.old.items place d ∷ [] }
+    ensures room { vec_capacity held.new ≡ vec_capacity held.old }
+    ensures few { length held.new.items ≡ length held.old.items }
 {
-    let mut copy = Body::new();
-    let _fits = copy.try_extend_from_slice(body.as_slice());
-    copy
+    if place + 1 < held.len() {
+        held[place..].rotate_left(1);
+    }
 }
 
-// Appends a block to `before`, the payloads before it, or returns the refusal. A fitting block
-// gives `Whole`, also if more blocks follow.
-fn body_behind(before: Option<Body>, block: Block, payload: &[u8]) -> Added
-    ensures { add_seen result ≡ body_behind (option_map (λ b. b.items) before) block payload.now }
+// Appends a block's payload to its transfer in place, or refuses it. Number 0 removes the payloads
+// before it.
+fn join(
+    transfer: &mut Transfer,
+    now: u64,
+    block: Block,
+    payload: &[u8],
+) -> Result<(), UploadRefusal>
+    ensures joined { joined_seen result transfer.new.body.items
+        ≡ body_behind (before_of block.number (Some transfer.old)) block payload.now }
+    ensures endpoint { transfer.new.endpoint ≡ transfer.old.endpoint }
+    ensures slot { transfer.new.slot ≡ transfer.old.slot }
+    ensures at { transfer.new.at ≡ now }
 {
-    let Some(body) = before else {
-        return Added::Incomplete;
-    };
+    transfer.at = now;
+    if block.number() == 0 {
+        transfer.body.clear();
+    }
     let size = block.size();
-    if block.number() as usize * size != body.len() {
-        return Added::Incomplete;
+    if block.number() as usize * size != transfer.body.len() {
+        return Err(UploadRefusal::Incomplete);
     }
     if payload.len() > size || block.more() && payload.len() != size {
-        return Added::BadLength;
+        return Err(UploadRefusal::BadLength);
     }
-    body_with(body, payload)
+    append(&mut transfer.body, payload)
 }
 
-// Appends a payload to a body, and returns `Whole`, or `TooLarge` if it doesn't fit.
-fn body_with(body: Body, payload: &[u8]) -> Added
-    ensures { add_seen result ≡ body_with body.items payload.now }
+// Appends a payload to a body, or refuses it if the body would then have more than 8,208 bytes.
+fn append(body: &mut Body, payload: &[u8]) -> Result<(), UploadRefusal>
+    ensures { joined_seen result body.new.items ≡ body_with body.old.items payload.now }
 {
-    let mut body = body;
     if payload.len() > BODY - body.len() {
-        return Added::TooLarge;
+        return Err(UploadRefusal::TooLarge);
     }
     let _fits = body.try_extend_from_slice(payload);
-    Added::Whole(body)
+    Ok(())
+}
+
+// Returns a payload without a block as the whole body, or its refusal.
+fn whole(payload: &[u8]) -> Added
+    ensures { add_seen result ≡ body_with [] payload.now }
+{
+    let mut body = Body::new();
+    match append(&mut body, payload) {
+        Ok(()) => Added::Whole(body),
+        Err(refusal) => refused(refusal),
+    }
+}
+
+// Returns the result for a refused payload.
+fn refused(refusal: UploadRefusal) -> Added
+    ensures { add_seen result ≡ refusal_seen refusal }
+{
+    match refusal {
+        UploadRefusal::Incomplete => Added::Incomplete,
+        UploadRefusal::BadLength => Added::BadLength,
+        UploadRefusal::TooLarge => Added::TooLarge,
+        UploadRefusal::Full => Added::Full,
+    }
 }
