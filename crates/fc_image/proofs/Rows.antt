@@ -1,6 +1,6 @@
 -- Worked programs, with the result of the control-flow rules for each; and the bytes of a header's
 -- magic.
-use Rattle.std.proofs.Common.{◌≡◌, List, ℕ, true, false, [], ◌∷◌, Some, None, refl}
+use Rattle.std.proofs.Common.{◌≡◌, ℕ, [], ◌∷◌, Some, refl}
 use Rattle.std.specs.Prelude.{pos, negsuc, take}
 use Rattle.fc_isa.specs.declared.insn.Insn.{Insn}
 use Rattle.fc_isa.specs.declared.insn.Insn.TheVariants.{Alu, LoadWide, WideSecond, JumpAlways, JumpIf, CallHelper, CallLocal, Exit}
@@ -16,7 +16,7 @@ use Rattle.fc_image.specs.Written.{head_bytes}
 use Rattle.fc_image.specs.Functions.{is_start, frames}
 use Rattle.fc_image.specs.Loops.{loops_of}
 use Rattle.fc_image.specs.Paths.{costs, cost_in, longest}
-use Rattle.fc_image.specs.ShapeRules.{breaks_shape, is_helper, shape_fault}
+use Rattle.fc_image.specs.ShapeRules.{breaks_shape, shape_fault}
 
 -- a header of this version and budget
 abbrev head : ImageVersion → ℕ → Head
@@ -74,19 +74,14 @@ end_in_a_wide_load : shape_fault (head One 8) (mov ∷ LoadWide 0 7 ∷ WideSeco
 unfolding shape_fault breaks_shape longest cost_in loops_of costs is_start frames
 end_in_a_wide_load = refl
 
-no_helper_eight : shape_fault (head One 8) (CallHelper (pos 8) ∷ mov ∷ Exit ∷ []) ≡ Some (0, Helper)
+no_helper_zero : shape_fault (head One 8) (CallHelper (pos 0) ∷ mov ∷ Exit ∷ []) ≡ Some (0, Helper)
 unfolding shape_fault breaks_shape longest cost_in loops_of costs is_start frames
-no_helper_eight = refl
+no_helper_zero = refl
 
 -- a cost above the budget is reported before a missing helper
-cost_before_helper : shape_fault (head One 2) (CallHelper (pos 8) ∷ mov ∷ Exit ∷ []) ≡ Some (0, Cost)
+cost_before_helper : shape_fault (head One 2) (CallHelper (negsuc 0) ∷ mov ∷ Exit ∷ []) ≡ Some (0, Cost)
 unfolding shape_fault breaks_shape longest cost_in loops_of costs is_start frames
 cost_before_helper = refl
-
--- ---- the helpers' numbers
-
-helpers_are_seven : (is_helper (pos 0) ≡ false) × (is_helper (pos 1) ≡ true) × (is_helper (pos 7) ≡ true) × (is_helper (pos 8) ≡ false) × (is_helper (negsuc 0) ≡ false)
-helpers_are_seven = (refl, refl, refl, refl, refl)
 
 -- ---- the magic
 

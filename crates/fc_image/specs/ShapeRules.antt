@@ -1,5 +1,5 @@
 -- The rules of a program's control flow.
-use Rattle.std.specs.Prelude.{◌≡◌, ℕ, ◌+◌, ◌-◌, ◌<◌, ◌==◌, ◌||◌, ◌&&◌, not, nat_lt, nat_le, Bool, true, false, if◌then◌else◌, min, max, ℤ, pos, negsuc, List, [], ◌∷◌, ◌++◌, length, Option, Some, None, slice_get}
+use Rattle.std.specs.Prelude.{◌≡◌, ℕ, ◌+◌, ◌-◌, ◌<◌, ◌==◌, ◌||◌, ◌&&◌, not, nat_lt, Bool, true, false, if◌then◌else◌, min, max, ℤ, is_some, List, [], ◌∷◌, ◌++◌, length, Option, Some, None, slice_get}
 use Rattle.std.specs.List.{AllByRecursion}
 use Rattle.fc_isa.specs.declared.insn.Insn.{Insn}
 use Rattle.fc_isa.specs.declared.insn.Insn.TheVariants.{CallHelper}
@@ -8,6 +8,7 @@ use Rattle.fc_isa.specs.declared.rule.Rule.{Rule}
 use Rattle.fc_isa.specs.declared.rule.Rule.TheVariants.{JumpTarget, BackwardJump, Boundary, BackwardCall, FrameDepth, Cost, Helper}
 use Rattle.fc_isa.specs.Program.{is_wide_second}
 use Rattle.fc_isa.specs.Flow.{jump_offset, call_offset, target}
+use Rattle.fc_help.specs.Helpers.{helper_of}
 use Rattle.fc_image.specs.Functions.{with_offset, starts_within, is_open_end, frames}
 use Rattle.fc_image.specs.Head.{Head, frames_allowed, loops_allowed}
 use Rattle.fc_image.specs.Loops.{is_undisturbed, loop_if}
@@ -41,9 +42,9 @@ abbrev pub leaves : List Insn → ℕ → Option ℕ → Bool
 leaves code slot None = false
 leaves code slot (Some t) = nat_lt t (length code) && starts_within code (min slot t) (max slot t - min slot t)
 
+-- a helper has the number.
 abbrev pub is_helper : ℤ → Bool
-is_helper (pos n) = nat_le 1 n && nat_le n 7
-is_helper (negsuc n) = false
+is_helper number = is_some (helper_of number)
 
 abbrev pub calls_no_helper : Insn → Bool
 calls_no_helper (CallHelper number) = not (is_helper number)

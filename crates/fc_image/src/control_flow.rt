@@ -15,6 +15,7 @@ use crate::limits::{Head, loops_allowed};
 use crate::loops::is_counted;
 use crate::spans::Span;
 use crate::table::{MOST_SLOTS, Tables};
+use fc_help::helper_of;
 use fc_isa::{Fault, Insn, Rule};
 
 /// Checks the control flow of a program, and returns its cost.
@@ -212,13 +213,11 @@ fn crosses_to(code: &[Insn], counts: &[u16; MOST_SLOTS], slot: usize, place: Opt
 }
 
 /// Returns whether an instruction calls a helper that doesn't exist.
-///
-/// There are helpers 1 to 7.
 fn calls_no_helper(insn: &Insn) -> bool
     ensures { result ≡ calls_no_helper insn.now }
 {
     match insn {
-        Insn::CallHelper { number } => *number < 1 || *number > 7,
+        Insn::CallHelper { number } => helper_of(*number).is_none(),
         _ => false,
     }
 }

@@ -20,7 +20,6 @@ pub mod RunLaws
 pub mod Judging
 pub mod Right
 pub mod Sound
-pub mod Called
 mod Rows
 mod HeadRows
 pub mod Lowered
