@@ -1,6 +1,6 @@
 -- If an instruction's preconditions hold in a wider state, they hold in a narrower one, and the
 -- state after the instruction is narrower.
-use Rattle.std.proofs.Common.{◌≡◌, ℕ, zero, suc, ◌+◌, ◌^◌, ◌<◌, ◌&&◌, Bool, true, false, Option, Some, None, List, [], ◌∷◌, length, refl, sym, ap, subst, arith, length-set, inl, inr, get_or-set_same, get_or-set_other}
+use Rattle.std.proofs.Common.{◌≡◌, ℕ, zero, suc, ◌+◌, ◌<◌, Bool, true, false, Option, Some, None, List, [], ◌∷◌, length, refl, sym, ap, subst, arith, length-set, inl, inr, get_or-set_same, get_or-set_other}
 use Rattle.std.specs.Prelude.{slice_set}
 use Rattle.std.proofs.lemmas.Bool.{cases_eq, and_parts, and_from}
 use Rattle.std.proofs.lemmas.Int.{ints}
@@ -20,10 +20,10 @@ use Rattle.fc_kinds.specs.Transfer.{num, is_number, operand_kind, alu_kind, may_
 use Rattle.fc_kinds.specs.Values.{with_some}
 use Rattle.fc_kinds.specs.Intervals.{all}
 use Rattle.fc_help.specs.declared.helper.Helper.{Helper}
-use Rattle.fc_help.specs.declared.helper.Helper.TheVariants.{PayloadLen, PayloadByte, VarGet, VarPut, ReplyPut, ReplyByte, Notify}
 use Rattle.fc_help.specs.declared.helper.Arguments.{Arguments}
 use Rattle.fc_help.specs.declared.helper.Arguments.TheVariants.{NoArgument, OneNumber, TwoNumbers, Bytes}
 use Rattle.fc_help.specs.Helpers.{helper_of, signature_of}
+use Rattle.fc_help.proofs.Known.{most_low}
 use Rattle.fc_kinds.proofs.KindLaws.{kind_within_same, within_put}
 use Rattle.fc_kinds.specs.Containing.{IsKind, AreKinds}
 use Rattle.fc_kinds.proofs.Monotone.{KindFollows, alu_follows, neg_follows, extended_follows, ordered_follows, may_read_follows, may_write_follows, fewer_follow, is_number_follows, where_follows, operand_within}
@@ -156,15 +156,6 @@ arguments_follow vars TwoNumbers ks ks' w e =
     let b = and_parts (is_number (kind_at ks' 1)) (is_number (kind_at ks' 2)) e in
     and_from (is_number (kind_at ks 1)) (is_number (kind_at ks 2)) (is_number_follows (kind_at ks 1) (kind_at ks' 1) (w.each 1) b.0) (is_number_follows (kind_at ks 2) (kind_at ks' 2) (w.each 2) b.1)
 arguments_follow vars Bytes ks ks' w e = count_follows vars (kind_at ks 1) (kind_at ks' 1) (kind_at ks 2) (kind_at ks' 2) (w.each 1) (w.each 2) e
-
-most_low : (h : Helper) → (signature_of h).most < 2 ^ 64
-most_low PayloadLen = omega arith
-most_low PayloadByte = omega arith
-most_low VarGet = omega arith
-most_low VarPut = omega arith
-most_low ReplyPut = omega arith
-most_low ReplyByte = omega arith
-most_low Notify = omega arith
 
 helper_meets : (vars : ℕ) (o : Option Helper) (ks ks' after' : List Kind) → AreKinds ks → Within ks ks' → with_some o (helped_kinds vars ks') ≡ Some after' → Meets (with_some o (helped_kinds vars ks)) (with_some o (helped_kinds vars ks')) after'
 helper_meets vars None ks ks' after' a w e = absurd (cc e)
