@@ -1,5 +1,5 @@
--- The helpers by their numbers, their arguments and results, and the size of a reply.
-use Rattle.std.specs.Prelude.{ℕ, suc, ℤ, pos, List, [], ◌∷◌, Option, None, slice_get}
+-- The helpers by their numbers and names, their arguments and results, and the size of a reply.
+use Rattle.std.specs.Prelude.{ℕ, suc, ℤ, pos, List, [], ◌∷◌, Option, None, slice_get, codes}
 use Rattle.fc_help.specs.declared.request.Method.{Method}
 use Rattle.fc_help.specs.declared.request.Method.TheVariants.{Get, Post}
 use Rattle.fc_help.specs.declared.helper.Helper.{Helper}
@@ -24,6 +24,16 @@ helper_number VarPut = pos 4
 helper_number ReplyPut = pos 5
 helper_number ReplyByte = pos 6
 helper_number Notify = pos 7
+
+-- the name of each helper in a source, in ASCII.
+abbrev pub helper_name : Helper → List ℕ
+helper_name PayloadLen = codes "payload_len"
+helper_name PayloadByte = codes "payload_byte"
+helper_name VarGet = codes "var_get"
+helper_name VarPut = codes "var_put"
+helper_name ReplyPut = codes "reply_put"
+helper_name ReplyByte = codes "reply_byte"
+helper_name Notify = codes "notify"
 
 abbrev pub signature : Arguments → ℕ → Signature
 signature arguments most = record { arguments = arguments; most = most }

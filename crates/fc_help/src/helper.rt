@@ -1,6 +1,6 @@
 //! The helpers: the host's functions that a program may call.
 ghost use Rattle.std.specs.Prelude.{MatchOption, None, ◌≡◌};
-ghost use Rattle.fc_help.specs.Helpers.{helper_number, helper_of, room_of, signature, signature_of};
+ghost use Rattle.fc_help.specs.Helpers.{helper_name, helper_number, helper_of, room_of, signature, signature_of};
 
 use crate::request::Method;
 
@@ -65,6 +65,21 @@ pub fn helper_of(number: i32) -> Option<Helper>
         6 => Some(Helper::ReplyByte),
         7 => Some(Helper::Notify),
         _ => None,
+    }
+}
+
+/// Returns the name by which a source calls a helper.
+pub fn name_of(helper: Helper) -> &'static str
+    ensures { result.now ≡ helper_name helper }
+{
+    match helper {
+        Helper::PayloadLen => "payload_len",
+        Helper::PayloadByte => "payload_byte",
+        Helper::VarGet => "var_get",
+        Helper::VarPut => "var_put",
+        Helper::ReplyPut => "reply_put",
+        Helper::ReplyByte => "reply_byte",
+        Helper::Notify => "notify",
     }
 }
 

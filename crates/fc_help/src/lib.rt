@@ -18,11 +18,12 @@
 //!
 //! - A request is laid out as the region of memory that its program reads. Requests and variables
 //!   are compared and copied whole, and readings are compared.
-//! - Each helper has stated arguments and results, and a reply has a stated maximum length.
+//! - Each helper has a stated name, stated arguments and results. A reply has a stated maximum
+//!   length.
 //! - `laws` states each byte of the region and of the readings by its place, and each helper by its
 //!   number.
 //!
-//! By the contracts of `Request`, `Request::region`, `Vars`, `helper_of`, `signature_of`,
+//! By the contracts of `Request`, `Request::region`, `Vars`, `helper_of`, `name_of`, `signature_of`,
 //! `room_of`, `laws`.
 #![tactic(auto)]
 
@@ -32,7 +33,7 @@ pub mod readings;
 pub mod request;
 pub mod vars;
 
-pub use helper::{Arguments, Helper, Signature, helper_of, room_of, signature_of};
+pub use helper::{Arguments, Helper, Signature, helper_of, name_of, room_of, signature_of};
 pub use readings::{NO_READINGS, READINGS, Readings, are_same_readings};
 pub use request::{Method, Request};
 pub use vars::Vars;
