@@ -141,7 +141,7 @@ helps number a b = first_of (transfer 8 (CallHelper number) (Unset ∷ a ∷ b �
 
 rows_helpers : (helps (pos 1) Unset Unset ≡ Some (Num 0 1024)) × (helps (pos 2) (Num 5 6) Unset ≡ Some all64) × (helps (pos 2) (Req (pos 0) (pos 0)) Unset ≡ None) × (helps (pos 3) Unset Unset ≡ None)
     × (helps (pos 3) (Num 0 0) Unset ≡ Some all64) × (helps (pos 4) (Num 1 1) Unset ≡ None) × (helps (pos 4) (Num 1 1) (Num 2 2) ≡ Some (Num 0 1)) × (helps (pos 6) (Num 1 1) Unset ≡ Some (Num 0 1))
-    × (helps (pos 7) Unset Unset ≡ Some (Num 0 0)) × (helps (pos 0) (Num 1 1) (Num 1 1) ≡ None) × (helps (pos 8) (Num 1 1) (Num 1 1) ≡ None) × (helps (negsuc 0) (Num 1 1) (Num 1 1) ≡ None)
+    × (helps (pos 7) Unset Unset ≡ Some (Num 0 0)) × (helps (pos 0) (Num 1 1) (Num 1 1) ≡ None) × (helps (pos 99) (Num 1 1) (Num 1 1) ≡ None) × (helps (negsuc 0) (Num 1 1) (Num 1 1) ≡ None)
 unfolding transfer
 rows_helpers = (refl, refl, refl, refl, refl, refl, refl, refl, refl, refl, refl, refl)
 
