@@ -305,7 +305,12 @@ class Code:
         rest = self.text[start:]
         line = rest.partition("\n")[0]
         indent = re.match(" *", line)[0]
-        end = line if line.endswith(";") else re.match(rf".*?^{indent}[}}\]][;)]*", rest, re.M | re.S)[0]
+        if line.endswith(";"):
+            end = line
+        elif line.endswith("="):
+            end = re.match(r".*?;$", rest, re.M | re.S)[0]
+        else:
+            end = re.match(rf".*?^{indent}[}}\]][;)]*", rest, re.M | re.S)[0]
         above = re.search(r"(?:^ *(?://|#\[).*\n)*\Z", self.text[:start], re.M)[0].splitlines()
         lines = [it for it in above if it.lstrip().startswith("//")] + end.splitlines()
         self.items[name] = Item(self.crate, self.module, name, "\n".join(it.removeprefix(indent) for it in lines))
