@@ -13,6 +13,10 @@ use Rattle.fc_server.specs.declared.flush.Flushing.{Flushing}
 
 -- ---- one step
 
+-- the position at a shard that isn't idle, before its notifications are retransmitted.
+abbrev pub before_shard : ℕ → Flushing
+before_shard k = record { shard = k; notifies = false; busy = true }
+
 at_place : (s : Flushing) (k : ℕ) (b : Bool) → s.shard ≡ k → s.notifies ≡ b → found_at s ≡ found_below k ++ (if b then NothingOverdue k ∷ [] else [])
 at_place s k b shard notifies = λ i. found_below (shard i) ++ (if notifies i then NothingOverdue (shard i) ∷ [] else [])
 

@@ -5,7 +5,7 @@
 ghost use Rattle.std.specs.Prelude.{◌≡◌, ◌+◌, ◌<◌, ◌≤◌, ◌↔◌, [], false, true, IsTrue, List};
 ghost use Rattle.coap_msg.specs.declared.types.Emission.{Emission as Emitted};
 ghost use Rattle.fc_core.specs.Legal.{resent};
-ghost use Rattle.fc_core.specs.Receiving.{emission_if};
+ghost use Rattle.fc_front.specs.Receiving.{emission_if};
 ghost use Rattle.fc_observe.specs.declared.observers.Ticked.{Ticked};
 ghost use Rattle.fc_server.specs.Notified.{Notified, notification_in, notified_as};
 ghost use Rattle.fc_server.specs.Flushing.{AreIdleUntil, Asked, AreStepsTo, IsPlace, IsStepBy, Moves, Resent, FlushingStep, sent_in_step, sent_in_steps};
@@ -14,7 +14,7 @@ use crate::engine::NotifyOutcome;
 use crate::ingress::Ingress;
 use coap_msg::Emission;
 use fc_observe::Ticked;
-use fc_registry::SHARDS;
+use fc_ticket::SHARDS;
 
 /// More steps than there can be at one time.
 ///
@@ -29,7 +29,10 @@ pub const STEPS: u16 = 8192;
 #[derive(Drop)]
 pub struct Flushing {
     shard: u8,
+    // Whether the shard's observers are notified. If not, its notifications are retransmitted.
     notifies: bool,
+    // Whether the shard was called and wasn't idle.
+    busy: bool,
 }
 
 impl Flushing {
@@ -40,14 +43,15 @@ impl Flushing {
     pub fn begin<N: Ingress>(ingress: &mut N, now: u64) -> Flushing
         ensures { (steps : List FlushingStep) × AreStepsTo N.calls now steps ingress.old ingress.new result × (sent_in_steps steps ≡ []) }
     {
-        let mut flushing = Flushing {
-            shard: 0,
-            notifies: false,
-        };
-        'idle: while flushing.shard < SHARDS && ingress.advance_if_idle(flushing.shard, now) {
-            flushing.pass();
+        let mut shard = 0;
+        'idle: while shard < SHARDS && ingress.advance_if_idle(shard, now) {
+            shard += 1;
         }
-        flushing
+        Flushing {
+            shard,
+            notifies: false,
+            busy: true,
+        }
     }
 
     /// Returns whether no work is left.
@@ -60,7 +64,8 @@ impl Flushing {
     /// Takes a step at the current shard.
     ///
     /// The datagram to send, if there is one, is written over `emission`. Returns whether there is
-    /// a datagram to send. If no message ID is available, the step leads to the end.
+    /// a datagram to send. If no message ID is available, the step leads to the end. A shard that
+    /// was found busy isn't advanced again before its notifications are retransmitted.
     #[inline(never)]
     pub fn step<N: Ingress>(&mut self, ingress: &mut N, now: u64, emission: &mut Emission) -> bool
         requires { self.old.shard < 8 }
@@ -69,6 +74,9 @@ impl Flushing {
     {
         if self.notifies {
             return self.notify(ingress, now, emission);
+        }
+        if self.busy {
+            return self.resend(ingress, now, emission);
         }
         if ingress.advance_if_idle(self.shard, now) {
             self.pass();
@@ -112,6 +120,7 @@ impl Flushing {
     {
         self.shard += 1;
         self.notifies = false;
+        self.busy = false;
     }
 
     // Goes on after the shard was ticked. A retransmission is written over `emission`. Returns

@@ -19,4 +19,4 @@ returns g c =
     let new = c.advance_if_idle.new.self in
     let shard = c.args.self.now.shard in
     let same = subst (λ (b : Bool). MatchBool b (g.N.Ingress.calls.passes_over shard c.args.now c.args.ingress.now new) (new ≡ c.args.ingress.now)) c.if-advance_if_idle.false c.advance_if_idle.ensures.after in
-    (Resent shard c.resend.ensures.0, (c.requires, subst (λ s. g.N.Ingress.calls.resends shard c.args.now s c.resend.new.ingress c.resend.ensures.0) same c.resend.ensures.1), sym c.resend.ensures.2, c.resend.ensures.3)
+    (Resent shard c.resend-2.ensures.0, (c.requires, subst (λ s. g.N.Ingress.calls.resends shard c.args.now s c.resend-2.new.ingress c.resend-2.ensures.0) same c.resend-2.ensures.1), sym c.resend-2.ensures.2, c.resend-2.ensures.3)
