@@ -3,7 +3,7 @@
 use Rattle.std.proofs.Common.{◌≡◌, ℕ, Bool, true, false, List, [], ◌∷◌, ◌++◌, refl, sym, subst}
 use Rattle.std.specs.Prelude.{if◌then◌else◌}
 use Rattle.std.specs.List.{filter}
-use Rattle.fc_core.specs.Exchanges.{FrontState, advanced}
+use Rattle.fc_front.specs.Exchanges.{FrontState, advanced}
 use Rattle.fc_calls.specs.Doings.{AdvancesTo, FiresAt}
 use Rattle.fc_linear.specs.Operations.{Operation, WordsDo, is_words, part_of}
 use Rattle.fc_linear.specs.Parts.{LeadInOrder}

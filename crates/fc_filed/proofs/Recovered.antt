@@ -11,7 +11,7 @@ use Rattle.fc_store.specs.Stored.{StoredSlot, StoredSlots}
 use Rattle.fc_store.specs.Updates.{AreSameSlots, slot_after, slots_after}
 use Rattle.fc_verify.specs.Accepted.{Accepts}
 use Rattle.fc_verify.specs.Judged.{judged}
-use Rattle.fc_registry.specs.declared.job.Job.{Job}
+use Rattle.fc_ticket.specs.declared.job.Job.{Job}
 use Rattle.fc_registry.specs.Changes.{changed}
 use Rattle.fc_registry.specs.Plans.{IsPlanned, IsStoredOf, IsStoredProgram}
 use Rattle.fc_registry.specs.Shards.{shard_at, slot_in_shards}

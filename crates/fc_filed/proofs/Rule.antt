@@ -10,7 +10,7 @@ use Rattle.fc_book.specs.declared.view.BookView.{BookView}
 use Rattle.fc_book.specs.declared.view.Track.{Track}
 use Rattle.fc_book.specs.Tracks.{AreOn, AreSingle, HasKey, entries_of, filed_on_all, filed_with, first_own, first_view, locked_of, merged_with, no_tracks, on, own_view, part_view, track, first_locked, with_another, with_begun, with_filed, with_locked, with_next, with_part, without_first, without_first_locked, without_locked}
 use Rattle.fc_book.proofs.Kept.{begins, begins_part, begins_tracks, closes, files, files_alone, files_on_all, gives, opens, returns, returns_first, sits, takes, takes_another, takes_part}
-use Rattle.fc_core.specs.Heads.{word_at}
+use Rattle.fc_front.specs.Heads.{word_at}
 use Rattle.fc_registry.specs.Shards.{shard_at}
 use Rattle.fc_linear.specs.Operations.{ServerPart, NoPart, WordsPart, is_words, part_of, Logged, Operation, is_for_job, is_locked}
 use Rattle.fc_calls.specs.Logged.{SkipsIdle}

@@ -3,7 +3,7 @@ use Rattle.std.proofs.Common.{◌≡◌, ◌≢◌, ℕ, ◌+◌, ◌-◌, ◌<�
 use Rattle.std.specs.Prelude.{slice_index}
 use Rattle.std.proofs.lemmas.Bool.{cases_eq}
 use Rattle.std.proofs.lemmas.List.{ext_get_or, get_or-drop, get_or-replicate, get_or-set_other, get_or-set_same, length-drop, length-replicate, length-set}
-use Rattle.fc_core.specs.Heads.{word_at}
+use Rattle.fc_front.specs.Heads.{word_at}
 use Rattle.fc_filed.specs.Books.{heads_in}
 use Rattle.fc_filed.specs.Idle.{idle_word}
 

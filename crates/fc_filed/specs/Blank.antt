@@ -3,8 +3,8 @@ use Rattle.std.specs.Prelude.{[], Option, None}
 use Rattle.fc_store.specs.declared.store.ProgramUpdate.TheVariants.{Remove}
 use Rattle.fc_store.specs.declared.store.SlotUpdate.{SlotUpdate}
 use Rattle.fc_store.specs.Recovery.{Save}
-use Rattle.fc_core.specs.Exchanges.{first_front}
-use Rattle.fc_core.specs.Policies.{default_policy}
+use Rattle.fc_front.specs.Exchanges.{first_front}
+use Rattle.fc_front.specs.Policies.{default_policy}
 use Rattle.fc_server.specs.States.{ServerState}
 use Rattle.fc_calls.specs.Logged.{GivesReadings}
 use Rattle.fc_linear.specs.Operations.{Operation, Logged}

@@ -1,7 +1,7 @@
 -- The track of a job: the operations that led the job from the call that produced it to a stage.
 use Rattle.std.specs.Prelude.{◌≡◌, ◌≢◌, ℕ, ◌≤◌, List, [], ◌∷◌, ◌++◌, Some}
 use Rattle.std.specs.List.{All}
-use Rattle.fc_registry.specs.declared.job.Job.{Job}
+use Rattle.fc_ticket.specs.declared.job.Job.{Job}
 use Rattle.fc_book.specs.declared.view.BookView.{BookView}
 use Rattle.fc_book.specs.Tracks.{HasKey, entries_at, entries_of}
 use Rattle.fc_core.specs.Stage.{Stage}

@@ -1,11 +1,11 @@
 -- The views of a front and a shard that are under a lock with the track of their calls.
 use Rattle.std.specs.Prelude.{◌≡◌, ℕ, ◌+◌, ◌<◌, ◌≤◌, Bool, true, false, List, Result, Ok, Err, Some, refl}
-use Rattle.fc_registry.specs.declared.job.Job.{Job}
+use Rattle.fc_ticket.specs.declared.job.Job.{Job}
 use Rattle.fc_registry.specs.declared.shard.Taken.{Taken}
 use Rattle.fc_registry.specs.declared.shard.Taken.TheVariants.{Given}
-use Rattle.fc_registry.specs.Taken.{SlotSnapshot}
+use Rattle.fc_ticket.specs.Taken.{SlotSnapshot}
 use Rattle.fc_registry.specs.Views.{taken_with}
-use Rattle.fc_core.specs.Exchanges.{FrontState}
+use Rattle.fc_front.specs.Exchanges.{FrontState}
 use Rattle.fc_registry.specs.Slots.{IsOwned, Shard}
 use Rattle.fc_registry.specs.Shards.{shard_at}
 use Rattle.fc_server.specs.States.{ServerState}
@@ -41,15 +41,9 @@ pub record IsOperationOf (of_job : Bool) (operation : Operation) (before after :
   pub of_server : before.index < 8 → IsOfServer operation
   pub logged : (update : SlotUpdate) → operation ≡ FailsToSave update → ⊥
 
--- the call is filed as this operation, or it isn't filed and the shard is unchanged.
-abbrev pub IsFiledAs : Bool → Bool → Operation → Shard → Shard → Type 0
-IsFiledAs true of_job operation before after = IsOperationOf of_job operation before after
-IsFiledAs false of_job operation before after = after ≡ before
-
--- an advance of an idle shard is filed.
-pub advance_filed : (now : ℕ) (before after : Shard) (idle : Bool) → PassesIfIdle now before idle after → IsFiledAs idle false (Logged (AdvancesIdle before.index now)) before after
-advance_filed now before after true does = record { does = does; part = refl; job = λ is. is; of_server = λ low. low; logged = λ u e. logged_no_refusal (AdvancesIdle before.index now) u e }
-advance_filed now before after false does = does.1
+-- an advance of an idle shard is an operation of the shard.
+pub advance_filed : (now : ℕ) (before after : Shard) → PassesIfIdle now before true after → IsOperationOf false (Logged (AdvancesIdle before.index now)) before after
+advance_filed now before after does = record { does = does; part = refl; job = λ is. is; of_server = λ low. low; logged = λ u e. logged_no_refusal (AdvancesIdle before.index now) u e }
 
 -- the entries lead to the shard from the server's first shard of its index, 0 to 7; the key is the
 -- index plus one. Each change of a slot is saved if the server's store is persistent.

@@ -4,8 +4,8 @@ use Rattle.fc_book.specs.declared.view.Track.{Track}
 use Rattle.fc_book.specs.declared.view.BookView.{BookView}
 use Rattle.fc_book.specs.Tracks.{HasKey, with_begun, with_filed}
 use Rattle.fc_store.specs.Recovery.{Save}
-use Rattle.fc_core.specs.declared.front.Handled.{Handled}
-use Rattle.fc_core.specs.declared.front.Handled.TheVariants as hearing
+use Rattle.fc_front.specs.declared.front.Handled.{Handled}
+use Rattle.fc_front.specs.declared.front.Handled.TheVariants as hearing
 use Rattle.fc_calls.specs.Logged.{LooksAt, RaisesWord, SkipsIdle}
 use Rattle.fc_linear.specs.Operations.{IsOfServer, Logged, Operation}
 use Rattle.fc_filed.specs.declared.entry.FiledEntry.{FiledEntry}

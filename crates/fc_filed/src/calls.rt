@@ -1,7 +1,7 @@
 //! The calls of a shard, and the operations that are filed for them.
 //!
-//! [`crate::FiledShard::ask`] makes them. An advance is filed only if the shard is idle. A lease
-//! that begins a track is a method of `FiledShard`.
+//! [`crate::FiledShard::ask`] makes them. Two calls are methods of `FiledShard`: an advance, which is
+//! filed only if the shard is idle, and a request for a lease, which may begin a track.
 ghost use Rattle.std.specs.Prelude.{◌≡◌, true, false, None, ⊤, refl};
 ghost use Rattle.fc_registry.specs.Slots.{IsOwned};
 ghost use Rattle.fc_linear.specs.Operations.{Logged, ShardPart};
@@ -10,11 +10,11 @@ ghost use Rattle.fc_filed.specs.Parts.{logged_no_refusal};
 use crate::shard::{FiledCall, FiledChange};
 use fc_calls::ShardCall;
 use fc_calls::calls::{
-    AdvanceIfIdle, Commit, Describe, GiveUp, Install, NextDue, Note, ReadCost, Remove, Signal,
-    Take, Tick,
+    Commit, Describe, GiveUp, Install, NextDue, Note, ReadCost, Remove, Signal, Take, Tick,
 };
 use fc_help::Readings;
-use fc_registry::{Job, Shard, SlotSnapshot, Taken};
+use fc_registry::{Shard, Taken};
+use fc_ticket::{Job, SlotSnapshot};
 
 impl<'a> FiledCall for Take<'a> {
     ghost use Rattle.fc_registry.specs.Views.{taken_with};
@@ -25,13 +25,6 @@ impl<'a> FiledCall for Take<'a> {
     ghost of_job = { true };
 
     ghost operation = { λ index call answer room. Logged (TakesForJob call.job.now call.readings.now (taken_with answer room)) };
-
-    fn is_filed(answer: &Self::Answer) -> bool
-        ensures { result ≡ true }
-    {
-        let _ = answer;
-        true
-    }
 
     ghost right = { λ call before answer room after is does.
         record { does = does.0; part = λ i. ShardPart (is.index i); job = λ is. is; of_server = λ low. tt; logged = λ u e. logged_no_refusal _ u e } };
@@ -80,13 +73,6 @@ impl<'a> FiledCall for TakeIfCheap<'a> {
 
     ghost operation = { λ index call answer room. cheap_operation call.job.now call.readings.now answer room };
 
-    fn is_filed(answer: &Result<Taken, u32>) -> bool
-        ensures { result ≡ true }
-    {
-        let _ = answer;
-        true
-    }
-
     ghost right = { λ call before answer room after is does.
         cheap_filed call.least call.job.now call.readings.now before answer room after is does };
 }
@@ -100,20 +86,11 @@ impl<'a> FiledCall for Commit<'a> {
 
     ghost operation = { λ index call answer room. Logged (CommitsRun call.now call.outcome.now call.ticket.now answer) };
 
-    fn is_filed(answer: &Self::Answer) -> bool
-        ensures { result ≡ true }
-    {
-        let _ = answer;
-        true
-    }
-
     ghost right = { λ call before answer room after is does.
         record { does = does; part = λ i. ShardPart (is.index i); job = λ is. is; of_server = λ low. tt; logged = λ u e. logged_no_refusal _ u e } };
 }
 
 impl<'a> FiledChange for Commit<'a> {
-    ghost always = { λ answer. refl };
-
     ghost of_slot = { λ call shard is. is };
 
     ghost verified = { λ index call answer room is. tt };
@@ -128,20 +105,11 @@ impl<'a> FiledCall for Install<'a> {
 
     ghost operation = { λ index call answer room. Logged (InstallsProgram call.job.now call.program.value answer) };
 
-    fn is_filed(answer: &Self::Answer) -> bool
-        ensures { result ≡ true }
-    {
-        let _ = answer;
-        true
-    }
-
     ghost right = { λ call before answer room after is does.
         record { does = does; part = λ i. ShardPart (is.index i); job = λ is. is; of_server = λ low. tt; logged = λ u e. logged_no_refusal _ u e } };
 }
 
 impl<'a> FiledChange for Install<'a> {
-    ghost always = { λ answer. refl };
-
     ghost of_slot = { λ call shard is. is };
 
     ghost verified = { λ index call answer room is. is };
@@ -156,20 +124,11 @@ impl<'a> FiledCall for Remove<'a> {
 
     ghost operation = { λ index call answer room. Logged (RemovesProgram call.job.now answer) };
 
-    fn is_filed(answer: &Self::Answer) -> bool
-        ensures { result ≡ true }
-    {
-        let _ = answer;
-        true
-    }
-
     ghost right = { λ call before answer room after is does.
         record { does = does; part = λ i. ShardPart (is.index i); job = λ is. is; of_server = λ low. tt; logged = λ u e. logged_no_refusal _ u e } };
 }
 
 impl<'a> FiledChange for Remove<'a> {
-    ghost always = { λ answer. refl };
-
     ghost of_slot = { λ call shard is. is };
 
     ghost verified = { λ index call answer room is. tt };
@@ -184,13 +143,6 @@ impl<'a> FiledCall for Describe<'a> {
 
     ghost operation = { λ index call answer room. Logged (TellsReceipt call.job.now answer) };
 
-    fn is_filed(answer: &Self::Answer) -> bool
-        ensures { result ≡ true }
-    {
-        let _ = answer;
-        true
-    }
-
     ghost right = { λ call before answer room after is does.
         record { does = does; part = λ i. ShardPart (is.index i); job = λ is. is; of_server = λ low. tt; logged = λ u e. logged_no_refusal _ u e } };
 }
@@ -204,19 +156,12 @@ impl FiledCall for ReadCost {
 
     ghost operation = { λ index call answer room. Logged (ReadsCost call.slot answer) };
 
-    fn is_filed(answer: &Option<u32>) -> bool
-        ensures { result ≡ true }
-    {
-        let _ = answer;
-        true
-    }
-
     ghost right = { λ call before answer room after is does.
         record { does = does; part = λ i. ShardPart (is.index i); job = λ is. is; of_server = λ low. tt; logged = λ u e. logged_no_refusal _ u e } };
 }
 
 impl<'a> FiledCall for Note<'a> {
-    ghost use Rattle.fc_registry.specs.Notes.{noted_as};
+    ghost use Rattle.fc_ticket.specs.Notes.{noted_as};
     ghost use Rattle.fc_calls.specs.Logged.{NotesTurn};
 
     ghost is_of = { λ call shard. IsOwned shard call.turn.slot };
@@ -224,13 +169,6 @@ impl<'a> FiledCall for Note<'a> {
     ghost of_job = { true };
 
     ghost operation = { λ index call answer room. Logged (NotesTurn call.turn call.id call.now call.random call.told.now (noted_as answer room)) };
-
-    fn is_filed(answer: &Self::Answer) -> bool
-        ensures { result ≡ true }
-    {
-        let _ = answer;
-        true
-    }
 
     ghost right = { λ call before answer room after is does.
         record { does = does; part = λ i. ShardPart (is.index i); job = λ is. is; of_server = λ low. tt; logged = λ u e. logged_no_refusal _ u e } };
@@ -245,11 +183,6 @@ impl FiledCall for GiveUp {
 
     ghost operation = { λ index call answer room. Logged (GivesUpTurn call.turn call.now) };
 
-    fn is_filed(answer: &Self::Answer) -> bool {
-        let _ = answer;
-        true
-    }
-
     ghost right = { λ call before answer room after is does.
         record { does = does; part = λ i. ShardPart (is.index i); job = λ is. is; of_server = λ low. tt; logged = λ u e. logged_no_refusal _ u e } };
 }
@@ -263,11 +196,6 @@ impl FiledCall for Signal {
 
     ghost operation = { λ index call answer room. Logged (HandsSignal index call.endpoint call.id call.reset) };
 
-    fn is_filed(answer: &Self::Answer) -> bool {
-        let _ = answer;
-        true
-    }
-
     ghost right = { λ call before answer room after is does.
         record { does = does; part = refl; job = λ is. is; of_server = λ low. low; logged = λ u e. logged_no_refusal _ u e } };
 }
@@ -280,11 +208,6 @@ impl FiledCall for Tick {
     ghost of_job = { false };
 
     ghost operation = { λ index call answer room. Logged (AdvancesShard index call.now answer) };
-
-    fn is_filed(answer: &Self::Answer) -> bool {
-        let _ = answer;
-        true
-    }
 
     ghost right = { λ call before answer room after is does.
         record { does = does; part = refl; job = λ is. is; of_server = λ low. low; logged = λ u e. logged_no_refusal _ u e } };
@@ -300,31 +223,6 @@ impl FiledCall for NextDue {
 
     ghost operation = { λ index call answer room. Logged (GivesTurn index call.now (written_if answer room)) };
 
-    fn is_filed(answer: &bool) -> bool {
-        let _ = answer;
-        true
-    }
-
     ghost right = { λ call before answer room after is does.
         record { does = does; part = refl; job = λ is. refl; of_server = λ low. low; logged = λ u e. logged_no_refusal _ u e } };
-}
-
-/// It is filed only if the shard is idle; else the shard is unchanged.
-impl FiledCall for AdvanceIfIdle {
-    ghost use Rattle.fc_calls.specs.Logged.{AdvancesIdle};
-    ghost use Rattle.fc_filed.specs.Parts.{advance_filed};
-
-    ghost is_of = { λ call shard. ⊤ };
-
-    ghost of_job = { false };
-
-    ghost files = { λ answer. answer };
-
-    ghost operation = { λ index call answer room. Logged (AdvancesIdle index call.now) };
-
-    fn is_filed(answer: &bool) -> bool {
-        *answer
-    }
-
-    ghost right = { λ call before answer room after is does. advance_filed call.now before after answer does };
 }

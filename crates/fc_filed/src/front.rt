@@ -1,10 +1,10 @@
 //! The front under its lock, together with the track of its calls.
 ghost use Rattle.std.specs.Prelude.{◌≡◌, ◌≤◌, ◌++◌, ◌∷◌, [], true};
-ghost use Rattle.fc_core.specs.Answering.{emission_of, responded};
-ghost use Rattle.fc_core.specs.Contents.{IsOf};
-ghost use Rattle.fc_core.specs.Gauges.{gauges_at};
-ghost use Rattle.fc_core.specs.Receiving.{handled};
-ghost use Rattle.fc_core.specs.Timers.{timer_job};
+ghost use Rattle.fc_front.specs.Answering.{emission_of, responded};
+ghost use Rattle.fc_front.specs.Contents.{IsOf};
+ghost use Rattle.fc_front.specs.Gauges.{gauges_at};
+ghost use Rattle.fc_front.specs.Receiving.{handled};
+ghost use Rattle.fc_front.specs.Timers.{timer_job};
 ghost use Rattle.fc_book.specs.Tracks.{part_view, with_part};
 ghost use Rattle.fc_calls.specs.Doings.{AdvancesTo, AnswersAt, DrawsAt, FiresAt, HandlesAt};
 ghost use Rattle.fc_calls.specs.Logged.{AdvancesFront, AnswersRequest, DrawsId, FiresTimer, HandlesDatagram};
@@ -16,8 +16,8 @@ use crate::book::{FiledTrack, ServerBook, ServerName, ServerTracks, file_as};
 use crate::view::FiledName;
 use coap_msg::{Emission, Endpoint};
 use fc_book::Part;
-use fc_core::{Answer, Front, FrontGauges, Handled, Responded};
-use fc_registry::{Job, SlotNumber};
+use fc_front::{Answer, Front, FrontGauges, Handled, Responded};
+use fc_ticket::{Job, SlotNumber};
 use std::marker::{Brand, Model, PhantomData};
 
 /// The front of a book's server, as a part: its key is 0.

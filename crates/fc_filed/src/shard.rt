@@ -1,5 +1,5 @@
 //! A shard under its lock, together with the track of its calls.
-ghost use Rattle.std.specs.Prelude.{◌≡◌, ◌⊎◌, ◌+◌, ◌%◌, ◌<◌, ◌≤◌, ◌++◌, ◌∷◌, [], ℕ, Bool, true, false, None, Option, Some, MatchOption};
+ghost use Rattle.std.specs.Prelude.{◌≡◌, ◌⊎◌, ◌+◌, ◌%◌, ◌<◌, ◌≤◌, ◌++◌, ◌∷◌, [], ℕ, Bool, true, None, Option, Some, MatchOption};
 ghost use Rattle.fc_store.specs.declared.store.SlotUpdate.{SlotUpdate};
 ghost use Rattle.fc_registry.specs.Changes.{Change as SlotChange};
 ghost use Rattle.fc_registry.specs.Plans.{IsPlanned, SavesImage};
@@ -15,7 +15,7 @@ ghost use Rattle.fc_store.specs.Recovery.{Save};
 ghost use Rattle.fc_store.specs.Saves.{SavesUpdate};
 ghost use Rattle.fc_linear.specs.Operations.{FailsToSave, Logged, Operation, ShardPart, is_locked, part_of};
 ghost use Rattle.fc_filed.specs.Entries.{EntriesLead, part_key};
-ghost use Rattle.fc_filed.specs.Parts.{IsFiledAs, KeepsShard};
+ghost use Rattle.fc_filed.specs.Parts.{IsOperationOf, KeepsShard};
 ghost use Rattle.fc_filed.specs.declared.shard.PlannedChange.TheVariants.{Refused, Saved, Unchanging};
 ghost use Rattle.fc_filed.specs.Saves.{IsSavedAs, IsUpdateIn, InstallsImageOfJob, ShardSteps, refused_save, stored_save, update_of};
 ghost use Rattle.fc_filed.specs.Threads.{HasJobFirst, HasOwnTrack, MayFile, begun_if, did_by, did_if, did_with, entry_by, entry_with};
@@ -26,8 +26,9 @@ use crate::view::FiledName;
 use fc_book::Part;
 use fc_calls::calls::{AdvanceIfIdle, NextDue};
 use fc_calls::{Change, ShardCall};
-use fc_registry::{Job, Shard};
+use fc_registry::Shard;
 use fc_store::Store;
+use fc_ticket::Job;
 use std::marker::{Brand, Model, PhantomData};
 
 /// A call of a shard, and the operation that is filed for it.
@@ -38,27 +39,17 @@ pub trait FiledCall: ShardCall {
     // The call may be for a job.
     ghost of_job: { Bool };
 
-    // Whether the call is filed, by its answer. A call that isn't leaves the shard unchanged.
-    ghost files: { Self.Answer → Bool } = { λ answer. true };
-
     // The operation that is filed, by the shard's index, the answer and the contents of the
     // caller's buffer.
     ghost operation: { ℕ → Self → Self.Answer → Self.Room → Operation };
 
-    /// Returns whether the call is filed, by its answer.
-    fn is_filed(answer: &Self::Answer) -> bool
-        ensures { result ≡ files answer.now };
-
-    // The operation is the call's effect on the shard, or the shard is unchanged.
+    // The operation is the call's effect on the shard.
     ghost right: { (call : Self) (before : Seen) (answer : Self.Answer) (room : Self.Room) (after : Seen) → is_of call before → Self.does call before answer room after
-        → IsFiledAs (files answer) of_job (operation before.index call answer room) before after };
+        → IsOperationOf of_job (operation before.index call answer room) before after };
 }
 
 /// A call of a shard that may change a slot, and the operation that is filed for it.
 pub trait FiledChange: FiledCall + Change {
-    // The call is filed, whatever its answer is.
-    ghost always: { (answer : Self.Answer) → Self.files answer ≡ true };
-
     // The call's slot is one of the shard that it belongs to.
     ghost of_slot: { (call : Self) (shard : Seen) → Self.is_of call shard → IsOwned shard (Self.slot call) };
 
@@ -165,7 +156,7 @@ impl<J: ServerName, P: Part> FiledShard<J, P> {
         }
     }
 
-    /// Makes a call of the shard, and files it if its answer says so.
+    /// Makes a call of the shard, and files it.
     ///
     /// The entry has the result, and the contents of `room` after the call. A call of a job is for
     /// the one whose track is first, and begins no track. If the server's store is persistent, the
@@ -187,8 +178,7 @@ impl<J: ServerName, P: Part> FiledShard<J, P> {
             → (C.changes answer ≡ 0) ⊎ (after.slots ≡ self.old.shard.slots) }
         ensures does { C.does call self.old.shard result room.new self.new.shard }
         ensures kept { KeepsShard (C.changes result) self.old.shard self.new.shard }
-        ensures filed { tracks.new ≡ did_if (C.files result) who (C.operation self.old.shard.index call result room.new) tracks.old }
-        ensures unfiled { C.files result ≡ false → self.new ≡ self.old }
+        ensures filed { tracks.new ≡ did_by who (C.operation self.old.shard.index call result room.new) tracks.old }
     {
         ask_as::<C, J, P, Brand>(self, book, tracks, who, call, room)
     }
@@ -286,11 +276,33 @@ impl<J: ServerName, P: Part> FiledShard<J, P> {
         ensures kept { KeepsShard 0 self.old.shard self.new.shard }
         ensures filed { tracks.new ≡ did_if result who (Logged (AdvancesIdle self.old.shard.index now)) tracks.old }
     {
-        let idle = self.ask(book, tracks, who, AdvanceIfIdle { now }, &mut ());
+        let idle = self.advance(book, tracks, who, now);
         if idle {
             self.note_idle(book);
         }
         idle
+    }
+
+    // Advances the shard to `now` ms if it is idle then, and files that. Returns whether it was
+    // advanced; if not, nothing changes.
+    fn advance(
+        &mut self,
+        book: &ServerBook<J>,
+        tracks: &mut ServerTracks<J>,
+        who: u64,
+        now: u64,
+    ) -> bool
+        requires same { P.table ≡ J.table }
+        requires thread { HasOwnTrack J.first_job who tracks.old }
+        ensures does { PassesIfIdle now self.old.shard result self.new.shard }
+        ensures kept { KeepsShard 0 self.old.shard self.new.shard }
+        ensures filed { tracks.new ≡ did_if result who (Logged (AdvancesIdle self.old.shard.index now)) tracks.old }
+    {
+        let advanced = AdvanceIfIdle { now }.call(&mut self.shard, &mut ());
+        if advanced {
+            file_advance::<Brand, J, P>(book, tracks, &mut self.track, who, &self.shard, now);
+        }
+        advanced
     }
 
     /// Notes in the book until when the shard stays idle, if it is idle now.
@@ -389,20 +401,17 @@ fn ask_as<C: FiledCall, J: ServerName, P: Part, X: OperationName<C::Answer, C::R
         → (C.changes answer ≡ 0) ⊎ (after.slots ≡ this.old.shard.slots) }
     ensures does { C.does call this.old.shard result room.new this.new.shard }
     ensures kept { KeepsShard (C.changes result) this.old.shard this.new.shard }
-    ensures filed { tracks.new ≡ did_if (C.files result) who (C.operation this.old.shard.index call result room.new) tracks.old }
-    ensures unfiled { C.files result ≡ false → this.new ≡ this.old }
+    ensures filed { tracks.new ≡ did_by who (C.operation this.old.shard.index call result room.new) tracks.old }
 {
     let answer = call.call(&mut this.shard, room);
-    if C::is_filed(&answer) {
-        file_answer::<Brand, J, P, C::Answer, C::Room, X>(
-            book,
-            tracks,
-            &mut this.track,
-            who,
-            &answer,
-            room,
-        );
-    }
+    file_answer::<Brand, J, P, C::Answer, C::Room, X>(
+        book,
+        tracks,
+        &mut this.track,
+        who,
+        &answer,
+        room,
+    );
     answer
 }
 
@@ -541,6 +550,29 @@ fn refuse_as<X: FiledName, C: Change, J: ServerName, P: Part>(
     let _ = shard;
     let _ = call;
     file_saved_as::<X, J, P>(book, tracks, track, saves, who);
+}
+
+/// Files the advance of an idle shard, with the entry named by `X`.
+///
+/// See [`FiledShard::advance_if_idle`]. Only the clauses use the shard and the time.
+fn file_advance<X: FiledName, J: ServerName, P: Part>(
+    book: &ServerBook<J>,
+    tracks: &mut ServerTracks<J>,
+    track: &mut FiledTrack<P>,
+    who: u64,
+    shard: &Shard,
+    now: u64,
+)
+    requires entry { X.entry ≡ entry_by who tracks.old (Logged (AdvancesIdle shard.now.index now)) }
+    requires same { P.table ≡ J.table }
+    requires part { shard.now.index + 1 ≡ P.key }
+    requires may { MayFile J.first_job who tracks.old (Logged (AdvancesIdle shard.now.index now)) }
+    ensures track { track.new ≡ track.old ++ X.entry ∷ [] }
+    ensures filed { tracks.new ≡ did_by who X.entry.operation tracks.old }
+{
+    let _ = shard;
+    let _ = now;
+    file_as::<X, J, P>(book, tracks, track, who);
 }
 
 /// Begins the track of an observer's job if `is_due`: if a lease was granted.

@@ -28,8 +28,8 @@ use fc_book::view::{
     Begins, BeginsPart, BeginsTracks, BookView, Closes, MakesEmpty, Merges, ReturnsFirst,
     ReturnsPart, SplitsFirst, TakesAnother, TakesPart,
 };
-use fc_core::Heads;
-use fc_registry::{SLOTS, SlotNumber};
+use fc_front::Heads;
+use fc_ticket::{SLOTS, SlotNumber};
 use std::alloc::Global;
 
 pub(crate) type FiledSeat = Seat<u8, BookView<FiledEntry>>;

@@ -2,13 +2,14 @@
 -- before.
 use Rattle.std.proofs.Common.{◌≡◌, ℕ, Bool, true, false, List, [], ◌∷◌, Option, None, Some, lit<, refl, sym, ap, ◌∙◌, subst}
 use Rattle.std.specs.Prelude.{nat_lt}
-use Rattle.fc_core.specs.declared.policy.Policy.{Policy}
+use Rattle.fc_front.specs.declared.policy.Policy.{Policy}
 use Rattle.fc_kinds.specs.Meaning.{Program}
-use Rattle.fc_registry.specs.declared.job.Job.{Job}
-use Rattle.fc_registry.specs.declared.job.InitialVars.{InitialVars}
+use Rattle.fc_ticket.specs.declared.job.Job.{Job}
+use Rattle.fc_ticket.specs.declared.job.InitialVars.{InitialVars}
 use Rattle.fc_registry.specs.declared.shard.Made.{Made}
 use Rattle.fc_registry.specs.declared.shard.Made.TheVariants.{Raised}
-use Rattle.fc_registry.specs.Calls.{initial_vars_of, install_in, put_by}
+use Rattle.fc_ticket.specs.Runs.{initial_vars_of}
+use Rattle.fc_registry.specs.Calls.{install_in, put_by}
 use Rattle.fc_registry.specs.Changes.{after_changes}
 use Rattle.fc_registry.specs.Restored.{restored_slot}
 use Rattle.fc_registry.specs.Shards.{shard_at}

@@ -1,6 +1,6 @@
 -- A front that only calls have changed since its beginning.
 use Rattle.std.proofs.Common.{[], ◌∷◌, refl}
-use Rattle.fc_core.specs.Exchanges.{FrontState}
+use Rattle.fc_front.specs.Exchanges.{FrontState}
 use Rattle.fc_locked.specs.Fronts.{BeganAt, FrontCall}
 
 -- each front began as itself, without a call.

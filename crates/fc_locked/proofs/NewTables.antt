@@ -8,8 +8,8 @@ use Rattle.fc_verify.specs.Accepted.{Accepts, Judgement}
 use Rattle.fc_verify.specs.Judged.{judged}
 use Rattle.fc_store.specs.Stored.{StoredProgram, StoredSlot, StoredSlots}
 use Rattle.fc_registry.specs.Restored.{present_if, restored_slot}
-use Rattle.fc_core.specs.Heads.{first_word, word_at, word_at_start}
-use Rattle.fc_core.specs.declared.policy.Policy.{Policy}
+use Rattle.fc_front.specs.Heads.{first_word, word_at, word_at_start}
+use Rattle.fc_front.specs.declared.policy.Policy.{Policy}
 use Rattle.fc_server.specs.States.{ServerState, server_over}
 use Rattle.fc_filed.specs.declared.book_begin.BookBegin.{BookBegin}
 use Rattle.fc_filed.specs.declared.entry.FiledEntry.{FiledEntry}

@@ -10,7 +10,7 @@ use Rattle.fc_book.specs.Tracks.{AreOn, AreSingle, HasKey, on}
 use Rattle.fc_book.proofs.Keys.{has-append}
 use Rattle.fc_book.proofs.Numbers.{AreApart, AreBetween, HasNumber, all_among}
 use Rattle.fc_book.proofs.Owners.{entries_at_key, has_left, has_right, on_both, single_apart, single_rest}
-use Rattle.fc_core.specs.Exchanges.{FrontState}
+use Rattle.fc_front.specs.Exchanges.{FrontState}
 use Rattle.fc_registry.specs.Shards.{shard_at}
 use Rattle.fc_registry.specs.Slots.{Shard}
 use Rattle.fc_server.specs.States.{ServerState}

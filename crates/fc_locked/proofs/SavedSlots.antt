@@ -5,7 +5,7 @@ use Rattle.std.proofs.lemmas.Bool.{eq-eqb, false≢true, ne_eqb}
 use Rattle.fc_kinds.specs.Meaning.{Program}
 use Rattle.fc_verify.specs.Accepted.{Accepts}
 use Rattle.fc_verify.specs.Judged.{judged}
-use Rattle.fc_registry.specs.declared.job.InitialVars.{InitialVars}
+use Rattle.fc_ticket.specs.declared.job.InitialVars.{InitialVars}
 use Rattle.fc_registry.specs.Changes.{Change, Commit, Committed, Installed, Removed, installed}
 use Rattle.fc_registry.specs.Plans.{IsUpdateOf, SavesImage}
 use Rattle.fc_registry.specs.Slots.{Slot}

@@ -5,9 +5,9 @@ use Rattle.std.specs.List.{AllByRecursion, Any, filter}
 use Rattle.std.proofs.lemmas.Bool.Decides.{nat_tests}
 use Rattle.std.proofs.lemmas.List.{get_or-replicate, get_or-set_other}
 use Rattle.std.proofs.lemmas.List.Elements.{recursion_from_All}
-use Rattle.fc_core.specs.Exchanges.{FrontState, first_front}
-use Rattle.fc_core.specs.Ids.{no_draws}
-use Rattle.fc_core.specs.declared.policy.Policy.{Policy}
+use Rattle.fc_front.specs.Exchanges.{FrontState, first_front}
+use Rattle.fc_front.specs.Ids.{no_draws}
+use Rattle.fc_front.specs.declared.policy.Policy.{Policy}
 use Rattle.fc_calls.specs.Doings.{DrawsAt}
 use Rattle.fc_calls.specs.Logged.{DrawsId}
 use Rattle.fc_server.specs.States.{ServerState, first_server}

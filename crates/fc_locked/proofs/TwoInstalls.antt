@@ -1,11 +1,12 @@
 -- Two installs of two threads in slot 13 of a server have two serials.
 use Rattle.std.proofs.Common.{◌≡◌, ◌⊎◌, ℕ, Bool, List, [], ◌∷◌, Option, None, lit<, refl, subst, ⊎_elim, inl, inr}
-use Rattle.fc_core.specs.declared.policy.Policy.{Policy}
+use Rattle.fc_front.specs.declared.policy.Policy.{Policy}
 use Rattle.fc_kinds.specs.Meaning.{Program}
-use Rattle.fc_registry.specs.declared.job.Job.{Job}
+use Rattle.fc_ticket.specs.declared.job.Job.{Job}
 use Rattle.fc_registry.specs.declared.shard.Made.{Made}
 use Rattle.fc_registry.specs.declared.shard.Made.TheVariants.{Raised}
-use Rattle.fc_registry.specs.Calls.{install_in, initial_vars_of}
+use Rattle.fc_registry.specs.Calls.{install_in}
+use Rattle.fc_ticket.specs.Runs.{initial_vars_of}
 use Rattle.fc_registry.specs.Changes.{after_changes}
 use Rattle.fc_registry.specs.Restored.{empty_at, restored_slot}
 use Rattle.fc_registry.specs.Shards.{shard_at}

@@ -3,9 +3,9 @@ use Rattle.std.specs.Prelude.{None}
 use Rattle.std.proofs.Common.{◌≡◌, ◌⊎◌, ℕ, ◌≤◌, Bool, true, false, max, List, [], ◌∷◌, ◌++◌, Some, ap, ◌∙◌, subst, ⊎_elim, inl, inr, refl, arith}
 use Rattle.std.specs.Prelude.{if◌then◌else◌}
 use Rattle.std.proofs.lemmas.List.{length-replicate}
-use Rattle.fc_core.specs.Heads.{first_word, no_words, word_at, word_at_start, word_raised}
+use Rattle.fc_front.specs.Heads.{first_word, no_words, word_at, word_at_start, word_raised}
 use Rattle.fc_calls.specs.Logged.{LooksAt, RaisesWord}
-use Rattle.fc_core.specs.declared.policy.Policy.{Policy}
+use Rattle.fc_front.specs.declared.policy.Policy.{Policy}
 use Rattle.fc_kinds.specs.Meaning.{Program}
 use Rattle.fc_verify.specs.Accepted.{Accepts, Judgement}
 use Rattle.fc_verify.specs.Judged.{judged}

@@ -5,7 +5,7 @@ use Rattle.std.specs.Prelude.{◌≡◌, ℕ, ◌%◌, ◌<◌, ⊤, true, false
 use Rattle.fc_store.specs.declared.store.Store.{Ghosts}
 use Rattle.fc_verify.specs.Accepted.{Accepts}
 use Rattle.fc_verify.specs.Judged.{judged}
-use Rattle.fc_core.specs.Exchanges.{FrontState}
+use Rattle.fc_front.specs.Exchanges.{FrontState}
 use Rattle.fc_core.specs.Stages.{image_of}
 use Rattle.fc_core.specs.Steps.{Commits, Installs, Removes, changes_of_call}
 use Rattle.fc_server.specs.States.{ServerState, confirm_after_of}
@@ -13,7 +13,7 @@ use Rattle.fc_locked.specs.Fronts.{BeganAt}
 use Rattle.fc_backend.specs.declared.call_log.CallLog.{CallLog}
 use Rattle.fc_linear.specs.Operations.{Logged}
 use Rattle.fc_backend.specs.Logs.{FilesMaybeSaved, IsUnfiled, TrackedLog, with_filed_call, with_filed}
-use Rattle.fc_registry.specs.Calls.{initial_vars_of}
+use Rattle.fc_ticket.specs.Runs.{initial_vars_of}
 use Rattle.fc_registry.specs.Slots.{Shard}
 use Rattle.fc_backend.specs.Called.{BenchCall, CountsObservers, LeavesUnquiet, LooksAhead, ReadsGauges, RefusesSave, FindsSaving}
 use Rattle.fc_locked.specs.SharedStores.{HasSaved, LeavesUnsaved, Saving, WithSave}

@@ -3,10 +3,10 @@
 //! [`Locked`](crate::server::Locked) calls it for the workers, under the front's lock. Times are in
 //! milliseconds.
 ghost use Rattle.std.specs.Prelude.{◌≡◌, []};
-ghost use Rattle.fc_core.specs.Answering.{emission_of, responded};
-ghost use Rattle.fc_core.specs.Contents.{IsOf};
-ghost use Rattle.fc_core.specs.Receiving.{handled};
-ghost use Rattle.fc_core.specs.Timers.{timer_job};
+ghost use Rattle.fc_front.specs.Answering.{emission_of, responded};
+ghost use Rattle.fc_front.specs.Contents.{IsOf};
+ghost use Rattle.fc_front.specs.Receiving.{handled};
+ghost use Rattle.fc_front.specs.Timers.{timer_job};
 ghost use Rattle.fc_calls.specs.Doings.{AdvancesTo, AnswersAt, DrawsAt, FiresAt, HandlesAt, TellsGauges};
 ghost use Rattle.fc_calls.specs.Logged.{AdvancesFront, AnswersRequest, DrawsId, FiresTimer, HandlesDatagram};
 ghost use Rattle.fc_linear.specs.Operations.{FrontDoes};
@@ -18,9 +18,9 @@ ghost use Rattle.fc_locked.specs.Fronts.{BeganAt};
 use crate::books::{Books, ServerOf};
 use coap_msg::{Emission, Endpoint};
 use fc_backend::TrackLog;
-use fc_core::{Answer, Front, FrontGauges, Handled, Responded};
 use fc_filed::{FiledFront, FiledTrack, FrontOf, ServerBook, ServerTracks};
-use fc_registry::{Job, SlotNumber};
+use fc_front::{Answer, Front, FrontGauges, Handled, Responded};
+use fc_ticket::{Job, SlotNumber};
 use std::marker::PhantomData;
 
 /// A front that started as its server's first front.

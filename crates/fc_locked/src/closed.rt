@@ -1,5 +1,5 @@
 //! The result of closing a server.
-use fc_core::Front;
+use fc_front::Front;
 use fc_registry::Shard;
 
 /// The front and the shards of a closed server.

@@ -15,7 +15,7 @@ ghost use Rattle.fc_filed.specs.Saves.{ShardSteps};
 ghost use Rattle.fc_filed.specs.Tracked.{IsPartClosed};
 ghost use Rattle.fc_backend.specs.Answers.{changes_if};
 ghost use Rattle.fc_locked.specs.Counts.{counts};
-ghost use Rattle.fc_backend.specs.Logs.{FilesMaybeSaved, FilesRefusal, with_filed_if};
+ghost use Rattle.fc_backend.specs.Logs.{FilesMaybeSaved, FilesRefusal, with_filed, with_filed_if};
 ghost use Rattle.fc_locked.specs.SharedStores.{HasSaved, LeavesUnsaved, WithSave};
 
 use crate::books::{Books, ServerOf};
@@ -96,7 +96,7 @@ impl<B: Books, P: Part, L: Ledger> Counted<B, P, L> {
         self.filed.inspect(call, room)
     }
 
-    /// Runs a call that changes no slot, and files it if its answer says so.
+    /// Runs a call that changes no slot, and files it.
     ///
     /// The call may write its result to `room`. The shard's clock, observers and leases may change.
     pub(crate) fn ask<C: FiledCall>(
@@ -114,7 +114,7 @@ impl<B: Books, P: Part, L: Ledger> Counted<B, P, L> {
         ensures slots { self.new.shard.slots ≡ self.old.shard.slots }
         ensures index { self.new.shard.index ≡ self.old.shard.index }
         ensures confirms { confirm_times self.old.shard ≡ replicate 8 (confirm_after_of B.first) }
-        ensures filed { log.new ≡ with_filed_if (C.files result) (C.operation self.old.shard.index call result room.new) log.old }
+        ensures filed { log.new ≡ with_filed None (C.operation self.old.shard.index call result room.new) log.old }
     {
         let tracks = &mut log.tracks;
         self.filed.ask(book, tracks, log.who, call, room)

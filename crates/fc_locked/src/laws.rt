@@ -2,29 +2,29 @@
 //!
 //! Each law is the contract of an empty function.
 ghost use Rattle.std.specs.Prelude.{◌≡◌, ◌+◌, ◌<◌, ◌≤◌, ◌⊎◌, ⊤, ℕ, Bool, true, false, None, Option, Some, List, [], ◌∷◌, ◌++◌, length, slice_index};
-ghost use Rattle.fc_core.specs.Heads.{word_at};
+ghost use Rattle.fc_front.specs.Heads.{word_at};
 ghost use Rattle.fc_core.specs.History.{History};
 ghost use Rattle.fc_calls.specs.Logged.{DrawsId, InstallsProgram, LooksAt, NotesTurn, RaisesWord, ReadsCost, SkipsIdle};
-ghost use Rattle.fc_core.specs.declared.policy.Policy.{Policy};
+ghost use Rattle.fc_front.specs.declared.policy.Policy.{Policy};
 ghost use Rattle.fc_store.specs.Recovery.{Save};
 ghost use Rattle.fc_filed.specs.Entries.{front_entries, shard_entries, word_entries};
 ghost use Rattle.fc_filed.specs.declared.entry.FiledEntry.{FiledEntry};
 ghost use Rattle.fc_kinds.specs.Meaning.{Program};
 ghost use Rattle.fc_linear.specs.Operations.{Logged};
-ghost use Rattle.fc_core.specs.Policies.{default_policy};
+ghost use Rattle.fc_front.specs.Policies.{default_policy};
 ghost use Rattle.fc_observe.specs.Observers.{ObserverList};
 ghost use Rattle.fc_observe.specs.declared.observers.Ticked.TheVariants.{Quiet};
 ghost use Rattle.fc_observe.specs.declared.entry.Turn.{Turn};
 ghost use Rattle.fc_registry.specs.Changes.{Change, Commit, Committed, Installed, Removed, installed};
-ghost use Rattle.fc_registry.specs.Notes.{IsNoted};
+ghost use Rattle.fc_ticket.specs.Notes.{IsNoted};
 ghost use Rattle.fc_registry.specs.Slots.{Slot};
 ghost use Rattle.fc_registry.specs.Turns.{due_job};
 ghost use Rattle.fc_registry.specs.Watches.{at_time, due_place, overdue_place, ticked_in};
-ghost use Rattle.fc_registry.specs.declared.job.InitialVars.{InitialVars};
-ghost use Rattle.fc_registry.specs.declared.job.Job.{Job};
+ghost use Rattle.fc_ticket.specs.declared.job.InitialVars.{InitialVars};
+ghost use Rattle.fc_ticket.specs.declared.job.Job.{Job};
 ghost use Rattle.fc_registry.specs.declared.shard.Made.TheVariants.{Raised};
-ghost use Rattle.fc_registry.specs.declared.note.Noted.{Noted};
-ghost use Rattle.fc_registry.specs.declared.note.Notification.{Notification};
+ghost use Rattle.fc_ticket.specs.declared.note.Noted.{Noted};
+ghost use Rattle.fc_ticket.specs.declared.note.Notification.{Notification};
 ghost use Rattle.fc_server.specs.declared.server.Begin.{Begin};
 ghost use Rattle.fc_locked.specs.Asked.{IsLoggedCall, peripherals};
 ghost use Rattle.fc_book.specs.declared.view.BookView.{BookView};

@@ -1,5 +1,5 @@
 //! A shard guarded by a lock, as [`Locked`](crate::server::Locked) has eight.
-ghost use Rattle.std.specs.Prelude.{◌≡◌, ℕ, ◌+◌, ◌<◌, [], true, MatchOption};
+ghost use Rattle.std.specs.Prelude.{◌≡◌, ℕ, ◌+◌, ◌<◌, [], true, None, MatchOption};
 ghost use Rattle.fc_book.specs.Tracks.{with_next};
 ghost use Rattle.fc_registry.specs.Shards.{shard_at};
 ghost use Rattle.fc_registry.specs.Slots.{Shard as Seen};
@@ -14,7 +14,7 @@ ghost use Rattle.fc_filed.specs.Tracked.{IsPartClosed};
 ghost use Rattle.fc_backend.specs.Answers.{changes_if};
 ghost use Rattle.fc_locked.specs.Asked.{IsAsked};
 ghost use Rattle.fc_locked.specs.Counts.{counts};
-ghost use Rattle.fc_backend.specs.Logs.{FilesMaybeSaved, FilesRefusal, with_filed_if};
+ghost use Rattle.fc_backend.specs.Logs.{FilesMaybeSaved, FilesRefusal, with_filed, with_filed_if};
 ghost use Rattle.fc_locked.specs.SharedStores.{HasSaved, LeavesUnsaved, WithSave};
 
 use crate::books::{BookOf, Books, ServerOf};
@@ -86,8 +86,7 @@ impl<const INDEX: u8, B: Books> LockedShard<INDEX, B> {
 
     /// Runs a call that changes no slot, under the shard's lock, and files it.
     ///
-    /// A call isn't filed if its answer says so; then the shard is unchanged. The call may write
-    /// its result to `room`.
+    /// The call may write its result to `room`.
     pub(crate) fn ask<C: FiledCall, R: Wait>(
         &self,
         rt: &R,
@@ -100,7 +99,7 @@ impl<const INDEX: u8, B: Books> LockedShard<INDEX, B> {
         requires is_of { (shard : Seen) → shard.index ≡ INDEX → C.is_of call shard }
         requires none { (answer : C.Answer) → C.changes answer ≡ 0 }
         ensures does { IsAsked B.first INDEX (λ before after. C.does call before result room.new after) }
-        ensures filed { log.new ≡ with_filed_if (C.files result) (C.operation INDEX call result room.new) log.old }
+        ensures filed { log.new ≡ with_filed None (C.operation INDEX call result room.new) log.old }
     {
         self.state.lock(rt).counted.ask(book, log, call, room)
     }

@@ -18,16 +18,16 @@
 //! No type in that function's signature may name a ledger. The function opens the server, splits
 //! the unassigned shares into the tallies of its workers, and runs them. Then it merges their
 //! tallies and the tracks of their logs, and closes the server.
-ghost use Rattle.std.specs.Prelude.{◌≡◌, ◌+◌, ◌*◌, ◌-◌, ◌<◌, ◌≤◌, ◌%◌, true, List, length, map, slice_index, take, vec_len, IfOk, MatchOption};
+ghost use Rattle.std.specs.Prelude.{◌≡◌, ◌+◌, ◌*◌, ◌-◌, ◌<◌, ◌≤◌, ◌%◌, true, None, List, length, map, slice_index, take, vec_len, IfOk, MatchOption};
 ghost use Rattle.std.specs.List.{All};
 ghost use Rattle.coap_msg.specs.declared.types.Emission.{Emission as Emitted};
-ghost use Rattle.fc_core.specs.Answering.{emission_of, responded};
-ghost use Rattle.fc_core.specs.Contents.{IsOf};
-ghost use Rattle.fc_core.specs.Receiving.{emission_if};
+ghost use Rattle.fc_front.specs.Answering.{emission_of, responded};
+ghost use Rattle.fc_front.specs.Contents.{IsOf};
+ghost use Rattle.fc_front.specs.Receiving.{emission_if};
 ghost use Rattle.fc_calls.specs.Doings.{PassesIfIdle};
 ghost use Rattle.fc_calls.specs.Logged.{AdvancesIdle};
 ghost use Rattle.fc_linear.specs.Operations.{Logged};
-ghost use Rattle.fc_registry.specs.Notes.{noted_as};
+ghost use Rattle.fc_ticket.specs.Notes.{noted_as};
 ghost use Rattle.fc_registry.specs.Shards.{shard_at};
 ghost use Rattle.fc_registry.specs.Slots.{IsOwned, Shard as Seen};
 ghost use Rattle.fc_registry.specs.Turns.{written_if};
@@ -37,7 +37,7 @@ ghost use Rattle.fc_locked.specs.Asked.{IsAsked, IsLoggedCall, IsServerCall, per
 ghost use Rattle.fc_locked.specs.SharedStores.{HasSaved, LeavesUnsaved, WithSave};
 ghost use Rattle.fc_server.specs.States.{CanBeginWith};
 ghost use Rattle.fc_locked.specs.Closing.{each_shard};
-ghost use Rattle.fc_backend.specs.Logs.{FilesMaybeSaved, FilesRefusal, TrackedLog, with_filed_if, IsNewLog};
+ghost use Rattle.fc_backend.specs.Logs.{FilesMaybeSaved, FilesRefusal, TrackedLog, with_filed, with_filed_if, IsNewLog};
 ghost use Rattle.fc_backend.specs.Messages.{first_brought};
 ghost use Rattle.fc_locked.specs.Naming.{AreNamed};
 ghost use Rattle.fc_locked.specs.OneOrder.{HasTracksOf, HaveSavedOneOrder, logs_of};
@@ -63,17 +63,17 @@ use fc_calls::calls::{
     Commit, CountObservers, Describe, GiveUp, IdleUntil, Install, NextDue, Note, ReadCost, Remove,
     Signal, Take, Tick,
 };
-use fc_core::{Answer, FrontGauges, Handled, Responded};
 use fc_filed::calls::TakeIfCheap;
 use fc_filed::{FiledCall, FiledChange, NewServerBook, ServerBook, ServerTracks};
+use fc_front::{Answer, FrontGauges, Handled, Responded};
 use fc_help::Readings;
 use fc_machine::Outcome;
 use fc_observe::{Ticked, Turn};
-use fc_registry::{
-    Committed, Job, Made, NoteOutcome, Notification, PLACES, Receipt, Removal, SHARDS, Shard,
-    SlotNumber, SlotSnapshot, Taken, Ticket,
-};
+use fc_registry::{Committed, Made, PLACES, Removal, Shard, Taken};
 use fc_store::Store;
+use fc_ticket::{
+    Job, NoteOutcome, Notification, Receipt, SHARDS, SlotNumber, SlotSnapshot, Ticket,
+};
 use fc_verify::Verified;
 use std::alloc::{AllocError, Global};
 use std::sync::{Arc, Mutex, Wait};
@@ -292,7 +292,7 @@ impl<'a, B: Books, D: Device, K: Store + Drop> Locked<'a, B, D, K> {
         requires is_of { (shard : Seen) → (index < 8 → shard.index ≡ index) → C.is_of call shard }
         requires none { (answer : C.Answer) → C.changes answer ≡ 0 }
         ensures does { IsAsked B.first index (λ before after. C.does call before result room.new after) }
-        ensures filed { log.new ≡ with_filed_if (C.files result) (C.operation (shard_called index) call result room.new) log.old }
+        ensures filed { log.new ≡ with_filed None (C.operation (shard_called index) call result room.new) log.old }
     {
         let book = &self.book;
         match index {

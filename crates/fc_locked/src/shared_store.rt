@@ -16,8 +16,8 @@ use crate::ready_store::ReadyStore;
 use fc_backend::TrackLog;
 use fc_book::Part;
 use fc_filed::{FiledChange, FiledShard, FiledStore, ServerBook, ServerTracks};
-use fc_registry::{SHARDS, SlotNumber};
 use fc_store::Store;
+use fc_ticket::{SHARDS, SlotNumber};
 use std::sync::atomic::{AtomicU64, Ordering};
 use std::sync::{Mutex, Wait};
 

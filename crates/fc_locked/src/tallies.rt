@@ -1,6 +1,6 @@
 //! A worker's counts: of its changes to each of the eight shards, and of the jobs that it ended.
 ghost use Rattle.std.specs.Prelude.{◌≡◌, ◌+◌, ◌<◌, slice_index};
-ghost use Rattle.fc_registry.specs.Taken.{SlotSnapshot};
+ghost use Rattle.fc_ticket.specs.Taken.{SlotSnapshot};
 ghost use Rattle.fc_registry.specs.Views.{taken_with};
 ghost use Rattle.fc_backend.specs.Answers.{ended_by, saturated};
 

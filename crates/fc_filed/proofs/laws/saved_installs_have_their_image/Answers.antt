@@ -7,13 +7,15 @@ use Rattle.fc_store.specs.declared.store.ProgramUpdate.TheVariants as saves
 use Rattle.fc_store.specs.declared.store.SlotUpdate.{SlotUpdate}
 use Rattle.fc_verify.specs.Accepted.{Accepts}
 use Rattle.fc_verify.specs.Judged.{judged}
-use Rattle.fc_registry.specs.declared.job.Job.{Job}
+use Rattle.fc_ticket.specs.declared.job.Job.{Job}
 use Rattle.fc_registry.specs.declared.shard.Made.{Made}
-use Rattle.fc_registry.specs.Calls.{initial_vars_of, install_in, put_by}
+use Rattle.fc_ticket.specs.Runs.{initial_vars_of}
+use Rattle.fc_registry.specs.Calls.{install_in, put_by}
 use Rattle.fc_registry.specs.Changes.{Change, Installed, Committed, Removed, after_changes, changed}
 use Rattle.fc_registry.specs.Plans.{IsUpdateOf, SavesImage}
-use Rattle.fc_registry.specs.declared.job.InitialVars.{InitialVars}
-use Rattle.fc_registry.specs.Slots.{Present, Shard, Slot, last_serial, new_slot, slot_in, with_slot}
+use Rattle.fc_ticket.specs.declared.job.InitialVars.{InitialVars}
+use Rattle.fc_ticket.specs.Tickets.{Present}
+use Rattle.fc_registry.specs.Slots.{Shard, Slot, last_serial, new_slot, slot_in, with_slot}
 use Rattle.fc_core.specs.Stages.{image_of}
 use Rattle.fc_calls.specs.Doings.{InstallsTo}
 use Rattle.fc_calls.specs.Kept.{HasEightSlots, slots_with}

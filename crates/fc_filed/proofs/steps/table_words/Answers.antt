@@ -1,5 +1,5 @@
 use Rattle.std.proofs.Common.{◌+◌, ap, set, refl, ◌∙◌}
-use Rattle.fc_core.specs.Heads.{word_at}
+use Rattle.fc_front.specs.Heads.{word_at}
 use Rattle.fc_filed.proofs.TableWords.{all_written, none_written, one_written}
 use Rattle.fc_filed.proofs.steps.table_words.Goals as goal
 

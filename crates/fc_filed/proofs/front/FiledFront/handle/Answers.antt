@@ -1,4 +1,4 @@
-use Rattle.fc_core.specs.Receiving.{handled}
+use Rattle.fc_front.specs.Receiving.{handled}
 use Rattle.fc_calls.specs.Logged.{HandlesDatagram}
 use Rattle.fc_linear.specs.Operations.{FrontDoes, Logged}
 use Rattle.fc_filed.specs.Threads.{entry_by}

@@ -1,5 +1,5 @@
 use Rattle.std.proofs.Common.{refl}
-use Rattle.fc_core.specs.Answering.{emission_of, responded}
+use Rattle.fc_front.specs.Answering.{emission_of, responded}
 use Rattle.fc_calls.specs.Logged.{AnswersRequest}
 use Rattle.fc_linear.specs.Operations.{FrontDoes, Logged}
 use Rattle.fc_filed.specs.Threads.{entry_by}

@@ -1,4 +1,4 @@
-use Rattle.fc_core.specs.Answering.{emission_of, responded}
+use Rattle.fc_front.specs.Answering.{emission_of, responded}
 use Rattle.fc_calls.specs.Logged.{AnswersRequest}
 use Rattle.fc_linear.specs.Operations.{Logged}
 use Rattle.fc_filed.specs.Threads.{entry_by}

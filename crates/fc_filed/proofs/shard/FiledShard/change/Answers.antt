@@ -1,11 +1,10 @@
-use Rattle.std.proofs.Common.{◌≡◌, ◌∙◌, Bool, true, false, [], ◌∷◌, List, Some, ap, refl, subst, sym}
+use Rattle.std.proofs.Common.{◌≡◌, ◌∙◌, true, false, Some, ap, refl, subst, sym}
 use Rattle.std.proofs.lemmas.Bool.{false≢true}
 use Rattle.fc_store.specs.declared.store.SlotUpdate.{SlotUpdate}
 use Rattle.fc_registry.specs.Slots.{Shard, slot_in}
 use Rattle.fc_store.specs.Saves.{SavesUpdate}
 use Rattle.fc_linear.specs.Operations.{FailsToSave}
-use Rattle.fc_filed.specs.declared.entry.FiledEntry.{FiledEntry}
-use Rattle.fc_filed.specs.Parts.{IsFiledAs, ShardCalls}
+use Rattle.fc_filed.specs.Parts.{ShardCalls}
 use Rattle.fc_filed.specs.Saves.{IsUpdateIn, ShardSteps, StoreSteps, refused_save, stored_save, update_of}
 use Rattle.fc_filed.specs.Threads.{entry_with}
 use Rattle.fc_filed.proofs.Leading.{entries_filed}
@@ -30,11 +29,10 @@ invariant_of-self g c =
     let at = ap (λ (s : ShardCalls). s.shard) (sym c.self.view_is) in
     let is_of = subst (λ (s : Shard). g.C.FiledCall.is_of call s) at c.requires.is_of in
     let right = g.met.C.FiledCall.right call x answer room y is_of c.make_as.ensures.does in
-    let filed = subst (λ (b : Bool). IsFiledAs b g.C.FiledCall.of_job operation x y) (g.met.C.FiledChange.always answer) right in
     let of : IsUpdateIn x change update = record { owned = g.met.C.FiledChange.of_slot call x is_of; planned = c.in-Saved.ensures.planned (λ p. absurd (cc p)) } in
     let saved = c.in-Saved.ensures.saved refl in
     let steps : ShardSteps g.J.ServerName.persistent e x y = record {
-      does = filed.does;
+      does = right.does;
       saved = λ p. record {
         change = change;
         of = of;
@@ -42,7 +40,7 @@ invariant_of-self g c =
         made = (saved.2 answer room y c.make_as.ensures.does).1;
       };
       unsaved = λ p. absurd (false≢true (sym p ∙ c.requires.persistent));
-      refused = λ u same. absurd (filed.logged u same);
+      refused = λ u same. absurd (right.logged u same);
     } in
     calls_more g.J.ServerName.first g.J.ServerName.persistent g.P.Part.key c.self.inside.track c.make_as.new.track e x y c.make_as.ensures.track c.self.invariant steps c.make_as.ensures.kept.index c.make_as.ensures.eight
 

@@ -1,5 +1,5 @@
-use Rattle.fc_backend.proofs.Logs.{keeps_tracks_if}
+use Rattle.fc_backend.proofs.Logs.{keeps_tracks}
 use Rattle.fc_locked.proofs.counted_shard.Counted.ask.Goals as goal
 
 pub invariant_of-log : goal.invariant_of-log
-invariant_of-log g c = keeps_tracks_if g.B.Books.first_job c.log.inside.who (g.C.FiledCall.files _) _ c.log.inside.tracks c.ask.ensures.filed c.log.invariant
+invariant_of-log g c = keeps_tracks g.B.Books.first_job c.log.inside.who _ c.log.inside.tracks c.ask.ensures.filed c.log.invariant
