@@ -10,13 +10,13 @@ use Rattle.fc_book.specs.declared.view.Track.{Track}
 use Rattle.fc_book.specs.Tracks.{HasKey, entries_at, is_on, track, with_entry}
 use Rattle.fc_book.proofs.Keys.{keeps-key}
 use Rattle.fc_calls.specs.Logged.{FiresTimer, GivesReadings, GivesTurn, HandlesDatagram, HandsSignal, LoggedCall, ReadsCost}
-use Rattle.fc_core.specs.Receiving.{handled}
+use Rattle.fc_front.specs.Receiving.{handled}
 use Rattle.fc_core.specs.Stage.{Gone, Stage}
 use Rattle.fc_core.specs.Stages.{first_stage}
-use Rattle.fc_core.specs.Timers.{timer_job}
-use Rattle.fc_core.specs.declared.by_value.Delivered.{Delivered}
-use Rattle.fc_core.specs.declared.by_value.Delivered.TheVariants.{Job as Brings, Signal}
-use Rattle.fc_core.specs.declared.front.Handled.{Handled}
+use Rattle.fc_front.specs.Timers.{timer_job}
+use Rattle.fc_front.specs.declared.by_value.Delivered.{Delivered}
+use Rattle.fc_front.specs.declared.by_value.Delivered.TheVariants.{Job as Brings, Signal}
+use Rattle.fc_front.specs.declared.front.Handled.{Handled}
 use Rattle.fc_filed.specs.Entries.{entry_keys, part_key}
 use Rattle.fc_filed.specs.JobTracks.{LeadJob}
 use Rattle.fc_filed.specs.Threads.{entry_by, key_of_first}
@@ -25,7 +25,7 @@ use Rattle.fc_filed.proofs.JobTracks.{at_with, first_stays, of_old_job, on_secon
 use Rattle.fc_jobs.specs.Ends.{with_got}
 use Rattle.fc_jobs.specs.declared.protocol.Numbered.{Numbered}
 use Rattle.fc_linear.specs.Operations.{Logged, Operation, is_for_job, part_of}
-use Rattle.fc_registry.specs.declared.job.Job.{Job}
+use Rattle.fc_ticket.specs.declared.job.Job.{Job}
 use Rattle.fc_backend.specs.Filed.{shard_called, HasFiled, HasSameTracks}
 use Rattle.fc_workers.specs.Views.{FilesCalls, WorkerView}
 use Rattle.fc_workers.specs.Deliveries.{Delivery, deliveries_in, delivery_by}

@@ -4,15 +4,17 @@ use Rattle.std.specs.Prelude.{◌==◌}
 use Rattle.std.proofs.lemmas.Bool.Decides.{nat_tests}
 use Rattle.coap_msg.specs.declared.types.Emission.{Emission}
 use Rattle.fc_observe.specs.declared.entry.Turn.{Turn}
-use Rattle.fc_registry.specs.declared.job.Job.{Job}
-use Rattle.fc_registry.specs.Calls.{commit_of, initial_vars_of, run_of, turn_of}
+use Rattle.fc_ticket.specs.declared.job.Job.{Job}
+use Rattle.fc_registry.specs.Calls.{commit_of, turn_of}
+use Rattle.fc_ticket.specs.Runs.{initial_vars_of, run_of}
 use Rattle.fc_registry.specs.Changes.{Change, Committed as Wrote, Installed, Removed}
-use Rattle.fc_registry.specs.Slots.{Slot, Ticket}
-use Rattle.fc_registry.specs.Taken.{Taken}
-use Rattle.fc_registry.specs.Taken.{Given, Missing, Stale, Refused}
+use Rattle.fc_registry.specs.Slots.{Slot}
+use Rattle.fc_ticket.specs.Tickets.{Ticket}
+use Rattle.fc_ticket.specs.Taken.{Taken}
+use Rattle.fc_ticket.specs.Taken.{Given, Missing, Stale, Refused}
 use Rattle.fc_book.specs.declared.view.Track.{Track}
 use Rattle.fc_book.specs.Tracks.{entries_at, entries_of}
-use Rattle.fc_core.specs.Contents.{Content, Unavailable}
+use Rattle.fc_front.specs.Contents.{Content, Unavailable}
 use Rattle.fc_core.specs.Stage.{Stage}
 use Rattle.fc_core.specs.Stage.{ToAnswer, ToCommit, ToRemove, ToTell, Gone}
 use Rattle.fc_core.specs.TurnStage.{TurnStage}

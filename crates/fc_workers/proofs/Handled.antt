@@ -4,9 +4,9 @@ use Rattle.std.specs.Prelude.{MatchBool, is_some}
 use Rattle.coap_msg.specs.declared.types.Endpoint.{Endpoint}
 use Rattle.fc_book.specs.Tracks.{first_own}
 use Rattle.fc_observe.specs.declared.observers.Ticked.{Ticked}
-use Rattle.fc_registry.specs.declared.job.Job.{Job}
-use Rattle.fc_core.specs.Timers.{timer_job}
-use Rattle.fc_core.specs.declared.by_value.Delivered.{Delivered}
+use Rattle.fc_ticket.specs.declared.job.Job.{Job}
+use Rattle.fc_front.specs.Timers.{timer_job}
+use Rattle.fc_front.specs.declared.by_value.Delivered.{Delivered}
 use Rattle.fc_calls.specs.Logged.{AdvancesFront, AdvancesIdle, AdvancesShard, FiresTimer, GivesReadings, GivesTurn, HandlesDatagram, HandsSignal, ReadsCost, SkipsIdle}
 use Rattle.fc_linear.specs.Operations.{Logged, job_in}
 use Rattle.fc_backend.specs.Filed.{shard_called, FilesEach}

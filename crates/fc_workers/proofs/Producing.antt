@@ -8,7 +8,7 @@ use Rattle.fc_book.specs.declared.view.Track.{Track}
 use Rattle.fc_book.specs.declared.view.BookView.{BookView}
 use Rattle.fc_book.specs.Tracks.{AreSingle, HasKey, entries_at, entries_of, entries_with, first_own, first_track, is_on, other_tracks, track, with_entry, without_first}
 use Rattle.fc_book.proofs.Keys.{has-with, is_off, keeps-key}
-use Rattle.fc_registry.specs.declared.job.Job.{Job}
+use Rattle.fc_ticket.specs.declared.job.Job.{Job}
 use Rattle.fc_core.specs.Stages.{first_stage}
 use Rattle.fc_linear.specs.Operations.{IsOfServer, LogEntry, Operation, is_for_job, job_brought, part_of}
 use Rattle.fc_linear.specs.Parts.{HaveNextNumbers, bringing}

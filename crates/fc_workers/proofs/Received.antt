@@ -8,7 +8,7 @@ use Rattle.fc_book.specs.Tracks.{HasKey, entries_at, entries_of, merged_with, ot
 use Rattle.std.specs.List.{All}
 use Rattle.std.proofs.lemmas.List.Elements.{All-append, All-cons, All-nil, All-weaker}
 use Rattle.fc_book.proofs.Owners.{has_right}
-use Rattle.fc_registry.specs.declared.job.Job.{Job}
+use Rattle.fc_ticket.specs.declared.job.Job.{Job}
 use Rattle.fc_core.specs.Stage.{Stage}
 use Rattle.fc_core.specs.Stage.{Gone}
 use Rattle.fc_core.specs.Stages.{first_stage}

@@ -11,14 +11,14 @@ use Rattle.fc_verify.specs.declared.refusal.Refusal.TheVariants.{Broken}
 use Rattle.fc_machine.specs.Ran.{Ran, ran}
 use Rattle.fc_help.specs.Request.{Request}
 use Rattle.fc_observe.specs.Observers.{ObserverList}
-use Rattle.fc_registry.specs.declared.job.Ask.{Ask}
-use Rattle.fc_registry.specs.declared.job.Ask.TheVariants.{Run, Discover}
-use Rattle.fc_registry.specs.declared.job.Job.{Job}
-use Rattle.fc_registry.specs.declared.job.Origin.{Origin}
-use Rattle.fc_registry.specs.declared.receipt.Receipt.{Receipt}
+use Rattle.fc_ticket.specs.declared.job.Ask.{Ask}
+use Rattle.fc_ticket.specs.declared.job.Ask.TheVariants.{Run, Discover}
+use Rattle.fc_ticket.specs.declared.job.Job.{Job}
+use Rattle.fc_ticket.specs.declared.job.Origin.{Origin}
+use Rattle.fc_ticket.specs.declared.receipt.Receipt.{Receipt}
 use Rattle.fc_isa.specs.declared.rule.Fault.{Fault}
 use Rattle.fc_isa.specs.Rules.{number_of}
-use Rattle.fc_registry.specs.Taken.{Taken}
+use Rattle.fc_ticket.specs.Taken.{Taken}
 use Rattle.fc_registry.specs.declared.shard.Made.{Made}
 use Rattle.fc_registry.specs.declared.shard.Made.TheVariants.{Raised, AtEnd}
 use Rattle.fc_registry.specs.declared.shard.Removal.{Removal}
@@ -26,16 +26,18 @@ use Rattle.fc_registry.specs.declared.shard.Removal.TheVariants as removals
 use Rattle.arrayvec.specs.ArrayVec.{ArrayVec}
 use Rattle.fc_registry.specs.declared.commit.Committed.{Committed}
 use Rattle.fc_registry.specs.declared.commit.Committed.TheVariants.{Done, Overtaken, Ended, Stranger}
-use Rattle.fc_registry.specs.Slots.{Present, Slot, Ticket}
-use Rattle.fc_registry.specs.Calls.{is_out_at, readings_if, receipt_of, run_of, snapshot, snapshot_by as snapshot_of_job, turn_of, turn_snapshot, initial_vars_of}
-use Rattle.fc_registry.specs.Taken.{SlotSnapshot}
+use Rattle.fc_ticket.specs.Tickets.{Present, Ticket}
+use Rattle.fc_registry.specs.Slots.{Slot}
+use Rattle.fc_registry.specs.Calls.{is_out_at, readings_if, snapshot, snapshot_by as snapshot_of_job, turn_of, turn_snapshot}
+use Rattle.fc_ticket.specs.Runs.{receipt_of, run_of, initial_vars_of}
+use Rattle.fc_ticket.specs.Taken.{SlotSnapshot}
 use Rattle.fc_core.specs.declared.stage.Step.{Step}
 use Rattle.fc_core.specs.Room.{stage_of}
 use Rattle.fc_core.specs.Stage.{Stage}
 use Rattle.fc_core.specs.Stage.{ToMatch, ToTake, ToCommit, ToInstall, ToRemove, ToDescribe, ToList, ToRaise, ToAnswer}
-use Rattle.fc_core.specs.Contents.{Content, IsOf, Listed, Unavailable}
-use Rattle.fc_core.specs.Heads.{head_word, is_match}
-use Rattle.fc_core.specs.Ends.{refused, refused_by}
+use Rattle.fc_front.specs.Contents.{Content, IsOf, Listed, Unavailable}
+use Rattle.fc_front.specs.Heads.{head_word, is_match}
+use Rattle.fc_front.specs.Ends.{refused, refused_by}
 use Rattle.fc_core.specs.Fits.{IsSafe}
 use Rattle.fc_core.specs.Stages.{asked_stage, first_by, image_of, listed, matched, matched_by, run_content, removed, receipt_content, took, after_commit, made, snapshots}
 use Rattle.fc_core.specs.Steps.{Call, Takes, Commits, Installs, Lists, Matches, Rejects, Refuses, RefusesChange, Removes, Describes, Raises}

@@ -2,24 +2,26 @@
 use Rattle.std.proofs.Common.{◌≡◌, ◌∙◌, ℕ, ◌+◌, ◌<◌, Bool, true, false, List, [], ◌∷◌, ◌++◌, length, Option, Some, None, arith, refl, sym, ap, subst}
 use Rattle.std.specs.Prelude.{◌%◌, ◌==◌, ◌&&◌, if◌then◌else◌, nat_lt, is_none}
 use Rattle.coap_msg.specs.declared.types.Emission.{Emission}
-use Rattle.fc_core.specs.Contents.{Listed, Unavailable}
-use Rattle.fc_core.specs.Heads.{head_word, is_match}
+use Rattle.fc_front.specs.Contents.{Listed, Unavailable}
+use Rattle.fc_front.specs.Heads.{head_word, is_match}
 use Rattle.fc_core.specs.Stage.{Stage}
 use Rattle.fc_core.specs.Stage.{ToCommit, ToInstall, ToList, ToRaise, ToRemove, ToTake, ToAnswer}
 use Rattle.fc_core.specs.Stages.{after_commit, first_by, matched_by, run_content, snapshots, took}
 use Rattle.fc_core.specs.Steps.{Call, Matches, Lists, Takes, Commits, Installs, Rejects, Refuses, RefusesChange, Removes, Describes, Raises, called_at, next_stage}
-use Rattle.fc_registry.specs.Calls.{ComesTo, commits, is_post, meaning_at, readings_if, request_of, run_of, snapshot, snapshot_by, wants}
+use Rattle.fc_registry.specs.Calls.{ComesTo, commits, is_post, readings_if, snapshot, snapshot_by, wants}
+use Rattle.fc_ticket.specs.Runs.{meaning_at, request_of, run_of}
 use Rattle.fc_registry.specs.Record.{code_class}
 use Rattle.fc_observe.specs.Observers.{ObserverList}
-use Rattle.fc_registry.specs.Slots.{Present, Slot, Ticket}
-use Rattle.fc_registry.specs.Taken.{Taken}
+use Rattle.fc_ticket.specs.Tickets.{Present, Ticket}
+use Rattle.fc_registry.specs.Slots.{Slot}
+use Rattle.fc_ticket.specs.Taken.{Taken}
 use Rattle.fc_registry.specs.declared.commit.CommitOutcome.{CommitOutcome}
 use Rattle.fc_registry.specs.declared.commit.CommitOutcome.TheVariants.{Writes, Keeps, Overtakes, Ends}
 use Rattle.fc_registry.specs.declared.commit.Committed.{Committed}
 use Rattle.fc_registry.specs.declared.commit.Committed.TheVariants.{Done, Overtaken, Ended, Stranger}
-use Rattle.fc_registry.specs.declared.job.Ask.{Ask}
-use Rattle.fc_registry.specs.declared.job.Ask.TheVariants.{Run, Install, Remove, Describe, Discover}
-use Rattle.fc_registry.specs.declared.job.Job.{Job}
+use Rattle.fc_ticket.specs.declared.job.Ask.{Ask}
+use Rattle.fc_ticket.specs.declared.job.Ask.TheVariants.{Run, Install, Remove, Describe, Discover}
+use Rattle.fc_ticket.specs.declared.job.Job.{Job}
 use Rattle.fc_calls.specs.Kept.{commit_changes}
 use Rattle.fc_backend.specs.Answers.{IsSomeCommit, IsSomeSnapshot}
 use Rattle.fc_workers.specs.Views.{WorkerView}

@@ -3,16 +3,16 @@ use Rattle.std.specs.Prelude.{◌≡◌, ◌≢◌, ◌⊎◌, ◌+◌, ◌&&◌
 use Rattle.coap_msg.specs.declared.types.Emission.{Emission}
 use Rattle.coap_msg.specs.declared.types.Endpoint.{Endpoint}
 use Rattle.fc_book.specs.Tracks.{first_own}
-use Rattle.fc_core.specs.declared.by_value.Delivered.{Delivered}
-use Rattle.fc_core.specs.declared.by_value.Delivered.TheVariants.{Job as Brings, Signal}
-use Rattle.fc_core.specs.declared.front.Handled.{Handled}
-use Rattle.fc_core.specs.Receiving.{handled}
-use Rattle.fc_core.specs.Timers.{timer_job}
+use Rattle.fc_front.specs.declared.by_value.Delivered.{Delivered}
+use Rattle.fc_front.specs.declared.by_value.Delivered.TheVariants.{Job as Brings, Signal}
+use Rattle.fc_front.specs.declared.front.Handled.{Handled}
+use Rattle.fc_front.specs.Receiving.{handled}
+use Rattle.fc_front.specs.Timers.{timer_job}
 use Rattle.fc_jobs.specs.Ends.{with_sent}
 use Rattle.fc_registry.specs.Calls.{is_post}
-use Rattle.fc_registry.specs.declared.job.Ask.{Ask}
-use Rattle.fc_registry.specs.declared.job.Ask.TheVariants.{Run, Install, Remove, Describe}
-use Rattle.fc_registry.specs.declared.job.Job.{Job}
+use Rattle.fc_ticket.specs.declared.job.Ask.{Ask}
+use Rattle.fc_ticket.specs.declared.job.Ask.TheVariants.{Run, Install, Remove, Describe}
+use Rattle.fc_ticket.specs.declared.job.Job.{Job}
 use Rattle.fc_workers.specs.declared.dispatcher.Offload.{Offload}
 use Rattle.fc_workers.specs.declared.dispatcher.Offload.TheVariants.{Expensive, ChangesAndExpensive, Never}
 use Rattle.fc_backend.specs.Logs.{TrackedLog}

@@ -2,14 +2,14 @@
 use Rattle.std.specs.Prelude.{◌≡◌, ◌⊎◌, ◌+◌, ℕ, Bool, if◌then◌else◌, Option, Some, None}
 use Rattle.coap_msg.specs.declared.types.Emission.{Emission}
 use Rattle.fc_observe.specs.declared.entry.Turn.{Turn}
-use Rattle.fc_registry.specs.declared.job.Job.{Job}
-use Rattle.fc_registry.specs.declared.note.Noted.{Noted}
-use Rattle.fc_registry.specs.declared.note.Notification.{Notification}
-use Rattle.fc_registry.specs.Taken.{Taken}
-use Rattle.fc_registry.specs.Taken.{Given, Missing, Stale, Refused}
-use Rattle.fc_registry.specs.Notes.{sent_of}
-use Rattle.fc_registry.specs.Slots.{Ticket}
-use Rattle.fc_core.specs.Contents.{Content}
+use Rattle.fc_ticket.specs.declared.job.Job.{Job}
+use Rattle.fc_ticket.specs.declared.note.Noted.{Noted}
+use Rattle.fc_ticket.specs.declared.note.Notification.{Notification}
+use Rattle.fc_ticket.specs.Taken.{Taken}
+use Rattle.fc_ticket.specs.Taken.{Given, Missing, Stale, Refused}
+use Rattle.fc_ticket.specs.Notes.{sent_of}
+use Rattle.fc_ticket.specs.Tickets.{Ticket}
+use Rattle.fc_front.specs.Contents.{Content}
 use Rattle.fc_calls.specs.Doings.{SaysFound}
 use Rattle.fc_backend.specs.Statistics.{Share}
 use Rattle.fc_backend.specs.Answers.{IsSomeAnswer, IsSomeDraw, IsSomeNote, saturated}

@@ -2,7 +2,7 @@
 -- order.
 use Rattle.std.specs.Prelude.{◌≡◌, ℕ, ◌+◌, [], length}
 use Rattle.fc_book.specs.Tracks.{entries_of, without_first}
-use Rattle.fc_registry.specs.declared.job.Job.{Job}
+use Rattle.fc_ticket.specs.declared.job.Job.{Job}
 use Rattle.fc_linear.specs.Parts.{HaveNextNumbers}
 use Rattle.fc_filed.specs.Threads.{HasJobFirst, HasOwnTrack, key_of_first}
 use Rattle.fc_backend.specs.RightTracks.{HasRightJobs, FilesFrom, brought_in}

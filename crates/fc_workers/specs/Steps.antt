@@ -1,11 +1,11 @@
 -- One step of a job, in the form of the worker's loop invariant.
 use Rattle.std.specs.Prelude.{◌≡◌, ℕ, ◌+◌, ◌*◌, ◌-◌, ◌<◌, ◌≤◌, List, [], ◌∷◌, ◌++◌, length, None}
-use Rattle.fc_registry.specs.declared.job.Ask.{Ask}
-use Rattle.fc_registry.specs.declared.job.Ask.TheVariants.{Run}
-use Rattle.fc_registry.specs.declared.job.Job.{Job}
+use Rattle.fc_ticket.specs.declared.job.Ask.{Ask}
+use Rattle.fc_ticket.specs.declared.job.Ask.TheVariants.{Run}
+use Rattle.fc_ticket.specs.declared.job.Job.{Job}
 use Rattle.fc_core.specs.Stage.{Stage}
 use Rattle.fc_core.specs.Stage.{ToMatch, ToTake, ToCommit, ToInstall, ToRemove, ToDescribe, ToList, ToRaise, ToAnswer, ToTell, Gone}
-use Rattle.fc_core.specs.Contents.{IsOf}
+use Rattle.fc_front.specs.Contents.{IsOf}
 use Rattle.fc_core.specs.Stages.{snapshots}
 use Rattle.fc_core.specs.Steps.{Call, next_stage}
 use Rattle.fc_backend.specs.Statistics.{Share}

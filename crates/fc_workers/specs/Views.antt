@@ -1,7 +1,7 @@
 -- The ghost view of a worker context, and what its calls add to the worker's tracks.
 use Rattle.std.specs.Prelude.{◌≡◌, ℕ, Option}
 use Rattle.coap_msg.specs.declared.types.Emission.{Emission}
-use Rattle.fc_registry.specs.declared.job.Job.{Job}
+use Rattle.fc_ticket.specs.declared.job.Job.{Job}
 use Rattle.fc_core.specs.Stage.{Stage}
 use Rattle.fc_calls.specs.Logged.{LoggedCall}
 use Rattle.fc_filed.specs.JobTracks.{FilesForJob}

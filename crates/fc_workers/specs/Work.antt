@@ -10,16 +10,17 @@ use Rattle.fc_verify.specs.Judged.{judged}
 use Rattle.fc_verify.specs.Refusals.{IsRefusal}
 use Rattle.fc_verify.specs.declared.refusal.Refusal.TheVariants.{Broken, NoMemory}
 use Rattle.fc_observe.specs.declared.entry.Turn.{Turn}
-use Rattle.fc_registry.specs.declared.job.Job.{Job}
+use Rattle.fc_ticket.specs.declared.job.Job.{Job}
 use Rattle.fc_registry.specs.declared.commit.Committed.{Committed}
-use Rattle.fc_registry.specs.Taken.{Taken}
-use Rattle.fc_registry.specs.Calls.{commit_of, run_of, turn_of, initial_vars_of, wants}
+use Rattle.fc_ticket.specs.Taken.{Taken}
+use Rattle.fc_registry.specs.Calls.{commit_of, turn_of, wants}
+use Rattle.fc_ticket.specs.Runs.{run_of, initial_vars_of}
 use Rattle.fc_registry.specs.Changes.{Committed as Wrote, Installed, Removed}
-use Rattle.fc_registry.specs.Slots.{Ticket}
+use Rattle.fc_ticket.specs.Tickets.{Ticket}
 use Rattle.fc_core.specs.Stage.{Stage}
 use Rattle.fc_core.specs.Stage.{ToAnswer, ToCommit, ToRemove}
-use Rattle.fc_core.specs.Contents.{Content, IsOf}
-use Rattle.fc_core.specs.Ends.{refused}
+use Rattle.fc_front.specs.Contents.{Content, IsOf}
+use Rattle.fc_front.specs.Ends.{refused}
 use Rattle.fc_core.specs.Fits.{IsSafe}
 use Rattle.fc_core.specs.Stages.{asked_stage, image_of, snapshots}
 use Rattle.fc_core.specs.Steps.{Call, Matches, Lists, Takes, Commits, Installs, Rejects, Refuses, RefusesChange, Removes, Describes, Raises, called_at, next_stage}

@@ -1,14 +1,14 @@
 //! The context shared by all workers, with the parts that a caller supplies.
 //!
 //! A caller supplies hooks, a transmitter, and a source of times.
-ghost use Rattle.fc_core.specs.Receiving.{emission_if};
+ghost use Rattle.fc_front.specs.Receiving.{emission_if};
 ghost use Rattle.fc_backend.specs.Called.{EndsJob, SendsReply};
 ghost use Rattle.fc_backend.specs.Logs.{IsUnfiled};
 ghost use Rattle.fc_backend.specs.Answers.{GoesOut};
 
 use coap_msg::Emission;
 use fc_backend::{Bench, Gate, TimeSource, TrackLog, Wire};
-use fc_registry::Job;
+use fc_ticket::Job;
 use std::alloc::Global;
 use std::sync::Wait;
 
@@ -20,6 +20,27 @@ pub struct Context<'a, B: Bench, G: Gate, W: Wire, M: TimeSource> {
     pub gate: &'a G,
     pub wire: &'a W,
     pub times: &'a M,
+}
+
+/// The parts of a worker context, as clauses see them.
+///
+/// It is implemented for a backend, hooks, a transmitter and a source of times, so that a clause
+/// names the view of all four as `⟦<(B, G, W, M) as WorkerParts>⟧.view`.
+pub trait WorkerParts {
+    ghost use Rattle.fc_workers.specs.Views.{WorkerView};
+
+    type Tallies;
+
+    // The ghost view of the context.
+    ghost view: { WorkerView Self.Tallies };
+}
+
+impl<B: Bench, G: Gate, W: Wire, M: TimeSource> WorkerParts for (B, G, W, M) {
+    ghost use Rattle.fc_workers.specs.Views.{worker_view};
+
+    type Tallies = B::Tallies;
+
+    ghost view = { worker_view B.changes B.ended B.called B.logged M.is_time M.is_random G.passed G.answered W.called };
 }
 
 // Calls to the gate, the source of times and the transmitter. No track has an entry of such a call.

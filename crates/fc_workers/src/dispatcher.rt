@@ -5,7 +5,6 @@ ghost use Rattle.std.specs.Prelude.{◌≡◌, false, length, MatchBool};
 ghost use Rattle.fc_backend.specs.Answers.{IsSomeIdle, IsSomeTick};
 ghost use Rattle.fc_calls.specs.Logged.{AdvancesFront, AdvancesShard};
 ghost use Rattle.fc_backend.specs.Called.{CountsObservers, LeavesUnquiet, LooksAhead, ReadsGauges};
-ghost use Rattle.fc_workers.specs.Views.{worker_view};
 ghost use Rattle.fc_workers.specs.Dispatch.{HasCalled, IsAdvancedOrSkipped, IsTakenIn, IsTimerFired, IsTurnAsked};
 ghost use Rattle.fc_backend.specs.Messages.{first_brought, with_new_track};
 ghost use Rattle.fc_filed.specs.Threads.{HasOwnTrack};
@@ -13,15 +12,16 @@ ghost use Rattle.fc_backend.specs.Logs.{IsNewLog};
 ghost use Rattle.fc_workers.specs.Producing.{HasRightOrder};
 ghost use Rattle.fc_backend.specs.Statistics.{new_share};
 
-use crate::context::Context;
+use crate::context::{Context, WorkerParts};
 use crate::dispatcher_state::DispatcherState;
 use crate::worker_seed::SeedOf;
 use coap_msg::{Emission, Endpoint};
 use fc_backend::{Bench, Gate, JobKeys, JobMessage, Share, ShareOf, TimeSource, TrackLog, Wire};
-use fc_core::{FrontGauges, Handled};
+use fc_front::{FrontGauges, Handled};
 use fc_jobs::{Jobs, Sent};
 use fc_observe::Ticked;
-use fc_registry::{PLACES, SlotNumber};
+use fc_registry::PLACES;
+use fc_ticket::SlotNumber;
 use std::marker::Model;
 use std::sync::Wait;
 
@@ -150,7 +150,7 @@ impl<'a, B: Bench, G: Gate, W: Wire, M: TimeSource> Dispatcher<'a, B, G, W, M> {
         bytes: &[u8],
         reply: &mut Emission,
     ) -> Handled
-        ensures taken_in { IsTakenIn (worker_view B.changes B.ended B.called B.logged M.is_time M.is_random G.passed G.answered W.called)
+        ensures taken_in { IsTakenIn ⟦<(B, G, W, M) as WorkerParts>⟧.view
             self.old.offload now from bytes.now result reply.new self.old.done self.new.done }
         ensures offload { self.new.offload ≡ self.old.offload }
     {
@@ -173,7 +173,7 @@ impl<'a, B: Bench, G: Gate, W: Wire, M: TimeSource> Dispatcher<'a, B, G, W, M> {
     /// Returns the number of the job if it was sent to the workers. Returns `None` if the job has
     /// ended here.
     pub fn fire<R: Wait>(&mut self, rt: &R, slot: SlotNumber, now: u64) -> Option<u64>
-        ensures fired { IsTimerFired (worker_view B.changes B.ended B.called B.logged M.is_time M.is_random G.passed G.answered W.called)
+        ensures fired { IsTimerFired ⟦<(B, G, W, M) as WorkerParts>⟧.view
             self.old.offload slot now result self.old.done self.new.done }
         ensures offload { self.new.offload ≡ self.old.offload }
     {
@@ -201,7 +201,7 @@ impl<'a, B: Bench, G: Gate, W: Wire, M: TimeSource> Dispatcher<'a, B, G, W, M> {
     /// If it isn't, nothing changes.
     pub fn advance_or_skip<R: Wait>(&mut self, rt: &R, shard: u8, now: u64) -> bool
         ensures passed { MatchBool result
-            (IsAdvancedOrSkipped (worker_view B.changes B.ended B.called B.logged M.is_time M.is_random G.passed G.answered W.called) shard now self.old.done self.new.done)
+            (IsAdvancedOrSkipped ⟦<(B, G, W, M) as WorkerParts>⟧.view shard now self.old.done self.new.done)
             (IsSomeIdle now false × B.called (LeavesUnquiet shard now) × (self.new.done ≡ self.old.done)) }
         ensures offload { self.new.offload ≡ self.old.offload }
     {
@@ -248,7 +248,7 @@ impl<'a, B: Bench, G: Gate, W: Wire, M: TimeSource> Dispatcher<'a, B, G, W, M> {
     /// The lease is that of the first observer with a pending notification at a time in
     /// milliseconds. Returns whether there was such an observer.
     pub fn notify<R: Wait>(&mut self, rt: &R, shard: u8, now: u64) -> bool
-        ensures asked { IsTurnAsked (worker_view B.changes B.ended B.called B.logged M.is_time M.is_random G.passed G.answered W.called)
+        ensures asked { IsTurnAsked ⟦<(B, G, W, M) as WorkerParts>⟧.view
             self.old.offload shard now result self.old.done self.new.done }
         ensures offload { self.new.offload ≡ self.old.offload }
     {

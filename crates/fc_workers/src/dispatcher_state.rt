@@ -3,7 +3,6 @@ ghost use Rattle.std.specs.Prelude.{◌≡◌, ◌≢◌, ◌+◌, ◌<◌, [], 
 ghost use Rattle.fc_book.specs.Tracks.{first_own};
 ghost use Rattle.fc_backend.specs.Answers.{IsSomeIdle, saturated};
 ghost use Rattle.fc_backend.specs.Called.{LeavesUnquiet};
-ghost use Rattle.fc_workers.specs.Views.{worker_view};
 ghost use Rattle.fc_workers.specs.Dispatch.{AreSignalled, HasBegunNext, HasCalled, HasLeastCost, IsAdvancedOrSkipped, IsDispatched, IsFoundCheap, IsHeldUp, IsSentOrWorked, IsTakenIn, IsTimerFired, IsTurnAsked, MayGo, MayHaveReadCost, job_sent, least_cost, logged_at, may_change_slot, requests_change, unsent};
 ghost use Rattle.fc_backend.specs.Logs.{TrackedLog as Log, IsNewLog};
 ghost use Rattle.fc_backend.specs.Messages.{first_brought, with_new_track};
@@ -13,18 +12,18 @@ ghost use Rattle.fc_backend.specs.Statistics.{new_share};
 ghost use Rattle.fc_workers.specs.Steps.{IsPlainRun};
 ghost use Rattle.fc_workers.specs.Work.{IsReplied};
 
-use crate::context::Context;
+use crate::context::{Context, WorkerParts};
 use crate::dispatcher::{Dispatched, DispatchedOf, Offload, UNSENT};
 use crate::scratch::Scratch;
 use crate::worker_seed::{SeedOf, WorkerSeed};
 use coap_msg::{Emission, Endpoint};
 use fc_backend::{Bench, Gate, JobKeys, JobMessage, Share, ShareOf, TimeSource, TrackLog, Wire};
-use fc_core::Handled;
-use fc_core::front::blank_job;
-use fc_core::heads::{is_present, serial_in};
+use fc_front::Handled;
+use fc_front::front::blank_job;
+use fc_front::heads::{is_present, serial_in};
 use fc_help::Method;
 use fc_jobs::{Jobs, Sent};
-use fc_registry::{Ask, Job, SHARDS, SlotNumber};
+use fc_ticket::{Ask, Job, SHARDS, SlotNumber};
 use std::mem;
 use std::sync::Wait;
 
@@ -98,7 +97,7 @@ impl<'a, B: Bench, G: Gate, W: Wire, M: TimeSource> DispatcherState<'a, B, G, W,
         reply: &mut Emission,
     ) -> Handled
         requires ready { MayProduce B.Book.first_job self.old.keys self.old.done.share.log }
-        ensures taken_in { IsTakenIn (worker_view B.changes B.ended B.called B.logged M.is_time M.is_random G.passed G.answered W.called)
+        ensures taken_in { IsTakenIn ⟦<(B, G, W, M) as WorkerParts>⟧.view
             self.old.offload now from bytes.now result reply.new self.old.done self.new.done }
         ensures offload { self.new.offload ≡ self.old.offload }
         ensures ready { MayProduce B.Book.first_job self.new.keys self.new.done.share.log }
@@ -123,7 +122,7 @@ impl<'a, B: Bench, G: Gate, W: Wire, M: TimeSource> DispatcherState<'a, B, G, W,
     // ended here.
     pub(crate) fn fire<R: Wait>(&mut self, rt: &R, slot: SlotNumber, now: u64) -> Option<u64>
         requires ready { MayProduce B.Book.first_job self.old.keys self.old.done.share.log }
-        ensures fired { IsTimerFired (worker_view B.changes B.ended B.called B.logged M.is_time M.is_random G.passed G.answered W.called)
+        ensures fired { IsTimerFired ⟦<(B, G, W, M) as WorkerParts>⟧.view
             self.old.offload slot now result self.old.done self.new.done }
         ensures offload { self.new.offload ≡ self.old.offload }
         ensures ready { MayProduce B.Book.first_job self.new.keys self.new.done.share.log }
@@ -147,7 +146,7 @@ impl<'a, B: Bench, G: Gate, W: Wire, M: TimeSource> DispatcherState<'a, B, G, W,
     pub(crate) fn advance_or_skip<R: Wait>(&mut self, rt: &R, shard: u8, now: u64) -> bool
         requires ready { MayProduce B.Book.first_job self.old.keys self.old.done.share.log }
         ensures passed { MatchBool result
-            (IsAdvancedOrSkipped (worker_view B.changes B.ended B.called B.logged M.is_time M.is_random G.passed G.answered W.called) shard now self.old.done self.new.done)
+            (IsAdvancedOrSkipped ⟦<(B, G, W, M) as WorkerParts>⟧.view shard now self.old.done self.new.done)
             (IsSomeIdle now false × B.called (LeavesUnquiet shard now) × (self.new.done ≡ self.old.done)) }
         ensures offload { self.new.offload ≡ self.old.offload }
         ensures ready { MayProduce B.Book.first_job self.new.keys self.new.done.share.log }
@@ -163,7 +162,7 @@ impl<'a, B: Bench, G: Gate, W: Wire, M: TimeSource> DispatcherState<'a, B, G, W,
     // milliseconds. Returns whether there was such an observer.
     pub(crate) fn notify<R: Wait>(&mut self, rt: &R, shard: u8, now: u64) -> bool
         requires ready { MayProduce B.Book.first_job self.old.keys self.old.done.share.log }
-        ensures asked { IsTurnAsked (worker_view B.changes B.ended B.called B.logged M.is_time M.is_random G.passed G.answered W.called)
+        ensures asked { IsTurnAsked ⟦<(B, G, W, M) as WorkerParts>⟧.view
             self.old.offload shard now result self.old.done self.new.done }
         ensures offload { self.new.offload ≡ self.old.offload }
         ensures ready { MayProduce B.Book.first_job self.new.keys self.new.done.share.log }
@@ -186,7 +185,7 @@ impl<'a, B: Bench, G: Gate, W: Wire, M: TimeSource> DispatcherState<'a, B, G, W,
     // next job begins last.
     fn dispatch<R: Wait>(&mut self, rt: &R)
         requires produced { HasProduced B.Book.first_job self.old.keys self.old.job self.old.done.share.log }
-        ensures dispatched { IsDispatched (worker_view B.changes B.ended B.called B.logged M.is_time M.is_random G.passed G.answered W.called)
+        ensures dispatched { IsDispatched ⟦<(B, G, W, M) as WorkerParts>⟧.view
             self.old.offload self.old.job self.old.done self.new.done }
         ensures offload { self.new.offload ≡ self.old.offload }
         ensures ready { MayProduce B.Book.first_job self.new.keys self.new.done.share.log }
@@ -210,7 +209,7 @@ impl<'a, B: Bench, G: Gate, W: Wire, M: TimeSource> DispatcherState<'a, B, G, W,
     // [`DispatcherState::dispatch`].
     fn dispatch_job<R: Wait>(&mut self, rt: &R)
         requires produced { HasProduced B.Book.first_job self.old.keys self.old.job self.old.done.share.log }
-        ensures dispatched { IsSentOrWorked (worker_view B.changes B.ended B.called B.logged M.is_time M.is_random G.passed G.answered W.called)
+        ensures dispatched { IsSentOrWorked ⟦<(B, G, W, M) as WorkerParts>⟧.view
             self.old.offload self.old.job self.old.done self.new.done }
         ensures offload { self.new.offload ≡ self.old.offload }
         ensures right { HasDispatched B.Book.first_job self.new.keys self.new.done.share.log }
@@ -225,7 +224,7 @@ impl<'a, B: Bench, G: Gate, W: Wire, M: TimeSource> DispatcherState<'a, B, G, W,
     // Returns whether the job may go to the workers since a save would hold it up here. Returns
     // `false` if no worker has asked for a job yet.
     fn is_held_up(&mut self) -> bool
-        ensures may { result ≡ true → MayGo (worker_view B.changes B.ended B.called B.logged M.is_time M.is_random G.passed G.answered W.called) self.old.offload self.old.job self.old.done.share.log self.old.done.share.log }
+        ensures may { result ≡ true → MayGo ⟦<(B, G, W, M) as WorkerParts>⟧.view self.old.offload self.old.job self.old.done.share.log self.old.done.share.log }
         ensures kept { self.new.done ≡ self.old.done }
         ensures job { self.new.job ≡ self.old.job }
         ensures keys { self.new.keys ≡ self.old.keys }
@@ -244,7 +243,7 @@ impl<'a, B: Bench, G: Gate, W: Wire, M: TimeSource> DispatcherState<'a, B, G, W,
     // cost is, or runs the job here.
     fn dispatch_by_cost<R: Wait>(&mut self, rt: &R)
         requires produced { HasProduced B.Book.first_job self.old.keys self.old.job self.old.done.share.log }
-        ensures dispatched { IsSentOrWorked (worker_view B.changes B.ended B.called B.logged M.is_time M.is_random G.passed G.answered W.called)
+        ensures dispatched { IsSentOrWorked ⟦<(B, G, W, M) as WorkerParts>⟧.view
             self.old.offload self.old.job self.old.done self.new.done }
         ensures offload { self.new.offload ≡ self.old.offload }
         ensures right { HasDispatched B.Book.first_job self.new.keys self.new.done.share.log }
@@ -261,7 +260,7 @@ impl<'a, B: Bench, G: Gate, W: Wire, M: TimeSource> DispatcherState<'a, B, G, W,
     // job here, from its first stage to its answer.
     fn dispatch_whole<R: Wait>(&mut self, rt: &R)
         requires produced { HasProduced B.Book.first_job self.old.keys self.old.job self.old.done.share.log }
-        ensures dispatched { IsSentOrWorked (worker_view B.changes B.ended B.called B.logged M.is_time M.is_random G.passed G.answered W.called)
+        ensures dispatched { IsSentOrWorked ⟦<(B, G, W, M) as WorkerParts>⟧.view
             self.old.offload self.old.job self.old.done self.new.done }
         ensures offload { self.new.offload ≡ self.old.offload }
         ensures right { HasDispatched B.Book.first_job self.new.keys self.new.done.share.log }
@@ -280,7 +279,7 @@ impl<'a, B: Bench, G: Gate, W: Wire, M: TimeSource> DispatcherState<'a, B, G, W,
         requires plain { IsPlainRun self.old.job }
         requires least { least_cost self.old.offload self.old.job ≡ Some least }
         requires produced { HasProduced B.Book.first_job self.old.keys self.old.job self.old.done.share.log }
-        ensures dispatched { IsSentOrWorked (worker_view B.changes B.ended B.called B.logged M.is_time M.is_random G.passed G.answered W.called)
+        ensures dispatched { IsSentOrWorked ⟦<(B, G, W, M) as WorkerParts>⟧.view
             self.old.offload self.old.job self.old.done self.new.done }
         ensures offload { self.new.offload ≡ self.old.offload }
         ensures right { HasDispatched B.Book.first_job self.new.keys self.new.done.share.log }
@@ -300,9 +299,9 @@ impl<'a, B: Bench, G: Gate, W: Wire, M: TimeSource> DispatcherState<'a, B, G, W,
     fn send_or_work<R: Wait>(&mut self, rt: &R)
         requires produced { HasProduced B.Book.first_job self.old.keys self.old.job self.old.done.share.log }
         ensures dispatched { (log : Log)
-            → MayGo (worker_view B.changes B.ended B.called B.logged M.is_time M.is_random G.passed G.answered W.called) self.old.offload self.old.job log self.old.done.share.log
+            → MayGo ⟦<(B, G, W, M) as WorkerParts>⟧.view self.old.offload self.old.job log self.old.done.share.log
             → first_own self.old.done.share.log.tracks ≡ first_own log.tracks
-            → IsSentOrWorked (worker_view B.changes B.ended B.called B.logged M.is_time M.is_random G.passed G.answered W.called)
+            → IsSentOrWorked ⟦<(B, G, W, M) as WorkerParts>⟧.view
             self.old.offload self.old.job (logged_at log self.old.done) self.new.done }
         ensures offload { self.new.offload ≡ self.old.offload }
         ensures right { HasDispatched B.Book.first_job self.new.keys self.new.done.share.log }
@@ -341,7 +340,7 @@ impl<'a, B: Bench, G: Gate, W: Wire, M: TimeSource> DispatcherState<'a, B, G, W,
     fn work<R: Wait>(&mut self, rt: &R)
         requires produced { HasProduced B.Book.first_job self.old.keys self.old.job self.old.done.share.log }
         ensures sent { self.new.done.sent ≡ self.old.done.sent }
-        ensures worked { IsReplied (worker_view B.changes B.ended B.called B.logged M.is_time M.is_random G.passed G.answered W.called)
+        ensures worked { IsReplied ⟦<(B, G, W, M) as WorkerParts>⟧.view
             unsent self.old.job self.old.done.share self.new.done.share }
         ensures ends { B.ended self.new.done.share.tallies ≡ saturated (B.ended self.old.done.share.tallies + 1) }
         ensures offload { self.new.offload ≡ self.old.offload }
@@ -357,8 +356,8 @@ impl<'a, B: Bench, G: Gate, W: Wire, M: TimeSource> DispatcherState<'a, B, G, W,
     // `Every` it first waits until one has, or none ever will.
     fn may_go<R: Wait>(&mut self, rt: &R) -> bool
         ensures may { MatchBool result
-            (MayGo (worker_view B.changes B.ended B.called B.logged M.is_time M.is_random G.passed G.answered W.called) self.old.offload self.old.job self.old.done.share.log self.new.done.share.log)
-            (MayHaveReadCost (worker_view B.changes B.ended B.called B.logged M.is_time M.is_random G.passed G.answered W.called) (least_cost self.old.offload self.old.job) self.old.job self.old.done.share.log self.new.done.share.log) }
+            (MayGo ⟦<(B, G, W, M) as WorkerParts>⟧.view self.old.offload self.old.job self.old.done.share.log self.new.done.share.log)
+            (MayHaveReadCost ⟦<(B, G, W, M) as WorkerParts>⟧.view (least_cost self.old.offload self.old.job) self.old.job self.old.done.share.log self.new.done.share.log) }
         ensures called { HasCalled self.old.done self.new.done }
         ensures job { self.new.job ≡ self.old.job }
         ensures keys { self.new.keys ≡ self.old.keys }
@@ -378,7 +377,7 @@ impl<'a, B: Bench, G: Gate, W: Wire, M: TimeSource> DispatcherState<'a, B, G, W,
     // Passes an Acknowledgement, or a Reset message if `reset`, to each shard.
     fn signal<R: Wait>(&mut self, rt: &R, from: Endpoint, id: u16, reset: bool)
         requires ready { MayProduce B.Book.first_job self.old.keys self.old.done.share.log }
-        ensures signalled { AreSignalled (worker_view B.changes B.ended B.called B.logged M.is_time M.is_random G.passed G.answered W.called)
+        ensures signalled { AreSignalled ⟦<(B, G, W, M) as WorkerParts>⟧.view
             8 from id reset self.old.done.share.log self.new.done.share.log }
         ensures kept { HasCalled self.old.done self.new.done }
         ensures offload { self.new.offload ≡ self.old.offload }
@@ -393,7 +392,7 @@ impl<'a, B: Bench, G: Gate, W: Wire, M: TimeSource> Context<'a, B, G, W, M> {
     // Returns whether a job reads its slot, and a change of the slot's shard is being saved. If the
     // slot has the state of one of a run's ETags, the run needs no lock. Nothing is filed.
     fn is_held_up(&self, job: &Job, log: &mut TrackLog<B::Book>) -> bool
-        ensures held { result ≡ true → IsHeldUp (worker_view B.changes B.ended B.called B.logged M.is_time M.is_random G.passed G.answered W.called) job.now log.old log.new }
+        ensures held { result ≡ true → IsHeldUp ⟦<(B, G, W, M) as WorkerParts>⟧.view job.now log.old log.new }
         ensures kept { log.new ≡ log.old }
     {
         let slot = job.origin.slot;
@@ -414,8 +413,8 @@ impl<'a, B: Bench, G: Gate, W: Wire, M: TimeSource> Context<'a, B, G, W, M> {
         log: &mut TrackLog<B::Book>,
     ) -> bool
         ensures cost { MatchBool result
-            (HasLeastCost (worker_view B.changes B.ended B.called B.logged M.is_time M.is_random G.passed G.answered W.called) least job.now log.old log.new)
-            (MayHaveReadCost (worker_view B.changes B.ended B.called B.logged M.is_time M.is_random G.passed G.answered W.called) least job.now log.old log.new) }
+            (HasLeastCost ⟦<(B, G, W, M) as WorkerParts>⟧.view least job.now log.old log.new)
+            (MayHaveReadCost ⟦<(B, G, W, M) as WorkerParts>⟧.view least job.now log.old log.new) }
         ensures whatever { least ≡ None → result ≡ true }
     {
         let Some(least) = least else {
@@ -434,8 +433,8 @@ impl<'a, B: Bench, G: Gate, W: Wire, M: TimeSource> Context<'a, B, G, W, M> {
         log: &mut TrackLog<B::Book>,
     ) -> bool
         ensures { MatchBool result
-            (HasLeastCost (worker_view B.changes B.ended B.called B.logged M.is_time M.is_random G.passed G.answered W.called) (Some least) job.now log.old log.new)
-            (IsFoundCheap (worker_view B.changes B.ended B.called B.logged M.is_time M.is_random G.passed G.answered W.called) least job.now log.old log.new) }
+            (HasLeastCost ⟦<(B, G, W, M) as WorkerParts>⟧.view (Some least) job.now log.old log.new)
+            (IsFoundCheap ⟦<(B, G, W, M) as WorkerParts>⟧.view least job.now log.old log.new) }
     {
         match &job.ask {
             Ask::Run(_) if !self.is_valid(job, log) => {
@@ -471,7 +470,7 @@ impl<'a, B: Bench, G: Gate, W: Wire, M: TimeSource> Context<'a, B, G, W, M> {
         reset: bool,
         log: &mut TrackLog<B::Book>,
     )
-        ensures { AreSignalled (worker_view B.changes B.ended B.called B.logged M.is_time M.is_random G.passed G.answered W.called)
+        ensures { AreSignalled ⟦<(B, G, W, M) as WorkerParts>⟧.view
             8 from id reset log.old log.new }
     {
         'shards: for shard in 0..SHARDS {

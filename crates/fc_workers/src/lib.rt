@@ -114,7 +114,7 @@ pub mod scratch;
 pub mod work;
 pub mod worker_seed;
 
-pub use context::Context;
+pub use context::{Context, WorkerParts};
 pub use dispatcher::{Dispatched, DispatchedOf, Dispatcher, Offload};
 pub use pool::{drive_workers, make_seats, run_workers};
 pub use scratch::Scratch;

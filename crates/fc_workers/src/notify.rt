@@ -3,21 +3,21 @@
 //! A worker or the dispatcher runs such a job.
 ghost use Rattle.std.specs.Prelude.{◌≡◌, ◌+◌, ◌<◌, None};
 ghost use Rattle.coap_msg.specs.declared.types.Emission.{Emission as Emitted};
-ghost use Rattle.fc_core.specs.Receiving.{emission_if};
-ghost use Rattle.fc_registry.specs.Notes.{noted_as, sent_of};
+ghost use Rattle.fc_front.specs.Receiving.{emission_if};
+ghost use Rattle.fc_ticket.specs.Notes.{noted_as, sent_of};
 ghost use Rattle.fc_backend.specs.Answers.{saturated};
-ghost use Rattle.fc_workers.specs.Views.{worker_view};
 ghost use Rattle.fc_workers.specs.Outgoing.{IsFoundTold, IsGivenUp, IsNoteSent};
 ghost use Rattle.fc_workers.specs.Work.{HasSameTallies, IsTurnWorked};
 
-use crate::context::Context;
+use crate::context::{Context, WorkerParts};
 use crate::scratch::Scratch;
 use coap_msg::Emission;
 use fc_backend::{Bench, Gate, Share, ShareOf, TimeSource, TrackLog, Wire};
 use fc_core::Step;
 use fc_machine::{Frame, run};
 use fc_observe::Turn;
-use fc_registry::{Job, NoteOutcome, Notification, Taken, Ticket};
+use fc_registry::Taken;
+use fc_ticket::{Job, NoteOutcome, Notification, Ticket};
 use std::sync::Wait;
 
 impl<'a, B: Bench, G: Gate, W: Wire, M: TimeSource> Context<'a, B, G, W, M> {
@@ -38,7 +38,7 @@ impl<'a, B: Bench, G: Gate, W: Wire, M: TimeSource> Context<'a, B, G, W, M> {
         share: &mut ShareOf<B::Tallies, B::Book>,
     ) -> bool
         requires { turn.slot < 64 }
-        ensures worked { IsTurnWorked (worker_view B.changes B.ended B.called B.logged M.is_time M.is_random G.passed G.answered W.called)
+        ensures worked { IsTurnWorked ⟦<(B, G, W, M) as WorkerParts>⟧.view
             job.now turn share.old share.new (emission_if result scratch.new.reply) }
         ensures ended { B.ended share.new.tallies ≡ saturated (B.ended share.old.tallies + 1) }
     {
@@ -82,9 +82,9 @@ impl<'a, B: Bench, G: Gate, W: Wire, M: TimeSource> Context<'a, B, G, W, M> {
         share: &mut ShareOf<B::Tallies, B::Book>,
     ) -> bool
         requires { turn.slot < 64 }
-        ensures told { IsFoundTold (worker_view B.changes B.ended B.called B.logged M.is_time M.is_random G.passed G.answered W.called)
+        ensures told { IsFoundTold ⟦<(B, G, W, M) as WorkerParts>⟧.view
             turn found.entry (emission_if result reply.new) share.old.log share.new.log }
-        ensures kept { HasSameTallies (worker_view B.changes B.ended B.called B.logged M.is_time M.is_random G.passed G.answered W.called)
+        ensures kept { HasSameTallies ⟦<(B, G, W, M) as WorkerParts>⟧.view
             share.old share.new }
         ensures ended { B.ended share.new.tallies ≡ saturated (B.ended share.old.tallies + 1) }
     {
@@ -121,9 +121,9 @@ impl<'a, B: Bench, G: Gate, W: Wire, M: TimeSource> Context<'a, B, G, W, M> {
         share: &mut ShareOf<B::Tallies, B::Book>,
     ) -> bool
         requires { turn.slot < 64 }
-        ensures noted { IsNoteSent (worker_view B.changes B.ended B.called B.logged M.is_time M.is_random G.passed G.answered W.called)
+        ensures noted { IsNoteSent ⟦<(B, G, W, M) as WorkerParts>⟧.view
             told.now turn id (emission_if result reply.new) share.old.log share.new.log }
-        ensures kept { HasSameTallies (worker_view B.changes B.ended B.called B.logged M.is_time M.is_random G.passed G.answered W.called)
+        ensures kept { HasSameTallies ⟦<(B, G, W, M) as WorkerParts>⟧.view
             share.old share.new }
         ensures ended { B.ended share.new.tallies ≡ saturated (B.ended share.old.tallies + 1) }
     {
@@ -139,9 +139,9 @@ impl<'a, B: Bench, G: Gate, W: Wire, M: TimeSource> Context<'a, B, G, W, M> {
     // Releases a lease, at the current time. Nothing is sent.
     fn give_up<R: Wait>(&self, rt: &R, turn: Turn, share: &mut ShareOf<B::Tallies, B::Book>)
         requires { turn.slot < 64 }
-        ensures given_up { IsGivenUp (worker_view B.changes B.ended B.called B.logged M.is_time M.is_random G.passed G.answered W.called)
+        ensures given_up { IsGivenUp ⟦<(B, G, W, M) as WorkerParts>⟧.view
             turn None share.old.log share.new.log }
-        ensures kept { HasSameTallies (worker_view B.changes B.ended B.called B.logged M.is_time M.is_random G.passed G.answered W.called)
+        ensures kept { HasSameTallies ⟦<(B, G, W, M) as WorkerParts>⟧.view
             share.old share.new }
         ensures ended { B.ended share.new.tallies ≡ saturated (B.ended share.old.tallies + 1) }
     {

@@ -2,11 +2,11 @@
 ghost use Rattle.std.specs.Prelude.{◌≡◌, Bool, IfOk, vec_len};
 ghost use Rattle.std.specs.List.{All};
 ghost use Rattle.fc_jobs.specs.Ends.{nothing_got, nothing_sent};
-ghost use Rattle.fc_workers.specs.Views.{worker_view};
 ghost use Rattle.fc_backend.specs.Logs.{IsNewLog};
+ghost use Rattle.fc_workers.specs.Views.{worker_view};
 ghost use Rattle.fc_workers.specs.Shares.{AreNewSeats, AreSharesOf, IsShareOf};
 
-use crate::context::Context;
+use crate::context::{Context, WorkerParts};
 use crate::worker_seed::{SeedOf, WorkerSeed, worker};
 use fc_backend::{Bench, Gate, JobMessage, ShareOf, TimeSource, TrackLog, Wire};
 use fc_filed::ServerName;
@@ -94,7 +94,7 @@ where
     B::Tallies: Send,
     B::Book: Send,
     requires { All (λ s. s.got.channel ≡ jobs.now) seats.items }
-    ensures { IfOk result (λ v. AreSharesOf B.Book.first_job (worker_view B.changes B.ended B.called B.logged M.is_time M.is_random G.passed G.answered W.called)
+    ensures { IfOk result (λ v. AreSharesOf B.Book.first_job ⟦<(B, G, W, M) as WorkerParts>⟧.view
         seats.items v.items) }
 {
     thread::map_vec(
@@ -120,7 +120,7 @@ struct PromisedShares<B: Bench, G: Gate, W: Wire, M: TimeSource> {
 impl<B: Bench, G: Gate, W: Wire, M: TimeSource> Promise<
     Result<Vec<ShareOf<B::Tallies, B::Book>>, AllocError>,
 > for PromisedShares<B, G, W, M> {
-    ghost kept_by = { λ p r. IfOk r (λ v. AreSharesOf B.Book.first_job (worker_view B.changes B.ended B.called B.logged M.is_time M.is_random G.passed G.answered W.called)
+    ghost kept_by = { λ p r. IfOk r (λ v. AreSharesOf B.Book.first_job ⟦<(B, G, W, M) as WorkerParts>⟧.view
         p.seats.value.items v.items) };
 }
 
@@ -158,7 +158,7 @@ where
     requires seats { All (λ s. s.got.channel ≡ jobs.now) seats.items }
     requires drive { F.IsAlwaysCallable drive }
     ensures fed { (has_workers : Bool) × F.post drive has_workers result.0 }
-    ensures shares { IfOk result.1 (λ v. AreSharesOf B.Book.first_job (worker_view B.changes B.ended B.called B.logged M.is_time M.is_random G.passed G.answered W.called)
+    ensures shares { IfOk result.1 (λ v. AreSharesOf B.Book.first_job ⟦<(B, G, W, M) as WorkerParts>⟧.view
         seats.items v.items) }
 {
     thread::scope(

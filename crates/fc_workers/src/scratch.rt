@@ -1,7 +1,7 @@
 //! The working state of a worker.
 use coap_msg::Emission;
 use fc_core::Stage;
-use fc_core::front::blank_emission;
+use fc_front::front::blank_emission;
 use fc_machine::Frame;
 
 /// The working state of a worker.

@@ -4,8 +4,8 @@ ghost use Rattle.fc_verify.specs.Judged.{judged};
 ghost use Rattle.fc_verify.specs.Accepted.{Accepts, IsAccepted};
 ghost use Rattle.fc_verify.specs.declared.refusal.Refusal.TheVariants.{Broken};
 ghost use Rattle.fc_kinds.specs.Runnable.{IsRunnable};
-ghost use Rattle.fc_core.specs.Contents.{Unavailable};
-ghost use Rattle.fc_core.specs.Ends.{refused};
+ghost use Rattle.fc_front.specs.Contents.{Unavailable};
+ghost use Rattle.fc_front.specs.Ends.{refused};
 ghost use Rattle.fc_core.specs.Stages.{image_of};
 ghost use Rattle.fc_core.specs.Stage.{ToAnswer, ToInstall, ToRemove};
 ghost use Rattle.fc_linear.specs.Operations.{RefusesInstall, RejectsImage};
@@ -13,21 +13,20 @@ ghost use Rattle.fc_backend.specs.Answers.{saturated};
 ghost use Rattle.fc_workers.specs.Dispatch.{MayGo};
 ghost use Rattle.fc_workers.specs.declared.dispatcher.Offload.TheVariants.{Expensive};
 ghost use Rattle.fc_backend.specs.Filed.{HasFiled};
-ghost use Rattle.fc_workers.specs.Views.{worker_view};
 ghost use Rattle.fc_workers.specs.Work.{IsWorkedTo};
 ghost use Rattle.fc_workers.specs.Steps.{IsCheapAt, IsPlainRun, IsReady, IsStep, IsToAnswer, IsToCommit, IsToTake, ListsOn, Walked};
 ghost use Rattle.fc_backend.specs.Statistics.{Share as Done};
 
-use crate::context::Context;
+use crate::context::{Context, WorkerParts};
 use crate::scratch::Scratch;
 use fc_backend::{Bench, Gate, Share, ShareOf, TimeSource, TrackLog, Wire};
-use fc_core::answer::Words;
-use fc_core::heads::WORDS;
 use fc_core::task::image;
 use fc_core::{Stage, Step};
+use fc_front::answer::Words;
+use fc_front::heads::WORDS;
 use fc_isa::Fault;
 use fc_machine::{Frame, run};
-use fc_registry::{Job, Receipt, SlotNumber, Ticket};
+use fc_ticket::{Job, Receipt, SlotNumber, Ticket};
 use fc_verify::{Refusal, Verified, verify};
 use std::sync::{Arc, Wait};
 
@@ -57,7 +56,7 @@ impl<'a, B: Bench, G: Gate, W: Wire, M: TimeSource> Context<'a, B, G, W, M> {
         share: &mut ShareOf<B::Tallies, B::Book>,
     )
         requires asked { job.now.turn ≡ None }
-        ensures worked { IsWorkedTo (worker_view B.changes B.ended B.called B.logged M.is_time M.is_random G.passed G.answered W.called)
+        ensures worked { IsWorkedTo ⟦<(B, G, W, M) as WorkerParts>⟧.view
             number job.now scratch.new.stage share.old share.new }
         ensures ended { B.ended share.new.tallies ≡ B.ended share.old.tallies }
     {
@@ -81,9 +80,9 @@ impl<'a, B: Bench, G: Gate, W: Wire, M: TimeSource> Context<'a, B, G, W, M> {
         requires ready { IsReady job.now scratch.old.stage }
         ensures answers { IsToAnswer job.now scratch.new.stage }
         ensures worked { (before : Done B.Tallies)
-            → Walked (worker_view B.changes B.ended B.called B.logged M.is_time M.is_random G.passed G.answered W.called)
+            → Walked ⟦<(B, G, W, M) as WorkerParts>⟧.view
             number job.now scratch.old.stage before share.old
-            → IsWorkedTo (worker_view B.changes B.ended B.called B.logged M.is_time M.is_random G.passed G.answered W.called)
+            → IsWorkedTo ⟦<(B, G, W, M) as WorkerParts>⟧.view
             number job.now scratch.new.stage before share.new }
         ensures ended { B.ended share.new.tallies ≡ B.ended share.old.tallies }
     {
@@ -137,11 +136,11 @@ impl<'a, B: Bench, G: Gate, W: Wire, M: TimeSource> Context<'a, B, G, W, M> {
     ) -> bool
         requires plain { IsPlainRun job.now }
         ensures begun { result ≡ true → (number : ℕ)
-            → Walked (worker_view B.changes B.ended B.called B.logged M.is_time M.is_random G.passed G.answered W.called)
+            → Walked ⟦<(B, G, W, M) as WorkerParts>⟧.view
             number job.now scratch.new.stage share.old share.new }
         ensures cheap { result ≡ true → IsCheapAt least scratch.new.stage }
         ensures expensive { result ≡ false
-            → MayGo (worker_view B.changes B.ended B.called B.logged M.is_time M.is_random G.passed G.answered W.called)
+            → MayGo ⟦<(B, G, W, M) as WorkerParts>⟧.view
             (Expensive least) job.now share.old.log share.new.log × (share.new ≡ record share.old { log = share.new.log }) }
         ensures tallies { share.new.tallies ≡ share.old.tallies }
     {
@@ -184,7 +183,7 @@ impl<'a, B: Bench, G: Gate, W: Wire, M: TimeSource> Context<'a, B, G, W, M> {
         stage: &mut Stage,
         share: &mut ShareOf<B::Tallies, B::Book>,
     )
-        ensures step { (number : ℕ) → IsStep (worker_view B.changes B.ended B.called B.logged M.is_time M.is_random G.passed G.answered W.called)
+        ensures step { (number : ℕ) → IsStep ⟦<(B, G, W, M) as WorkerParts>⟧.view
             number job.now ToRemove stage.new share.old share.new }
         ensures ended { B.ended share.new.tallies ≡ B.ended share.old.tallies }
     {
@@ -206,7 +205,7 @@ impl<'a, B: Bench, G: Gate, W: Wire, M: TimeSource> Context<'a, B, G, W, M> {
         requires at { IsToTake stage.old }
         requires ready { IsReady job.now stage.old }
         requires asked { job.now.turn ≡ None }
-        ensures step { (number : ℕ) → IsStep (worker_view B.changes B.ended B.called B.logged M.is_time M.is_random G.passed G.answered W.called)
+        ensures step { (number : ℕ) → IsStep ⟦<(B, G, W, M) as WorkerParts>⟧.view
             number job.now stage.old stage.new share.old share.new }
         ensures ended { B.ended share.new.tallies ≡ B.ended share.old.tallies }
     {
@@ -236,7 +235,7 @@ impl<'a, B: Bench, G: Gate, W: Wire, M: TimeSource> Context<'a, B, G, W, M> {
     )
         requires at { IsToCommit stage.old }
         requires ready { IsReady job.now stage.old }
-        ensures step { IsStep (worker_view B.changes B.ended B.called B.logged M.is_time M.is_random G.passed G.answered W.called)
+        ensures step { IsStep ⟦<(B, G, W, M) as WorkerParts>⟧.view
             number job.now stage.old stage.new share.old share.new }
         ensures ended { B.ended share.new.tallies ≡ B.ended share.old.tallies }
     {
@@ -275,7 +274,7 @@ impl<'a, B: Bench, G: Gate, W: Wire, M: TimeSource> Context<'a, B, G, W, M> {
         stage: &mut Stage,
         share: &mut ShareOf<B::Tallies, B::Book>,
     )
-        ensures step { (number : ℕ) → IsStep (worker_view B.changes B.ended B.called B.logged M.is_time M.is_random G.passed G.answered W.called)
+        ensures step { (number : ℕ) → IsStep ⟦<(B, G, W, M) as WorkerParts>⟧.view
             number job.now ToInstall stage.new share.old share.new }
         ensures ended { B.ended share.new.tallies ≡ B.ended share.old.tallies }
     {
@@ -305,7 +304,7 @@ impl<'a, B: Bench, G: Gate, W: Wire, M: TimeSource> Context<'a, B, G, W, M> {
         requires accepted { IsAccepted (image_of job.now.ask) program }
         requires runs { IsRunnable program }
         requires judged { judged (image_of job.now.ask) ≡ Accepts program }
-        ensures step { (number : ℕ) → IsStep (worker_view B.changes B.ended B.called B.logged M.is_time M.is_random G.passed G.answered W.called)
+        ensures step { (number : ℕ) → IsStep ⟦<(B, G, W, M) as WorkerParts>⟧.view
             number job.now ToInstall stage.new share.old share.new }
         ensures ended { B.ended share.new.tallies ≡ B.ended share.old.tallies }
     {

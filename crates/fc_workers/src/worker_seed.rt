@@ -1,21 +1,20 @@
 //! Workers: a worker's initial state, and how a worker runs a job.
 ghost use Rattle.std.specs.Prelude.{◌≡◌, ◌+◌, ℕ, true, None, IfOk};
-ghost use Rattle.fc_core.specs.Receiving.{emission_if};
+ghost use Rattle.fc_front.specs.Receiving.{emission_if};
 ghost use Rattle.fc_backend.specs.Answers.{saturated, GoesOut};
-ghost use Rattle.fc_workers.specs.Views.{worker_view};
 ghost use Rattle.fc_workers.specs.Shares.{IsShareOf};
 ghost use Rattle.fc_workers.specs.Steps.{IsReady, IsToAnswer, Walked};
 ghost use Rattle.fc_workers.specs.Work.{IsFinished, IsReplied, IsRequestWorked, IsWorked, IsWorkedTo};
 ghost use Rattle.fc_backend.specs.Statistics.{Share as Done};
 
-use crate::context::Context;
+use crate::context::{Context, WorkerParts};
 use crate::scratch::Scratch;
 use coap_msg::Emission;
 use fc_backend::{Bench, Gate, JobMessage, Share, ShareOf, TimeSource, TrackLog, Wire};
 use fc_jobs::{Got, Jobs};
 use fc_machine::Frame;
 use fc_observe::Turn;
-use fc_registry::Job;
+use fc_ticket::Job;
 use std::alloc::{AllocError, Global};
 use std::sync::Wait;
 
@@ -71,7 +70,7 @@ pub fn worker<B: Bench, G: Gate, W: Wire, M: TimeSource, R: Wait>(
     seat: SeedOf<B::Tallies, B::Book>,
 ) -> ShareOf<B::Tallies, B::Book>
     requires { seat.got.channel ≡ jobs.now }
-    ensures { IsShareOf B.Book.first_job (worker_view B.changes B.ended B.called B.logged M.is_time M.is_random G.passed G.answered W.called) seat result }
+    ensures { IsShareOf B.Book.first_job ⟦<(B, G, W, M) as WorkerParts>⟧.view seat result }
 {
     let WorkerSeed {
         got,
@@ -106,7 +105,7 @@ impl<'a, B: Bench, G: Gate, W: Wire, M: TimeSource> Context<'a, B, G, W, M> {
         job: &Job,
         share: &mut ShareOf<B::Tallies, B::Book>,
     )
-        ensures worked { IsReplied (worker_view B.changes B.ended B.called B.logged M.is_time M.is_random G.passed G.answered W.called)
+        ensures worked { IsReplied ⟦<(B, G, W, M) as WorkerParts>⟧.view
             number job.now share.old share.new }
         ensures ended { B.ended share.new.tallies ≡ saturated (B.ended share.old.tallies + 1) }
         ensures got { share.new.got ≡ share.old.got }
@@ -131,9 +130,9 @@ impl<'a, B: Bench, G: Gate, W: Wire, M: TimeSource> Context<'a, B, G, W, M> {
         requires asked { job.now.turn ≡ None }
         requires ready { IsReady job.now scratch.old.stage }
         ensures worked { (before : Done B.Tallies)
-            → Walked (worker_view B.changes B.ended B.called B.logged M.is_time M.is_random G.passed G.answered W.called)
+            → Walked ⟦<(B, G, W, M) as WorkerParts>⟧.view
             number job.now scratch.old.stage before share.old
-            → IsReplied (worker_view B.changes B.ended B.called B.logged M.is_time M.is_random G.passed G.answered W.called)
+            → IsReplied ⟦<(B, G, W, M) as WorkerParts>⟧.view
             number job.now before share.new }
         ensures ended { B.ended share.new.tallies ≡ saturated (B.ended share.old.tallies + 1) }
     {
@@ -152,7 +151,7 @@ impl<'a, B: Bench, G: Gate, W: Wire, M: TimeSource> Context<'a, B, G, W, M> {
         job: &Job,
         share: &mut ShareOf<B::Tallies, B::Book>,
     ) -> bool
-        ensures worked { IsWorked (worker_view B.changes B.ended B.called B.logged M.is_time M.is_random G.passed G.answered W.called)
+        ensures worked { IsWorked ⟦<(B, G, W, M) as WorkerParts>⟧.view
             number job.now share.old share.new (emission_if result scratch.new.reply) }
         ensures ended { B.ended share.new.tallies ≡ saturated (B.ended share.old.tallies + 1) }
         ensures got { share.new.got ≡ share.old.got }
@@ -178,7 +177,7 @@ impl<'a, B: Bench, G: Gate, W: Wire, M: TimeSource> Context<'a, B, G, W, M> {
         share: &mut ShareOf<B::Tallies, B::Book>,
     ) -> bool
         requires asked { job.now.turn ≡ None }
-        ensures worked { IsRequestWorked (worker_view B.changes B.ended B.called B.logged M.is_time M.is_random G.passed G.answered W.called)
+        ensures worked { IsRequestWorked ⟦<(B, G, W, M) as WorkerParts>⟧.view
             number job.now share.old share.new (emission_if result scratch.new.reply) }
         ensures ended { B.ended share.new.tallies ≡ saturated (B.ended share.old.tallies + 1) }
         ensures got { share.new.got ≡ share.old.got }
@@ -198,9 +197,9 @@ impl<'a, B: Bench, G: Gate, W: Wire, M: TimeSource> Context<'a, B, G, W, M> {
     ) -> bool
         requires { IsToAnswer job.now scratch.old.stage }
         ensures worked { (number : ℕ) (before : Done B.Tallies)
-            → IsWorkedTo (worker_view B.changes B.ended B.called B.logged M.is_time M.is_random G.passed G.answered W.called)
+            → IsWorkedTo ⟦<(B, G, W, M) as WorkerParts>⟧.view
             number job.now scratch.old.stage before share.old
-            → IsRequestWorked (worker_view B.changes B.ended B.called B.logged M.is_time M.is_random G.passed G.answered W.called)
+            → IsRequestWorked ⟦<(B, G, W, M) as WorkerParts>⟧.view
             number job.now before share.new (emission_if result scratch.new.reply) }
         ensures goes_out { result ≡ true → GoesOut scratch.new.reply }
         ensures ended { B.ended share.new.tallies ≡ saturated (B.ended share.old.tallies + 1) }
@@ -230,7 +229,7 @@ impl<'a, B: Bench, G: Gate, W: Wire, M: TimeSource> Context<'a, B, G, W, M> {
         share: &mut ShareOf<B::Tallies, B::Book>,
     )
         requires { replies ≡ true → GoesOut reply.now }
-        ensures finished { IsFinished (worker_view B.changes B.ended B.called B.logged M.is_time M.is_random G.passed G.answered W.called)
+        ensures finished { IsFinished ⟦<(B, G, W, M) as WorkerParts>⟧.view
             number (emission_if replies reply.now) share.old share.new }
         ensures tallies { share.new.tallies ≡ share.old.tallies }
         ensures got { share.new.got ≡ share.old.got }

@@ -1,12 +1,12 @@
 use Rattle.std.proofs.Common.{◌≡◌, ◌⊎◌, ◌∙◌, ℕ, ◌≤◌, Bool, true, false, Option, Some, None, arith, ap, inl, inr, refl, subst, sym}
 use Rattle.std.specs.Prelude.{◌&&◌, if◌then◌else◌, is_none}
-use Rattle.fc_core.specs.Timers.{timer_job}
+use Rattle.fc_front.specs.Timers.{timer_job}
 use Rattle.fc_help.specs.Request.{Request}
 use Rattle.fc_help.specs.declared.request.Method.TheVariants.{Get}
 use Rattle.fc_registry.specs.Calls.{is_post}
-use Rattle.fc_registry.specs.declared.job.Ask.{Ask}
-use Rattle.fc_registry.specs.declared.job.Ask.TheVariants.{Describe, Install, Remove, Run}
-use Rattle.fc_registry.specs.declared.job.Job.{Job}
+use Rattle.fc_ticket.specs.declared.job.Ask.{Ask}
+use Rattle.fc_ticket.specs.declared.job.Ask.TheVariants.{Describe, Install, Remove, Run}
+use Rattle.fc_ticket.specs.declared.job.Job.{Job}
 use Rattle.fc_backend.specs.Called.{FindsSaving}
 use Rattle.fc_workers.specs.Views.{WorkerView, worker_view}
 use Rattle.fc_workers.specs.Dispatch.{HasLeastCost, HasReadCost, IsHeldUp, MayGo, ReadsSlot, may_change_slot, requests_change, unsent}

@@ -1,7 +1,7 @@
 use Rattle.std.proofs.Common.{◌∙◌, ap, subst, sym}
 use Rattle.fc_jobs.specs.Ends.{Got}
 use Rattle.fc_jobs.specs.declared.protocol.Numbered.{Numbered}
-use Rattle.fc_registry.specs.declared.job.Job.{Job}
+use Rattle.fc_ticket.specs.declared.job.Job.{Job}
 use Rattle.fc_backend.specs.Logs.{TrackedLog}
 use Rattle.fc_backend.specs.Messages.{TrackedJob}
 use Rattle.fc_backend.specs.Statistics.{Share}

@@ -1,11 +1,11 @@
 use Rattle.std.proofs.Common.{◌≡◌, ◌∙◌, [], ap, refl, subst, sym}
 use Rattle.fc_machine.specs.Ran.{Ran}
 use Rattle.fc_kinds.specs.Meaning.{Program}
-use Rattle.fc_registry.specs.declared.job.Origin.{Origin}
+use Rattle.fc_ticket.specs.declared.job.Origin.{Origin}
 use Rattle.fc_registry.specs.Calls.{commit_of}
 use Rattle.fc_registry.specs.Changes.{Committed as Wrote}
-use Rattle.fc_registry.specs.Slots.{Ticket}
-use Rattle.fc_registry.specs.Taken.{ticket_with}
+use Rattle.fc_ticket.specs.Tickets.{Ticket}
+use Rattle.fc_ticket.specs.Taken.{ticket_with}
 use Rattle.fc_core.specs.Room.{stage_of}
 use Rattle.fc_core.specs.Stage.{Stage, ToCommit}
 use Rattle.fc_core.specs.declared.stage.Step.TheVariants as steps

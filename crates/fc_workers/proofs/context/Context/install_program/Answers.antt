@@ -1,8 +1,8 @@
 use Rattle.std.proofs.Common.{◌∙◌, ap, inl, inr, refl, subst}
 use Rattle.fc_kinds.specs.Meaning.{Program}
-use Rattle.fc_registry.specs.Calls.{initial_vars_of}
+use Rattle.fc_ticket.specs.Runs.{initial_vars_of}
 use Rattle.fc_registry.specs.Changes.{Installed}
-use Rattle.fc_registry.specs.declared.receipt.Receipt.{Receipt}
+use Rattle.fc_ticket.specs.declared.receipt.Receipt.{Receipt}
 use Rattle.fc_core.specs.Fits.{IsSafe}
 use Rattle.fc_core.specs.Stages.{image_of, made}
 use Rattle.fc_backend.specs.Answers.{IsSomeInstall}

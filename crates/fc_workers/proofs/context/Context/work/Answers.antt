@@ -1,5 +1,5 @@
 use Rattle.std.proofs.Common.{Bool, ap}
-use Rattle.fc_core.specs.Receiving.{emission_if}
+use Rattle.fc_front.specs.Receiving.{emission_if}
 use Rattle.fc_workers.specs.Views.{worker_view}
 use Rattle.fc_workers.proofs.Replies.{goes_out}
 use Rattle.fc_workers.proofs.context.Context.work.Goals as goal

@@ -1,5 +1,5 @@
 use Rattle.std.proofs.Common.{ℕ, Option, subst, sym}
-use Rattle.fc_core.specs.Receiving.{emission_if}
+use Rattle.fc_front.specs.Receiving.{emission_if}
 use Rattle.fc_workers.specs.Views.{worker_view}
 use Rattle.fc_workers.specs.Work.{IsWorkedAs}
 use Rattle.fc_workers.proofs.context.Context.work_begun.Goals as goal

@@ -2,7 +2,7 @@ use Rattle.std.proofs.Common.{◌≡◌, ◌∙◌, ◌<◌, ℕ, ap, if◌then�
 use Rattle.std.specs.Prelude.{nat_lt}
 use Rattle.fc_core.specs.Room.{stage_of}
 use Rattle.fc_core.specs.Stage.{Stage, ToAnswer, ToDescribe, ToInstall, ToList, ToMatch, ToRaise, ToRemove}
-use Rattle.fc_core.specs.Contents.{Listed}
+use Rattle.fc_front.specs.Contents.{Listed}
 use Rattle.fc_core.specs.Stages.{after_list, word_raised}
 use Rattle.fc_core.specs.declared.stage.Step.{Step}
 use Rattle.fc_core.specs.declared.stage.Step.TheVariants as steps

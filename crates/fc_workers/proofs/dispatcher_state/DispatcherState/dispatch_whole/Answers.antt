@@ -1,6 +1,6 @@
 use Rattle.std.proofs.Common.{◌≡◌, ◌∙◌, ◌+◌, ℕ, Bool, false, true, ap, inr, subst, sym}
 use Rattle.std.specs.Prelude.{MatchBool}
-use Rattle.fc_registry.specs.declared.job.Job.{Job}
+use Rattle.fc_ticket.specs.declared.job.Job.{Job}
 use Rattle.fc_backend.specs.Answers.{saturated}
 use Rattle.fc_workers.specs.Views.{worker_view}
 use Rattle.fc_workers.specs.Dispatch.{IsSentOrWorked, MayGo, MayHaveReadCost, least_cost, logged_at, unsent}

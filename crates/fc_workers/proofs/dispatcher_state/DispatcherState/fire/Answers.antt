@@ -1,5 +1,5 @@
 use Rattle.std.proofs.Common.{◌≡◌, ◌<◌, ◌≤◌, length, arith, subst, sym}
-use Rattle.fc_registry.specs.declared.job.Job.{Job}
+use Rattle.fc_ticket.specs.declared.job.Job.{Job}
 use Rattle.fc_workers.specs.Views.{worker_view}
 use Rattle.fc_workers.specs.Dispatch.{IsHandedOver, IsWorkedHere, WithNext, logged_at}
 use Rattle.fc_workers.specs.Producing.{HasProduced}

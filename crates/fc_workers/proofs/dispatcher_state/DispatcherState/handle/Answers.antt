@@ -1,5 +1,5 @@
 use Rattle.std.proofs.Common.{refl}
-use Rattle.fc_core.specs.declared.by_value.Delivered.TheVariants as deliveries
+use Rattle.fc_front.specs.declared.by_value.Delivered.TheVariants as deliveries
 use Rattle.fc_workers.specs.Views.{worker_view}
 use Rattle.fc_workers.proofs.Handled.{delivered, may_handle}
 use Rattle.fc_workers.proofs.dispatcher_state.DispatcherState.handle.Goals as goal
