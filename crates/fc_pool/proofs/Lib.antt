@@ -1,3 +1,4 @@
 mod Pools
 pub mod OneDispatcher
 mod Seats
+mod Recorded

@@ -38,10 +38,13 @@
 //!   say that they are those of the started threads, nor that a sent job is received.
 //! - **Replies** are counted and added exactly, up to 2^64 - 1: those of each worker's jobs and of
 //!   the dispatcher's own.
+//! - **Records**: a worker records each change that it has answered, once, right after the answer.
+//!   A change is a job that installs or removes a program. No other job is recorded.
 //!
-//! By the contracts of `run_pool`, `no_store`, `Replies`, `SentReplies`.
+//! By the contracts of `run_pool`, `no_store`, `Replies`, `SentReplies`, `laws`.
 #![tactic(auto)]
 
+pub mod laws;
 pub mod pool;
 pub mod replies;
 

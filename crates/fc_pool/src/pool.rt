@@ -10,7 +10,6 @@ ghost use Rattle.fc_pool.specs.Counting.{both_replies, replies_by, replies_of};
 ghost use Rattle.fc_server.specs.Ingresses.{IngressCalls};
 ghost use Rattle.fc_store.specs.Stored.{blank_slot};
 ghost use Rattle.fc_pool.specs.Pooled.{DrivesTo, IsFed, IsFedBeside, offload_where, locked_view, open_view, pooled_calls};
-ghost use Rattle.fc_workers.specs.Views.{worker_view};
 ghost use Rattle.fc_locked.specs.Closing.{HasCountedAll};
 ghost use Rattle.fc_locked.specs.Naming.{AreNamed};
 ghost use Rattle.fc_locked.specs.LegalOrder.{HaveSavedLegalOrder};
@@ -26,16 +25,17 @@ use coap_msg::{Emission, Endpoint};
 use fc_backend::{
     Bench, CallLog, Device, Gate, JobKeys, JobMessage, Share, ShareOf, TimeSource, TrackLog, Wire,
 };
-use fc_core::{FrontGauges, Handled};
 use fc_filed::NewServerBook;
+use fc_front::{FrontGauges, Handled};
 use fc_locked::{Blanks, Books, ClosedServer, Locked, ReadyStore, ServerOf, Tallies, Unassigned};
 use fc_observe::Ticked;
 use fc_record::{Recorder, RecordingGate};
-use fc_registry::{PLACES, SlotNumber};
+use fc_registry::PLACES;
 use fc_server::engine::{FireOutcome, NotifyOutcome};
 use fc_server::{FirstServer, Ingress};
 use fc_store::{NoStore, Store};
-use fc_workers::{Context, Dispatcher, Offload, drive_workers, make_seats};
+use fc_ticket::SlotNumber;
+use fc_workers::{Context, Dispatcher, Offload, WorkerParts, drive_workers, make_seats};
 use std::alloc::{AllocError, Global};
 use std::io::Write;
 use std::marker::{Brand, Model};
@@ -103,7 +103,7 @@ impl<'a, 'b, R: Wait, B: Bench, G: Gate, W: Wire, M: TimeSource> PooledIngress<
 
 impl<'a, 'b, R: Wait, B: Bench, G: Gate, W: Wire, M: TimeSource> Ingress
     for PooledIngress<'a, 'b, R, B, G, W, M> {
-    ghost calls = { pooled_calls (worker_view B.changes B.ended B.called B.logged M.is_time M.is_random G.passed G.answered W.called) };
+    ghost calls = { pooled_calls ⟦<(B, G, W, M) as WorkerParts>⟧.view };
 
     // Counts the job that a datagram produced.
     fn handle(&mut self, now: u64, from: Endpoint, bytes: &[u8], reply: &mut Emission) -> Handled {
