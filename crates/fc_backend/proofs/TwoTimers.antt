@@ -4,7 +4,7 @@ use Rattle.std.proofs.lemmas.List.Elements.{All-cons, All-nil}
 use Rattle.fc_book.specs.declared.view.BookView.{BookView}
 use Rattle.fc_book.specs.Tracks.{HasKey, entries_at, entries_of, own_view, track}
 use Rattle.fc_core.specs.Stage.{ToTake}
-use Rattle.fc_core.specs.Timers.{timer_job}
+use Rattle.fc_front.specs.Timers.{timer_job}
 use Rattle.fc_linear.specs.Parts.{HaveNextNumbers, bringing}
 use Rattle.fc_filed.specs.Books.{IsRightForJob}
 use Rattle.fc_filed.specs.Entries.{log_of}

@@ -4,37 +4,38 @@
 use Rattle.std.specs.Prelude.{◌≡◌, ◌⊎◌, ℕ, ◌+◌, ◌%◌, ◌<◌, ◌==◌, if◌then◌else◌, Bool, List, Option, Some, None, max, min}
 use Rattle.coap_msg.specs.declared.types.Emission.{Emission}
 use Rattle.coap_msg.specs.declared.types.Endpoint.{Endpoint}
-use Rattle.fc_core.specs.declared.by_value.Answered.{Answered}
-use Rattle.fc_core.specs.declared.by_value.Delivered.{Delivered}
-use Rattle.fc_core.specs.Answering.{AnswersIn, emission_of}
-use Rattle.fc_core.specs.Contents.{Content}
-use Rattle.fc_core.specs.Exchanges.{FrontState, advanced}
-use Rattle.fc_core.specs.Ids.{free_id}
-use Rattle.fc_core.specs.Receiving.{delivered}
+use Rattle.fc_front.specs.declared.by_value.Answered.{Answered}
+use Rattle.fc_front.specs.declared.by_value.Delivered.{Delivered}
+use Rattle.fc_front.specs.Answering.{AnswersIn, emission_of}
+use Rattle.fc_front.specs.Contents.{Content}
+use Rattle.fc_front.specs.Exchanges.{FrontState, advanced}
+use Rattle.fc_front.specs.Ids.{free_id}
+use Rattle.fc_front.specs.Receiving.{delivered}
 use Rattle.fc_kinds.specs.Meaning.{Program}
 use Rattle.fc_machine.specs.Ran.{Ran}
 use Rattle.fc_observe.specs.declared.entry.Turn.{Turn}
 use Rattle.fc_observe.specs.declared.observers.Ticked.{Ticked}
 use Rattle.fc_observe.specs.Observers.{ObserverList}
-use Rattle.fc_registry.specs.declared.job.Job.{Job}
-use Rattle.fc_registry.specs.declared.job.InitialVars.{InitialVars}
-use Rattle.fc_registry.specs.Taken.{Taken}
-use Rattle.fc_registry.specs.Taken.{Refused, Stale}
+use Rattle.fc_ticket.specs.declared.job.Job.{Job}
+use Rattle.fc_ticket.specs.declared.job.InitialVars.{InitialVars}
+use Rattle.fc_ticket.specs.Taken.{Taken}
+use Rattle.fc_ticket.specs.Taken.{Refused, Stale}
 use Rattle.fc_registry.specs.declared.shard.Made.{Made}
 use Rattle.fc_registry.specs.declared.commit.Committed.{Committed}
 use Rattle.fc_registry.specs.declared.commit.Committed.TheVariants.{Overtaken}
-use Rattle.fc_registry.specs.declared.note.Noted.{Noted}
-use Rattle.fc_registry.specs.declared.note.Notification.{Notification}
-use Rattle.fc_registry.specs.Notes.{IsNoted}
-use Rattle.fc_registry.specs.Slots.{Shard, Slot, Ticket}
+use Rattle.fc_ticket.specs.declared.note.Noted.{Noted}
+use Rattle.fc_ticket.specs.declared.note.Notification.{Notification}
+use Rattle.fc_ticket.specs.Notes.{IsNoted}
+use Rattle.fc_registry.specs.Slots.{Shard, Slot}
+use Rattle.fc_ticket.specs.Tickets.{Ticket}
 use Rattle.fc_registry.specs.Turns.{due_job}
 use Rattle.fc_registry.specs.Watches.{due_place, at_time, is_idle, overdue_place, ticked_in}
-use Rattle.fc_registry.specs.declared.receipt.Receipt.{Receipt}
+use Rattle.fc_ticket.specs.declared.receipt.Receipt.{Receipt}
 use Rattle.fc_registry.specs.declared.shard.Removal.{Removal}
 use Rattle.fc_registry.specs.Calls.{IsSnapshot, IsCommit, install_in, receipt_at, remove_from}
 use Rattle.fc_backend.specs.Logs.{TrackedLog}
 use Rattle.fc_calls.specs.Logged.{GivesReadings, LoggedCall, TakesForJob}
-use Rattle.fc_registry.specs.declared.note.Noted.TheVariants.{Send}
+use Rattle.fc_ticket.specs.declared.note.Noted.TheVariants.{Send}
 
 -- the result of a delivery at this time to some front.
 pub record IsSomeDelivery (now : ℕ) (to : Endpoint) (bytes : List ℕ) (brings : Delivered) : Type 0 where

@@ -3,7 +3,7 @@
 use Rattle.std.specs.Prelude.{ℕ, Bool, List}
 use Rattle.coap_msg.specs.declared.types.Emission.{Emission}
 use Rattle.fc_registry.specs.Changes.{Change}
-use Rattle.fc_core.specs.declared.gauges.FrontGauges.{FrontGauges}
+use Rattle.fc_front.specs.declared.gauges.FrontGauges.{FrontGauges}
 
 -- a call of a backend that changes nothing, and is in no log. It is known that the call was made,
 -- but not how often or when.

@@ -1,12 +1,13 @@
 //! The backend: a server's shared parts, as workers call them.
 ghost use Rattle.std.specs.Prelude.{◌≡◌, ℕ, ◌+◌, ◌<◌, ◌≤◌, [], max, true, ⊤, None, Some, IfErr, IfOk, IfSome, MatchBool};
-ghost use Rattle.fc_core.specs.Timers.{timer_job};
-ghost use Rattle.fc_core.specs.Contents.{IsOf};
+ghost use Rattle.fc_front.specs.Timers.{timer_job};
+ghost use Rattle.fc_front.specs.Contents.{IsOf};
 ghost use Rattle.fc_core.specs.Stages.{image_of};
-ghost use Rattle.fc_core.specs.Receiving.{emission_if, handled};
-ghost use Rattle.fc_registry.specs.Calls.{commit_of, initial_vars_of, wants};
+ghost use Rattle.fc_front.specs.Receiving.{emission_if, handled};
+ghost use Rattle.fc_registry.specs.Calls.{commit_of, wants};
+ghost use Rattle.fc_ticket.specs.Runs.{initial_vars_of};
 ghost use Rattle.fc_registry.specs.Changes.{Committed as Wrote, Installed, Removed};
-ghost use Rattle.fc_registry.specs.Notes.{noted_as};
+ghost use Rattle.fc_ticket.specs.Notes.{noted_as};
 ghost use Rattle.fc_registry.specs.Turns.{written_if};
 ghost use Rattle.fc_registry.specs.Views.{HasSize, taken_with};
 ghost use Rattle.fc_filed.specs.Parts.{IsCheap};
@@ -24,15 +25,13 @@ ghost use Rattle.fc_calls.specs.Kept.{commit_changes, install_changes, removal_c
 
 use crate::track_log::TrackLog;
 use coap_msg::{Emission, Endpoint};
-use fc_core::{Answer, FrontGauges, Handled};
 use fc_filed::{ServerBook, ServerName};
+use fc_front::{Answer, FrontGauges, Handled};
 use fc_help::Readings;
 use fc_machine::Outcome;
 use fc_observe::{Ticked, Turn};
-use fc_registry::{
-    Committed, Job, Made, NoteOutcome, Notification, PLACES, Receipt, Removal, SlotNumber,
-    SlotSnapshot, Taken, Ticket,
-};
+use fc_registry::{Committed, Made, PLACES, Removal, Taken};
+use fc_ticket::{Job, NoteOutcome, Notification, Receipt, SlotNumber, SlotSnapshot, Ticket};
 use fc_verify::Verified;
 use std::sync::{Arc, Wait};
 

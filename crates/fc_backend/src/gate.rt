@@ -1,13 +1,13 @@
 //! The hooks of workers.
 ghost use Rattle.std.specs.Prelude.{⊤, ℕ, Option};
 ghost use Rattle.coap_msg.specs.declared.types.Emission.{Emission as Emitted};
-ghost use Rattle.fc_core.specs.Receiving.{emission_if};
-ghost use Rattle.fc_registry.specs.declared.job.Job.{Job as Asked};
+ghost use Rattle.fc_front.specs.Receiving.{emission_if};
+ghost use Rattle.fc_ticket.specs.declared.job.Job.{Job as Asked};
 ghost use Rattle.fc_backend.specs.declared.call_log.CallLog.{CallLog as Log};
 
 use crate::call_log::CallLog;
 use coap_msg::Emission;
-use fc_registry::Job;
+use fc_ticket::Job;
 use std::sync::Wait;
 
 /// The hooks of a worker: between snapshot and commit, and after an answer.

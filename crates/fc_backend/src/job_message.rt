@@ -1,6 +1,6 @@
 //! The message by which a worker receives a job.
 use fc_filed::{ServerName, ServerTracks};
-use fc_registry::Job;
+use fc_ticket::Job;
 use std::marker::Model;
 
 /// A job that is sent to a worker, with the job's track in the server's book.

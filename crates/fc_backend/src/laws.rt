@@ -5,7 +5,7 @@ ghost use Rattle.std.specs.Prelude.{◌≡◌, ◌<◌, ◌≤◌, ℕ, false, [
 ghost use Rattle.fc_calls.specs.Logged.{LoggedCall};
 ghost use Rattle.fc_filed.specs.Threads.{known_word};
 ghost use Rattle.fc_filed.specs.declared.entry.FiledEntry.{FiledEntry};
-ghost use Rattle.fc_core.specs.Timers.{timer_job};
+ghost use Rattle.fc_front.specs.Timers.{timer_job};
 ghost use Rattle.fc_book.specs.Tracks.{own_view, track};
 ghost use Rattle.fc_filed.specs.Books.{IsRightForJob};
 ghost use Rattle.fc_backend.specs.declared.call_log.CallLog.{CallLog};

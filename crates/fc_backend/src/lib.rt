@@ -15,7 +15,7 @@
 //! ```rust
 //! use coap_msg::Emission;
 //! use fc_backend::{CallLog, Gate};
-//! use fc_registry::Job;
+//! use fc_ticket::Job;
 //! use std::sync::Wait;
 //!
 //! /// Hooks that do nothing.

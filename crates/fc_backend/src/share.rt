@@ -1,6 +1,6 @@
 //! The statistics of a worker.
 ghost use Rattle.std.specs.Prelude.{◌≡◌, ◌+◌, if◌then◌else◌};
-ghost use Rattle.fc_registry.specs.Taken.{SlotSnapshot};
+ghost use Rattle.fc_ticket.specs.Taken.{SlotSnapshot};
 ghost use Rattle.fc_registry.specs.Views.{taken_with};
 ghost use Rattle.fc_backend.specs.Answers.{commit_overtakings, saturated, snapshot_refusals};
 ghost use Rattle.fc_backend.specs.Statistics.{new_share};

@@ -12,7 +12,7 @@ use crate::call_log::CallLog;
 use crate::job_keys::JobKeys;
 use crate::job_message::JobMessage;
 use fc_filed::{ServerBook, ServerName, ServerTracks};
-use fc_registry::{Job, SlotNumber};
+use fc_ticket::{Job, SlotNumber};
 use std::alloc::{AllocError, Global};
 use std::marker::{Model, PhantomData};
 

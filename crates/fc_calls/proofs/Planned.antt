@@ -10,16 +10,18 @@ use Rattle.fc_registry.specs.declared.commit.CommitOutcome.{CommitOutcome}
 use Rattle.fc_registry.specs.declared.commit.CommitOutcome.TheVariants.{Writes, Keeps, Overtakes, Ends}
 use Rattle.fc_registry.specs.declared.commit.Committed.{Committed}
 use Rattle.fc_registry.specs.declared.commit.Committed.TheVariants.{Done, Overtaken, Ended, Stranger}
-use Rattle.fc_registry.specs.declared.job.InitialVars.{InitialVars}
-use Rattle.fc_registry.specs.declared.job.Job.{Job}
+use Rattle.fc_ticket.specs.declared.job.InitialVars.{InitialVars}
+use Rattle.fc_ticket.specs.declared.job.Job.{Job}
 use Rattle.fc_registry.specs.declared.shard.Made.{Made}
 use Rattle.fc_registry.specs.declared.shard.Removal.{Removal}
-use Rattle.fc_registry.specs.Calls.{ComesTo, CommitsTo, IsCommit, IsOwn, IsOwnCommit, WouldWrite, clear_by, commit_of, commits, initial_vars_of, put_by, wants, wants_by}
+use Rattle.fc_registry.specs.Calls.{ComesTo, CommitsTo, IsCommit, IsOwn, IsOwnCommit, WouldWrite, clear_by, commit_of, commits, put_by, wants, wants_by}
+use Rattle.fc_ticket.specs.Runs.{initial_vars_of}
 use Rattle.fc_registry.specs.Changes.{Change, Committed as Wrote, Removed, after_changes}
 use Rattle.fc_registry.specs.Changes as changes
 use Rattle.fc_registry.specs.Plans.{HasImage, IsPlanned, IsUpdateOf}
-use Rattle.fc_registry.specs.Slots.{Present, Shard, Slot, Ticket, last_serial, slot_in}
-use Rattle.fc_registry.proofs.Outcomes.{own_run}
+use Rattle.fc_ticket.specs.Tickets.{Present, Ticket}
+use Rattle.fc_registry.specs.Slots.{Shard, Slot, last_serial, slot_in}
+use Rattle.fc_ticket.proofs.OwnRuns.{own_run}
 use Rattle.fc_store.specs.declared.store.ProgramUpdate.{ProgramUpdate}
 use Rattle.fc_store.specs.declared.store.ProgramUpdate.TheVariants as saves
 use Rattle.fc_store.specs.declared.store.SlotUpdate.{SlotUpdate}

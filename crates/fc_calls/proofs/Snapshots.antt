@@ -1,9 +1,9 @@
 -- The snapshot of a request changes nothing.
 use Rattle.std.proofs.Common.{◌≡◌, ◌∙◌, ℕ, ◌/◌, List, Option, None, ap}
-use Rattle.fc_registry.specs.declared.job.Job.{Job}
+use Rattle.fc_ticket.specs.declared.job.Job.{Job}
 use Rattle.fc_registry.specs.Calls.{after_snapshot, snapshot_calls_by}
 use Rattle.fc_registry.specs.Slots.{Shard, slot_in}
-use Rattle.fc_registry.specs.Taken.{Taken}
+use Rattle.fc_ticket.specs.Taken.{Taken}
 use Rattle.fc_registry.specs.Watches.{watch_at, with_calls}
 use Rattle.fc_calls.specs.Doings.{TakesTo}
 

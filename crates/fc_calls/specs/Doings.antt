@@ -3,34 +3,36 @@
 use Rattle.std.specs.Prelude.{◌≡◌, ℕ, Bool, false, if◌then◌else◌, List, Option, Some, None}
 use Rattle.coap_msg.specs.declared.types.Emission.{Emission}
 use Rattle.coap_msg.specs.declared.types.Endpoint.{Endpoint}
-use Rattle.fc_core.specs.declared.by_value.Answered.{Answered}
-use Rattle.fc_core.specs.declared.by_value.Delivered.{Delivered}
-use Rattle.fc_core.specs.Answering.{AnswersIn, after_answered, emission_of}
-use Rattle.fc_core.specs.Contents.{Content}
-use Rattle.fc_core.specs.Exchanges.{FrontState, advanced}
-use Rattle.fc_core.specs.Gauges.{gauges_at}
-use Rattle.fc_core.specs.declared.gauges.FrontGauges.{FrontGauges}
-use Rattle.fc_core.specs.Ids.{drawn_for, free_id}
-use Rattle.fc_core.specs.Receiving.{after_delivered, delivered}
+use Rattle.fc_front.specs.declared.by_value.Answered.{Answered}
+use Rattle.fc_front.specs.declared.by_value.Delivered.{Delivered}
+use Rattle.fc_front.specs.Answering.{AnswersIn, after_answered, emission_of}
+use Rattle.fc_front.specs.Contents.{Content}
+use Rattle.fc_front.specs.Exchanges.{FrontState, advanced}
+use Rattle.fc_front.specs.Gauges.{gauges_at}
+use Rattle.fc_front.specs.declared.gauges.FrontGauges.{FrontGauges}
+use Rattle.fc_front.specs.Ids.{drawn_for, free_id}
+use Rattle.fc_front.specs.Receiving.{after_delivered, delivered}
 use Rattle.fc_kinds.specs.Meaning.{Program}
 use Rattle.fc_machine.specs.Ran.{Ran}
 use Rattle.fc_observe.specs.declared.entry.Turn.{Turn}
 use Rattle.fc_observe.specs.declared.observers.Ticked.{Ticked}
 use Rattle.fc_registry.specs.declared.commit.Committed.{Committed}
-use Rattle.fc_registry.specs.declared.job.Job.{Job}
-use Rattle.fc_registry.specs.declared.note.Noted.{Noted}
-use Rattle.fc_registry.specs.declared.note.Notification.{Notification}
-use Rattle.fc_registry.specs.declared.note.Notification.TheVariants as tells
-use Rattle.fc_registry.specs.declared.receipt.Receipt.{Receipt}
+use Rattle.fc_ticket.specs.declared.job.Job.{Job}
+use Rattle.fc_ticket.specs.declared.note.Noted.{Noted}
+use Rattle.fc_ticket.specs.declared.note.Notification.{Notification}
+use Rattle.fc_ticket.specs.declared.note.Notification.TheVariants as tells
+use Rattle.fc_ticket.specs.declared.receipt.Receipt.{Receipt}
 use Rattle.fc_registry.specs.declared.shard.Made.{Made}
 use Rattle.fc_registry.specs.declared.shard.Removal.{Removal}
-use Rattle.fc_registry.specs.Taken.{SlotSnapshot, Taken}
+use Rattle.fc_ticket.specs.Taken.{SlotSnapshot, Taken}
 use Rattle.fc_registry.specs.Views.{HasSize, taken_with}
 use Rattle.fc_registry.specs.declared.shard.Taken as handles
-use Rattle.fc_registry.specs.Calls.{CommitsTo, TakesAt, after_snapshot, install_in, receipt_at, remove_from, run_of, initial_vars_of}
+use Rattle.fc_registry.specs.Calls.{CommitsTo, TakesAt, after_snapshot, install_in, receipt_at, remove_from}
+use Rattle.fc_ticket.specs.Runs.{run_of, initial_vars_of}
 use Rattle.fc_registry.specs.Changes.{after_changes}
-use Rattle.fc_registry.specs.Notes.{NotesTo}
-use Rattle.fc_registry.specs.Slots.{Present, Shard, Ticket, slot_in, with_slot}
+use Rattle.fc_registry.specs.Calls.{NotesTo}
+use Rattle.fc_ticket.specs.Tickets.{Present, Ticket}
+use Rattle.fc_registry.specs.Slots.{Shard, slot_in, with_slot}
 use Rattle.fc_registry.specs.Turns.{due_job}
 use Rattle.fc_registry.specs.Watches.{StaysIdleUntil, after_due, after_given_up, shard_after_tick, due_place, at_time, is_idle, observer_counts, overdue_place, signal_call, signalled, ticked_in}
 

@@ -2,21 +2,21 @@
 use Rattle.std.specs.Prelude.{ℕ, Bool, List, Option}
 use Rattle.coap_msg.specs.declared.types.Emission.{Emission}
 use Rattle.coap_msg.specs.declared.types.Endpoint.{Endpoint}
-use Rattle.fc_core.specs.declared.by_value.Delivered.{Delivered}
-use Rattle.fc_core.specs.Contents.{Content}
+use Rattle.fc_front.specs.declared.by_value.Delivered.{Delivered}
+use Rattle.fc_front.specs.Contents.{Content}
 use Rattle.fc_kinds.specs.Meaning.{Program}
 use Rattle.fc_machine.specs.Ran.{Ran}
 use Rattle.fc_observe.specs.declared.entry.Turn.{Turn}
 use Rattle.fc_observe.specs.declared.observers.Ticked.{Ticked}
 use Rattle.fc_registry.specs.declared.commit.Committed.{Committed}
-use Rattle.fc_registry.specs.declared.job.Job.{Job}
-use Rattle.fc_registry.specs.declared.note.Noted.{Noted}
-use Rattle.fc_registry.specs.declared.note.Notification.{Notification}
-use Rattle.fc_registry.specs.declared.receipt.Receipt.{Receipt}
+use Rattle.fc_ticket.specs.declared.job.Job.{Job}
+use Rattle.fc_ticket.specs.declared.note.Noted.{Noted}
+use Rattle.fc_ticket.specs.declared.note.Notification.{Notification}
+use Rattle.fc_ticket.specs.declared.receipt.Receipt.{Receipt}
 use Rattle.fc_registry.specs.declared.shard.Made.{Made}
 use Rattle.fc_registry.specs.declared.shard.Removal.{Removal}
-use Rattle.fc_registry.specs.Taken.{Taken}
-use Rattle.fc_registry.specs.Slots.{Ticket}
+use Rattle.fc_ticket.specs.Taken.{Taken}
+use Rattle.fc_ticket.specs.Tickets.{Ticket}
 
 -- a call that may change something, or whose result is soon out of date.
 pub data LoggedCall : Type 0 where

@@ -5,9 +5,10 @@
 ghost use Rattle.std.specs.Prelude.{◌≡◌, ℕ, ◌+◌, ◌<◌, ⊤, if◌then◌else◌, List, [], ◌∷◌, true, is_some, IfSome};
 ghost use Rattle.fc_verify.specs.Accepted.{Accepts};
 ghost use Rattle.fc_verify.specs.Judged.{judged};
-ghost use Rattle.fc_registry.specs.Calls.{commit_of, initial_vars_of, wants};
+ghost use Rattle.fc_registry.specs.Calls.{commit_of, wants};
+ghost use Rattle.fc_ticket.specs.Runs.{initial_vars_of};
 ghost use Rattle.fc_registry.specs.Changes.{Change as SlotChange, Committed as Commits, Installed, Removed};
-ghost use Rattle.fc_registry.specs.Notes.{noted_as};
+ghost use Rattle.fc_ticket.specs.Notes.{noted_as};
 ghost use Rattle.fc_registry.specs.Plans.{IsPlanned, SavesImage};
 ghost use Rattle.fc_registry.specs.Slots.{IsOwned, Shard as Seen, slot_in};
 ghost use Rattle.fc_registry.specs.Turns.{written_if};
@@ -23,10 +24,10 @@ use fc_help::Readings;
 use fc_machine::Outcome;
 use fc_observe::{Ticked, Turn};
 use fc_registry::{
-    Committed, Job, Made, NoteOutcome, Notification, PLACES, Receipt, Removal, Shard, SlotNumber,
-    SlotSnapshot, Taken, Ticket, plan_commit, plan_install, plan_removal,
+    Committed, Made, PLACES, Removal, Shard, Taken, plan_commit, plan_install, plan_removal,
 };
 use fc_store::SlotUpdate;
+use fc_ticket::{Job, NoteOutcome, Notification, Receipt, SlotNumber, SlotSnapshot, Ticket};
 use fc_verify::Verified;
 use std::sync::Arc;
 

@@ -5,11 +5,13 @@ use Rattle.std.proofs.Common.{◌≡◌, ℕ, Bool, true, false, Option, Some, N
 use Rattle.std.specs.Prelude.{◌==◌, not}
 use Rattle.arrayvec.specs.ArrayVec.{ArrayVec}
 use Rattle.fc_observe.specs.declared.entry.Turn.{Turn}
-use Rattle.fc_registry.specs.declared.job.Job.{Job}
+use Rattle.fc_ticket.specs.declared.job.Job.{Job}
 use Rattle.fc_registry.specs.Changes.{Change}
 use Rattle.fc_registry.specs.declared.commit.CommitOutcome.{CommitOutcome}
-use Rattle.fc_registry.specs.Calls.{commit_calls, commits, is_out_at, outcome, readings_if, receipt_at, remove_from, snapshot, turn_snapshot, initial_vars_of, wants}
-use Rattle.fc_registry.specs.Slots.{Slot, Ticket}
+use Rattle.fc_registry.specs.Calls.{commit_calls, commits, is_out_at, outcome, readings_if, receipt_at, remove_from, snapshot, turn_snapshot, wants}
+use Rattle.fc_ticket.specs.Runs.{initial_vars_of}
+use Rattle.fc_registry.specs.Slots.{Slot}
+use Rattle.fc_ticket.specs.Tickets.{Ticket}
 use Rattle.fc_verify.specs.Judged.{judged}
 use Rattle.fc_core.specs.declared.event.Event.{Event}
 use Rattle.fc_core.specs.declared.event.Event.TheVariants.{Peek, Take, Commit, Install, Remove, Refuse, Receipt, Raise, Answer, Fresh, Note, GiveUp, Lose}
@@ -17,10 +19,10 @@ use Rattle.fc_core.specs.Stage.{Stage}
 use Rattle.fc_core.specs.Stage.{ToMatch, ToTake, ToCommit, ToInstall, ToRemove, ToDescribe, ToList, ToRaise, ToAnswer, ToTell}
 use Rattle.fc_core.specs.TurnStage.{TurnStage}
 use Rattle.fc_core.specs.TurnStage as turns
-use Rattle.fc_core.specs.Contents.{Content}
+use Rattle.fc_front.specs.Contents.{Content}
 use Rattle.fc_core.specs.AnswerLaws.{transition_time}
 use Rattle.fc_core.specs.Laws.{gives, is_answered, is_noop_at}
-use Rattle.fc_core.specs.Heads.{word_at}
+use Rattle.fc_front.specs.Heads.{word_at}
 use Rattle.fc_core.specs.Transitions.{Around, Effect, Inputs, call_if, install_if, effect_of, goes_to, names, transition, call_at}
 use Rattle.fc_core.specs.Stages.{after_commit, image_of}
 use Rattle.fc_core.specs.Steps.{Call, changes_of_call}

@@ -18,13 +18,16 @@ use Rattle.fc_observe.specs.Views.{interest_of}
 use Rattle.fc_observe.proofs.Keeping.{IfRegisters, all_after}
 use Rattle.fc_registry.specs.declared.commit.CommitOutcome.{CommitOutcome}
 use Rattle.fc_registry.specs.declared.commit.CommitOutcome.TheVariants.{Writes, Keeps, Overtakes, Ends}
-use Rattle.fc_registry.specs.declared.job.Ask.{Ask}
-use Rattle.fc_registry.specs.declared.job.Ask.TheVariants.{Run}
-use Rattle.fc_registry.specs.declared.job.Job.{Job}
-use Rattle.fc_registry.specs.declared.job.InitialVars.{InitialVars}
-use Rattle.fc_registry.specs.Calls.{is_cancellation, observe_calls, observe_calls_by, outcome, is_registration, request_of, is_out_at, mark_missing_calls, turn_calls, initial_vars_of}
-use Rattle.fc_registry.specs.Notes.{keeps_observer, note_at, note_calls, serial_told, told_call}
-use Rattle.fc_registry.specs.Slots.{Present, Slot, Ticket}
+use Rattle.fc_ticket.specs.declared.job.Ask.{Ask}
+use Rattle.fc_ticket.specs.declared.job.Ask.TheVariants.{Run}
+use Rattle.fc_ticket.specs.declared.job.Job.{Job}
+use Rattle.fc_ticket.specs.declared.job.InitialVars.{InitialVars}
+use Rattle.fc_ticket.specs.Registrations.{is_cancellation, observe_calls, observe_calls_by, is_registration}
+use Rattle.fc_registry.specs.Calls.{outcome, is_out_at, mark_missing_calls, turn_calls}
+use Rattle.fc_ticket.specs.Runs.{request_of, initial_vars_of}
+use Rattle.fc_ticket.specs.Notes.{keeps_observer, note_at, note_calls, serial_told, told_call}
+use Rattle.fc_ticket.specs.Tickets.{Present, Ticket}
+use Rattle.fc_registry.specs.Slots.{Slot}
 use Rattle.fc_registry.specs.Turns.{job_of_turn, turn_given_to, turn_job}
 use Rattle.fc_registry.specs.Watches.{place_from, signal_call}
 use Rattle.fc_verify.specs.Accepted.{Judgement, Accepts, Breaks, Untypable}
@@ -36,7 +39,7 @@ use Rattle.fc_core.specs.Stage.{ToCommit, ToInstall, ToTell}
 use Rattle.fc_core.specs.TurnStage as turns
 use Rattle.fc_core.specs.Fits.{FitsStage}
 use Rattle.fc_core.specs.History.{AtShard, AsksTurn, Signals, Ticks, Calm, Seen, around, at_shard, calls_by, calls_named, due_in, is_due_at, is_place_of, job, overdue_in, inputs, slot_at, stage, turn_at, watch}
-use Rattle.fc_core.specs.Receiving.{AskWithin, JobWithin, RequestWithin}
+use Rattle.fc_front.specs.Receiving.{AskWithin, JobWithin, RequestWithin}
 use Rattle.fc_core.specs.Sound.{IsSoundlySeen}
 use Rattle.fc_core.specs.Stages.{image_of}
 use Rattle.fc_core.specs.Transitions.{Around, Inputs, names, transition, calls_of_call, install_call, install_if}

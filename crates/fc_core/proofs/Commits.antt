@@ -6,12 +6,14 @@ use Rattle.fc_registry.specs.declared.commit.CommitOutcome.{CommitOutcome}
 use Rattle.fc_registry.specs.declared.commit.CommitOutcome.TheVariants.{Writes, Keeps, Overtakes, Ends}
 use Rattle.fc_registry.specs.declared.commit.Committed.{Committed}
 use Rattle.fc_registry.specs.declared.commit.Committed.TheVariants.{Done, Overtaken, Ended, Stranger}
-use Rattle.fc_registry.specs.Slots.{Shard, Slot, Ticket, slot_in, with_slot}
+use Rattle.fc_registry.specs.Slots.{Shard, Slot, slot_in, with_slot}
+use Rattle.fc_ticket.specs.Tickets.{Ticket}
 use Rattle.fc_registry.specs.Changes.{after_changes}
 use Rattle.fc_registry.specs.Calls.{ComesTo, IsCommit, IsOwnCommit, IsOwn, HasGiven, outcome, commit_calls, commits}
 use Rattle.fc_registry.specs.Watches.{watch_at, with_calls}
-use Rattle.fc_registry.proofs.Outcomes.{by_serials, own_run}
-use Rattle.fc_core.specs.Contents.{AreDone}
+use Rattle.fc_registry.proofs.Outcomes.{by_serials}
+use Rattle.fc_ticket.proofs.OwnRuns.{own_run}
+use Rattle.fc_front.specs.Contents.{AreDone}
 use Rattle.fc_core.specs.Steps.{Commits, changes_of_call}
 
 -- the mark of a commit that was done belongs to the outcome and the ticket.

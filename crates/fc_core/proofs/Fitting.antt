@@ -12,26 +12,28 @@ use Rattle.fc_kinds.specs.Runnable.{IsInput}
 use Rattle.fc_verify.specs.Accepted.{Judgement, Accepts, Breaks, Untypable}
 use Rattle.fc_verify.specs.Judged.{judged}
 use Rattle.fc_observe.specs.declared.entry.Turn.{Turn}
-use Rattle.fc_registry.specs.declared.job.Ask.{Ask}
-use Rattle.fc_registry.specs.declared.job.Ask.TheVariants.{Run, Discover}
-use Rattle.fc_registry.specs.declared.job.Job.{Job}
-use Rattle.fc_registry.specs.declared.job.InitialVars.{InitialVars}
+use Rattle.fc_ticket.specs.declared.job.Ask.{Ask}
+use Rattle.fc_ticket.specs.declared.job.Ask.TheVariants.{Run, Discover}
+use Rattle.fc_ticket.specs.declared.job.Job.{Job}
+use Rattle.fc_ticket.specs.declared.job.InitialVars.{InitialVars}
 use Rattle.fc_registry.specs.declared.commit.CommitOutcome.{CommitOutcome}
 use Rattle.fc_registry.specs.declared.commit.CommitOutcome.TheVariants.{Writes, Keeps, Overtakes, Ends}
-use Rattle.fc_registry.specs.Slots.{Slot, Present, Ticket, last_serial, vars_in}
+use Rattle.fc_registry.specs.Slots.{Slot, last_serial, vars_in}
+use Rattle.fc_ticket.specs.Tickets.{Present, Ticket}
 use Rattle.fc_registry.specs.Changes.{Change, Installed, Committed, Removed, changed, after_changes, with_vars}
 use Rattle.fc_registry.specs.Record.{IsChain, IsLink, code_class}
-use Rattle.fc_registry.specs.declared.receipt.Receipt.{Receipt as Facts}
-use Rattle.fc_registry.specs.Calls.{HasGiven, clear_by, commit_of, input_of, is_post, meaning_at, outcome, outcome_by, put_by, receipt_at, receipt_of, request_of, snapshot, wants, is_out_at, turn_snapshot, readings_if, initial_vars_of}
+use Rattle.fc_ticket.specs.declared.receipt.Receipt.{Receipt as Facts}
+use Rattle.fc_registry.specs.Calls.{HasGiven, clear_by, commit_of, is_post, outcome, outcome_by, put_by, receipt_at, snapshot, wants, is_out_at, turn_snapshot, readings_if}
+use Rattle.fc_ticket.specs.Runs.{input_of, meaning_at, receipt_of, request_of, initial_vars_of}
 use Rattle.fc_core.specs.declared.event.Event.{Event}
 use Rattle.fc_core.specs.Stage.{Stage}
 use Rattle.fc_core.specs.Stage.{ToTake, ToCommit, ToInstall, ToList, ToAnswer, ToTell}
 use Rattle.fc_core.specs.TurnStage.{TurnStage}
 use Rattle.fc_core.specs.TurnStage as turns
-use Rattle.fc_core.specs.Contents.{Listed, Unavailable}
-use Rattle.fc_core.specs.Heads.{is_match, word_at}
+use Rattle.fc_front.specs.Contents.{Listed, Unavailable}
+use Rattle.fc_front.specs.Heads.{is_match, word_at}
 use Rattle.fc_core.specs.Fits.{FitsPresent, FitsSlot, FitsStage, FitsTurn, HasNext, IsTicketOf}
-use Rattle.fc_core.specs.Receiving.{AskWithin}
+use Rattle.fc_front.specs.Receiving.{AskWithin}
 use Rattle.fc_core.specs.Sound.{AllSafe}
 use Rattle.fc_core.specs.Stages.{first_by, first_or_turn, first_stage, image_of, made, matched_by, removed, receipt_content, took, turn_took, with_id}
 use Rattle.fc_core.specs.Transitions.{Around, Inputs, transition, install_call, install_if}

@@ -17,8 +17,8 @@ use Rattle.coap_opts.specs.declared.request.Resource.TheVariants as resources
 use Rattle.coap_opts.specs.Verdict.{Asked, Verdict, IsAsked, IsRefused, IsSilent, IsReset, IsSignal, IsIgnored, verdict}
 use Rattle.coap_opts.proofs.Within.{asked_within}
 use Rattle.coap_dedup.specs.Exchanges.{Look, IsNew, IsBusy, IsAgain, IsSilent as IsAnsweredNon, IsFull, IsOverShare}
-use Rattle.fc_registry.specs.declared.job.Job.{Job}
-use Rattle.fc_registry.specs.declared.job.Opening.{Opening}
+use Rattle.fc_ticket.specs.declared.job.Job.{Job}
+use Rattle.fc_ticket.specs.declared.job.Opening.{Opening}
 use Rattle.fc_registry.specs.Slots.{Slot}
 use Rattle.fc_registry.specs.Changes.{Change, after_changes}
 use Rattle.fc_registry.specs.Record.{IsChain}
@@ -26,16 +26,16 @@ use Rattle.fc_core.specs.declared.event.Event.{Event}
 use Rattle.fc_core.specs.declared.event.Event.TheVariants.{Deliver, Due, Fire}
 use Rattle.fc_core.specs.Stage.{Stage}
 use Rattle.fc_core.specs.declared.stage.Task.{Task}
-use Rattle.fc_core.specs.Exchanges.{FrontState}
+use Rattle.fc_front.specs.Exchanges.{FrontState}
 use Rattle.fc_core.specs.Fits.{FitsSlot, FitsStage}
 use Rattle.fc_core.specs.History.{AsksTurn, around, Entry, Seen, and_then, changes_after, first_slot, front_at, job, no_task, inputs, slot_at, stage, task_at, tasks_brought, tasks_moved, turns_by}
-use Rattle.fc_core.specs.Receiving.{AskWithin, JobWithin, Received, add_in, received_added, received_if, request_received, ask_by, brought, is_confirmable, over_share, job_of, look_in, looked, next_opening, received, received_as, received_read, slot_of_resource}
+use Rattle.fc_front.specs.Receiving.{AskWithin, JobWithin, Received, add_in, received_added, received_if, request_received, ask_by, brought, is_confirmable, over_share, job_of, look_in, looked, next_opening, received, received_as, received_read, slot_of_resource}
 use Rattle.coap_block.specs.Uploads.{Add, Continues, IsWhole, IsIncomplete, IsBadLength, IsTooLarge, IsFull}
-use Rattle.fc_core.specs.Policies.{is_allowed}
-use Rattle.fc_core.specs.Receiving as x
+use Rattle.fc_front.specs.Policies.{is_allowed}
+use Rattle.fc_front.specs.Receiving as x
 use Rattle.fc_core.specs.Sound.{AllSafe, IsSafelySeen, IsSoundlySeen}
 use Rattle.fc_core.specs.Stages.{new_task}
-use Rattle.fc_core.specs.Timers.{timer_job}
+use Rattle.fc_front.specs.Timers.{timer_job}
 use Rattle.fc_core.specs.Transitions.{task_moved, names, transition}
 use Rattle.fc_core.proofs.Calling.{turns_within, watched_after}
 use Rattle.fc_core.proofs.Lists.{Each, appended_all, written_all}

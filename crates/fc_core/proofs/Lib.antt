@@ -1,4 +1,3 @@
-mod Draws
 pub mod Rejections
 pub mod Commits
 pub mod Lists
@@ -11,6 +10,4 @@ pub mod OnShards
 pub mod Unsent
 pub mod Watches
 pub mod ByStep
-mod Authorizing
-pub mod Words
 pub mod Restoring

@@ -8,10 +8,10 @@ use Rattle.fc_isa.specs.declared.rule.Fault.{Fault}
 use Rattle.fc_isa.specs.Rules.{number_of}
 use Rattle.fc_verify.specs.Accepted.{Judgement, Accepts, Breaks, Untypable}
 use Rattle.fc_verify.specs.Refusals.{IsFaultOf}
-use Rattle.fc_registry.specs.declared.job.InitialVars.{InitialVars}
+use Rattle.fc_ticket.specs.declared.job.InitialVars.{InitialVars}
 use Rattle.fc_registry.specs.Slots.{Slot, Shard, slot_in, with_slot, new_slot}
-use Rattle.fc_core.specs.Contents.{Rejected}
-use Rattle.fc_core.specs.Ends.{refused_by}
+use Rattle.fc_front.specs.Contents.{Rejected}
+use Rattle.fc_front.specs.Ends.{refused_by}
 use Rattle.fc_core.specs.Transitions.{install_call}
 use Rattle.fc_core.specs.Steps.{Rejects}
 

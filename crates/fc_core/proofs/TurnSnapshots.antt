@@ -3,10 +3,11 @@ use Rattle.std.proofs.Common.{◌≡◌, ℕ, ◌/◌, List, Bool, true, false, 
 use Rattle.fc_observe.specs.declared.entry.Turn.{Turn}
 use Rattle.fc_observe.specs.Calls.{ObserverCall}
 use Rattle.fc_observe.specs.Observers.{ObserverList}
-use Rattle.fc_registry.specs.declared.job.Job.{Job}
-use Rattle.fc_registry.specs.Taken.{Taken}
+use Rattle.fc_ticket.specs.declared.job.Job.{Job}
+use Rattle.fc_ticket.specs.Taken.{Taken}
 use Rattle.fc_registry.specs.Calls.{TakesAt, after_snapshot, is_out_at, snapshot_at, snapshot_by, snapshot_calls, snapshot_calls_by, turn_calls, turn_of, turn_snapshot, readings_if}
-use Rattle.fc_registry.specs.Slots.{Present, Shard, Slot, slot_in}
+use Rattle.fc_ticket.specs.Tickets.{Present}
+use Rattle.fc_registry.specs.Slots.{Shard, Slot, slot_in}
 use Rattle.fc_registry.specs.Watches.{watch_at, with_calls}
 use Rattle.fc_core.specs.declared.event.Event.TheVariants.{Take}
 use Rattle.fc_core.specs.Stage.{Stage}

@@ -3,12 +3,12 @@ use Rattle.std.proofs.Common.{◌≡◌, ℕ, ◌+◌, Bool, true, false, Option
 use Rattle.std.specs.Prelude.{nat_lt}
 use Rattle.std.proofs.lemmas.Bool.{and_left}
 use Rattle.coap_msg.specs.declared.types.Emission.{Emission}
-use Rattle.fc_registry.specs.declared.job.Job.{Job}
-use Rattle.fc_registry.specs.declared.job.Opening.{Opening}
-use Rattle.fc_core.specs.Contents.{Content}
-use Rattle.fc_core.specs.Exchanges.{FrontState, has_exchange, opening_is_live}
+use Rattle.fc_ticket.specs.declared.job.Job.{Job}
+use Rattle.fc_ticket.specs.declared.job.Opening.{Opening}
+use Rattle.fc_front.specs.Contents.{Content}
+use Rattle.fc_front.specs.Exchanges.{FrontState, has_exchange, opening_is_live}
 use Rattle.fc_core.specs.Legal.{AnswerEmits, IsAnswered}
-use Rattle.fc_core.specs.Receiving.{id_in}
+use Rattle.fc_front.specs.Receiving.{id_in}
 
 -- the opening of a job without an exchange is never live.
 pub never_live : (o : Opening) (now : ℕ) → has_exchange o ≡ false → opening_is_live now o ≡ false

@@ -3,10 +3,12 @@ use Rattle.std.specs.Prelude.{◌≡◌, ℕ, ◌+◌, ◌%◌, ◌==◌, ◌&&�
 use Rattle.fc_kinds.specs.Meaning.{Program}
 use Rattle.fc_verify.specs.Accepted.{Judgement, Accepts, Breaks, Untypable}
 use Rattle.fc_verify.specs.Judged.{judged}
-use Rattle.fc_registry.specs.declared.job.Job.{Job}
-use Rattle.fc_registry.specs.declared.receipt.Receipt.{Receipt as Facts}
-use Rattle.fc_registry.specs.Calls.{meaning_at, wants}
-use Rattle.fc_registry.specs.Slots.{Slot, Present, Ticket}
+use Rattle.fc_ticket.specs.declared.job.Job.{Job}
+use Rattle.fc_ticket.specs.declared.receipt.Receipt.{Receipt as Facts}
+use Rattle.fc_ticket.specs.Runs.{meaning_at}
+use Rattle.fc_registry.specs.Calls.{wants}
+use Rattle.fc_registry.specs.Slots.{Slot}
+use Rattle.fc_ticket.specs.Tickets.{Present, Ticket}
 use Rattle.fc_core.specs.declared.event.Event.{Event}
 use Rattle.fc_core.specs.declared.event.Event.TheVariants.{Deliver, Peek, Take, Commit, Install, Remove, Refuse, Receipt, Answer, Due, Fire, Fresh, Note, GiveUp, Tick, ShardTick}
 use Rattle.fc_core.specs.Stage.{Stage}
@@ -14,8 +16,8 @@ use Rattle.fc_core.specs.TurnStage as turns
 use Rattle.arrayvec.specs.ArrayVec.{ArrayVec}
 use Rattle.fc_core.specs.Stage.{ToMatch, ToTake, ToCommit, ToInstall, ToRemove, ToDescribe, ToList, ToAnswer, ToTell}
 use Rattle.coap_reply.specs.Blocks.{cut_for}
-use Rattle.fc_core.specs.Contents.{Content, RunAnswer, Ran, Missing, Unavailable, Made, Rejected, Untyped, Valid, Deleted, Described, Listed}
-use Rattle.fc_core.specs.Heads.{head_word, word_at}
+use Rattle.fc_front.specs.Contents.{Content, RunAnswer, Ran, Missing, Unavailable, Made, Rejected, Untyped, Valid, Deleted, Described, Listed}
+use Rattle.fc_front.specs.Heads.{head_word, word_at}
 use Rattle.fc_core.specs.History.{Entry, History, BeginsWith, Then, Seen, seen, job, slot_at, stage}
 use Rattle.fc_core.specs.Laws.{slot_of, stage_named, snapshots_of}
 use Rattle.fc_core.specs.Stages.{image_of, is_refusable}

@@ -4,14 +4,16 @@ use Rattle.fc_image.specs.Paths.{IsLongest}
 use Rattle.fc_kinds.specs.Meaning.{Program}
 use Rattle.fc_kinds.specs.Runnable.{IsRunnable}
 use Rattle.fc_observe.specs.declared.entry.Turn.{Turn}
-use Rattle.fc_registry.specs.declared.job.Job.{Job}
-use Rattle.fc_registry.specs.Slots.{Slot, Present, Ticket}
-use Rattle.fc_registry.specs.Calls.{HasGiven, request_of}
+use Rattle.fc_ticket.specs.declared.job.Job.{Job}
+use Rattle.fc_registry.specs.Slots.{Slot}
+use Rattle.fc_ticket.specs.Tickets.{Present, Ticket}
+use Rattle.fc_registry.specs.Calls.{HasGiven}
+use Rattle.fc_ticket.specs.Runs.{request_of}
 use Rattle.fc_core.specs.Stage.{Stage}
 use Rattle.fc_core.specs.TurnStage.{TurnStage}
 use Rattle.fc_core.specs.TurnStage as turns
 use Rattle.fc_core.specs.Stage.{ToMatch, ToTake, ToCommit, ToList, ToRaise, ToAnswer, ToTell}
-use Rattle.fc_core.specs.Contents.{IsOf}
+use Rattle.fc_front.specs.Contents.{IsOf}
 use Rattle.fc_core.specs.Stages.{snapshots}
 
 -- the ticket was given to this job by this slot.

@@ -9,9 +9,9 @@ use Rattle.coap_dedup.specs.Exchanges.{answered_if, is_live as is_held}
 use Rattle.coap_block.specs.Transfers.{Addition, transfers}
 use Rattle.fc_observe.specs.Calls.{ObserverCall, NextDue, Tick as TickObservers, observers}
 use Rattle.fc_observe.specs.Observers.{ObserverList, list_at_time, overdue_entry, next_turn}
-use Rattle.fc_registry.specs.declared.job.Ask.TheVariants.{Install as Installs}
-use Rattle.fc_registry.specs.declared.job.Job.{Job}
-use Rattle.fc_registry.specs.declared.job.InitialVars.TheVariants.{Zeros}
+use Rattle.fc_ticket.specs.declared.job.Ask.TheVariants.{Install as Installs}
+use Rattle.fc_ticket.specs.declared.job.Job.{Job}
+use Rattle.fc_ticket.specs.declared.job.InitialVars.TheVariants.{Zeros}
 use Rattle.fc_registry.specs.Restored.{empty_at, restored_slot}
 use Rattle.fc_registry.specs.Slots.{Slot}
 use Rattle.fc_registry.specs.Changes.{Change, after_changes}
@@ -23,14 +23,14 @@ use Rattle.fc_core.specs.declared.event.Event.TheVariants.{Deliver, Answer, Due,
 use Rattle.fc_core.specs.Stage.{Stage}
 use Rattle.fc_core.specs.Stage.{Gone}
 use Rattle.fc_core.specs.declared.stage.Task.{Task}
-use Rattle.fc_core.specs.Contents.{Content}
-use Rattle.fc_core.specs.Ids.{Ids, first_ids, drawn, drawn_for, free_id}
-use Rattle.fc_core.specs.Exchanges.{FrontState, opening_is_live}
-use Rattle.fc_core.specs.Policies.{default_policy}
-use Rattle.fc_core.specs.declared.policy.Policy.{Policy}
-use Rattle.fc_core.specs.Receiving.{Received, added_by, received, opened_by, kept_of, drawn_by, brought, next_opening}
-use Rattle.fc_core.specs.Heads.{first_words}
-use Rattle.fc_core.specs.Timers.{timer_job}
+use Rattle.fc_front.specs.Contents.{Content}
+use Rattle.fc_front.specs.Ids.{Ids, first_ids, drawn, drawn_for, free_id}
+use Rattle.fc_front.specs.Exchanges.{FrontState, opening_is_live}
+use Rattle.fc_front.specs.Policies.{default_policy}
+use Rattle.fc_front.specs.declared.policy.Policy.{Policy}
+use Rattle.fc_front.specs.Receiving.{Received, added_by, received, opened_by, kept_of, drawn_by, brought, next_opening}
+use Rattle.fc_front.specs.Heads.{first_words}
+use Rattle.fc_front.specs.Timers.{timer_job}
 use Rattle.fc_core.specs.Stages.{needs_id, new_task, content_at}
 use Rattle.fc_core.specs.Transitions.{Around, Common, Inputs, names, inputs_at, transition, task_moved, handed, words_after}
 

@@ -1,16 +1,17 @@
 -- Definitions for the laws of jobs.
 use Rattle.std.specs.Prelude.{◌≡◌, ℕ, ◌+◌, ◌-◌, ◌<◌, ◌==◌, Bool, true, false, not, if◌then◌else◌, Option, Some, None, List, [], ◌∷◌, ◌++◌, length}
-use Rattle.fc_registry.specs.declared.job.Job.{Job}
-use Rattle.fc_registry.specs.Slots.{Present, Ticket}
+use Rattle.fc_ticket.specs.declared.job.Job.{Job}
+use Rattle.fc_ticket.specs.Tickets.{Present, Ticket}
 use Rattle.fc_registry.specs.Changes.{Change}
-use Rattle.fc_registry.specs.Calls.{is_out_at, meaning_at, ticket_of, wants}
+use Rattle.fc_registry.specs.Calls.{is_out_at, wants}
+use Rattle.fc_ticket.specs.Runs.{meaning_at, ticket_of}
 use Rattle.fc_core.specs.declared.event.Event.{Event}
 use Rattle.fc_core.specs.declared.event.Event.TheVariants.{Deliver, Peek, Take, Commit, Install, Remove, Refuse, Receipt, Raise, Answer, Due, Fire, Fresh, Note, GiveUp, Signal, Tick, ShardTick, Lose}
 use Rattle.fc_core.specs.Stage.{Stage}
 use Rattle.fc_core.specs.Stage.{ToMatch, ToTake, ToCommit, ToInstall, ToRemove, ToDescribe, ToList, ToRaise, ToAnswer, ToTell, Gone}
 use Rattle.fc_core.specs.TurnStage as turns
 use Rattle.coap_reply.specs.Blocks.{cut_for}
-use Rattle.fc_core.specs.Contents.{Content, RunAnswer}
+use Rattle.fc_front.specs.Contents.{Content, RunAnswer}
 use Rattle.fc_core.specs.Stages.{is_refusable}
 use Rattle.fc_core.specs.Transitions.{Inputs, names}
 use Rattle.fc_core.specs.History.{Entry, History, BeginsWith, Then, Seen, seen, job, inputs, slot_at, stage}

@@ -7,18 +7,18 @@ use Rattle.fc_kinds.specs.Meaning.{IsRun}
 use Rattle.fc_observe.specs.declared.observers.Ticked.{Ticked}
 use Rattle.fc_observe.specs.declared.observers.Ticked.TheVariants.{Resend}
 use Rattle.fc_observe.specs.Observers.{list_at_time, ticked}
-use Rattle.fc_registry.specs.declared.job.Job.{Job}
-use Rattle.fc_registry.specs.Slots.{Present, Ticket}
-use Rattle.fc_registry.specs.Calls.{ticket_of, input_of}
+use Rattle.fc_ticket.specs.declared.job.Job.{Job}
+use Rattle.fc_ticket.specs.Tickets.{Present, Ticket}
+use Rattle.fc_ticket.specs.Runs.{ticket_of, input_of}
 use Rattle.fc_core.specs.declared.event.Event.{Event}
 use Rattle.fc_core.specs.declared.event.Event.TheVariants.{Take}
 use Rattle.fc_core.specs.Stage.{Stage}
 use Rattle.fc_core.specs.Stage.{ToTake, ToTell}
 use Rattle.fc_core.specs.TurnStage as turns
-use Rattle.fc_core.specs.Contents.{Content}
-use Rattle.fc_core.specs.Replies.{IsReplyTo}
-use Rattle.fc_core.specs.Exchanges.{FrontState, opening_is_live}
-use Rattle.fc_core.specs.Receiving.{sent, id_in}
+use Rattle.fc_front.specs.Contents.{Content}
+use Rattle.fc_front.specs.Replies.{IsReplyTo}
+use Rattle.fc_front.specs.Exchanges.{FrontState, opening_is_live}
+use Rattle.fc_front.specs.Receiving.{sent, id_in}
 use Rattle.fc_core.specs.Stages.{content_at}
 use Rattle.fc_core.specs.Transitions.{Inputs, names, sends}
 use Rattle.fc_core.specs.History.{AtFront, Receives, Answers, Draws, Fires, Passes, Rests, AtShard, Ticks, History, BeginsWith, Then, Seen, seen, at_front, at_shard, front_at, received_at, job, overdue_in, stage, inputs, watch}

@@ -2,15 +2,15 @@
 -- head words that the job has listed, and the job's answer.
 use Rattle.std.specs.Prelude.{◌≡◌, ℕ, Some, None}
 use Rattle.arrayvec.specs.ArrayVec.{ArrayVec}
-use Rattle.fc_registry.specs.Taken.{SlotSnapshot, IsSized, ticket_with}
-use Rattle.fc_registry.specs.Taken as spec
+use Rattle.fc_ticket.specs.Taken.{SlotSnapshot, IsSized, ticket_with}
+use Rattle.fc_ticket.specs.Taken as spec
 use Rattle.fc_registry.specs.Views.{HasSize, taken_with}
 use Rattle.fc_registry.specs.declared.shard.Taken.{Taken}
 use Rattle.fc_core.specs.declared.stage.Step.{Step}
 use Rattle.fc_core.specs.declared.stage.Step.TheVariants as steps
 use Rattle.fc_core.specs.declared.stage.TurnStep.{TurnStep}
 use Rattle.fc_core.specs.declared.stage.TurnStep.TheVariants as turn_steps
-use Rattle.fc_core.specs.Contents.{Content}
+use Rattle.fc_front.specs.Contents.{Content}
 use Rattle.fc_core.specs.Stage.{Stage, ToMatch, ToTake, ToCommit, ToInstall, ToRemove, ToDescribe, ToList, ToRaise, ToAnswer, ToTell, Gone}
 use Rattle.fc_core.specs.TurnStage as turns
 use Rattle.fc_core.specs.TurnStage.{TurnStage}

@@ -5,7 +5,7 @@ use Rattle.fc_registry.specs.Changes.{Change, Installed, Committed, Removed}
 use Rattle.fc_registry.specs.Record.{IsChain}
 use Rattle.fc_core.specs.Fits.{FitsSlot, FitsStage, IsSafe}
 use Rattle.fc_core.specs.History.{Seen, first_slot, job, slot_at, stage, watch}
-use Rattle.fc_core.specs.Receiving.{JobWithin, RequestWithin}
+use Rattle.fc_front.specs.Receiving.{JobWithin, RequestWithin}
 
 -- the commits of each slot are a chain. Each job is within its limits and fits its slot. The
 -- requests of the observers are within their limits.

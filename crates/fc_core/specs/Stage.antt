@@ -2,8 +2,8 @@
 use Rattle.std.specs.Prelude.{ℕ}
 use Rattle.arrayvec.specs.ArrayVec.{ArrayVec}
 use Rattle.fc_observe.specs.declared.entry.Turn.{Turn}
-use Rattle.fc_registry.specs.Slots.{Ticket}
-use Rattle.fc_core.specs.Contents.{Content}
+use Rattle.fc_ticket.specs.Tickets.{Ticket}
+use Rattle.fc_front.specs.Contents.{Content}
 use Rattle.fc_core.specs.TurnStage.{TurnStage}
 
 pub data Stage : Type 0 where

@@ -1,22 +1,23 @@
 -- The stages of a job: the first one, and the stage after the result of each call.
 use Rattle.std.specs.Prelude.{ℕ, ◌+◌, Bool, true, false, nat_lt, if◌then◌else◌, Option, Some, None, List, [], ◌∷◌, length}
 use Rattle.fc_observe.specs.declared.entry.Turn.{Turn}
-use Rattle.fc_registry.specs.declared.job.Ask.{Ask}
-use Rattle.fc_registry.specs.declared.job.Ask.TheVariants.{Run, Install as Installs, Remove as Removes, Describe, Discover}
-use Rattle.fc_registry.specs.declared.job.Job.{Job}
-use Rattle.fc_registry.specs.declared.receipt.Receipt.{Receipt as Facts}
-use Rattle.fc_registry.specs.Taken.{Taken}
-use Rattle.fc_registry.specs.Taken.{Given, Missing, Stale, Refused}
+use Rattle.fc_ticket.specs.declared.job.Ask.{Ask}
+use Rattle.fc_ticket.specs.declared.job.Ask.TheVariants.{Run, Install as Installs, Remove as Removes, Describe, Discover}
+use Rattle.fc_ticket.specs.declared.job.Job.{Job}
+use Rattle.fc_ticket.specs.declared.receipt.Receipt.{Receipt as Facts}
+use Rattle.fc_ticket.specs.Taken.{Taken}
+use Rattle.fc_ticket.specs.Taken.{Given, Missing, Stale, Refused}
 use Rattle.fc_registry.specs.declared.shard.Made.{Made}
 use Rattle.fc_registry.specs.declared.shard.Made.TheVariants.{Raised, AtEnd}
 use Rattle.fc_registry.specs.declared.shard.Removal.{Removal}
 use Rattle.fc_registry.specs.declared.shard.Removal.TheVariants as removals
 use Rattle.fc_registry.specs.declared.commit.Committed.{Committed}
 use Rattle.fc_registry.specs.declared.commit.Committed.TheVariants.{Done, Overtaken, Ended, Stranger}
-use Rattle.fc_registry.specs.Slots.{Ticket}
-use Rattle.fc_registry.specs.Calls.{meaning_at, turn_of, wants}
-use Rattle.fc_core.specs.Contents.{Content, Ran, run_answer, Missing as Misses, Unavailable, Made as Makes, Valid, Deleted, Described, Listed}
-use Rattle.fc_core.specs.Heads.{head_word, is_match, serial_in}
+use Rattle.fc_ticket.specs.Tickets.{Ticket}
+use Rattle.fc_ticket.specs.Runs.{meaning_at}
+use Rattle.fc_registry.specs.Calls.{turn_of, wants}
+use Rattle.fc_front.specs.Contents.{Content, Ran, run_answer, Missing as Misses, Unavailable, Made as Makes, Valid, Deleted, Described, Listed}
+use Rattle.fc_front.specs.Heads.{head_word, is_match, serial_in}
 use Rattle.fc_core.specs.Stage.{Stage}
 use Rattle.fc_core.specs.Stage.{ToMatch, ToTake, ToCommit, ToInstall, ToRemove, ToDescribe, ToList, ToRaise, ToAnswer, ToTell, Gone}
 use Rattle.fc_core.specs.TurnStage.{TurnStage}

@@ -6,17 +6,18 @@ use Rattle.fc_kinds.specs.Meaning.{Program}
 use Rattle.fc_observe.specs.declared.entry.Turn.{Turn}
 use Rattle.fc_registry.specs.declared.commit.Committed.{Committed}
 use Rattle.fc_registry.specs.declared.commit.Committed.TheVariants.{Done}
-use Rattle.fc_registry.specs.declared.job.InitialVars.{InitialVars}
-use Rattle.fc_registry.specs.declared.receipt.Receipt.{Receipt}
+use Rattle.fc_ticket.specs.declared.job.InitialVars.{InitialVars}
+use Rattle.fc_ticket.specs.declared.receipt.Receipt.{Receipt}
 use Rattle.fc_registry.specs.declared.shard.Made.{Made}
 use Rattle.fc_registry.specs.declared.shard.Made.TheVariants.{Raised}
 use Rattle.fc_registry.specs.declared.shard.Removal.{Removal}
 use Rattle.fc_registry.specs.declared.shard.Removal.TheVariants as removals
-use Rattle.fc_registry.specs.Taken.{Taken}
-use Rattle.fc_registry.specs.Calls.{commit_of, receipt_of}
+use Rattle.fc_ticket.specs.Taken.{Taken}
+use Rattle.fc_registry.specs.Calls.{commit_of}
+use Rattle.fc_ticket.specs.Runs.{receipt_of}
 use Rattle.fc_registry.specs.Changes.{Change, Committed as Wrote, Installed, Removed}
-use Rattle.fc_registry.specs.Slots.{Ticket}
-use Rattle.fc_core.specs.Contents.{Content, Unavailable}
+use Rattle.fc_ticket.specs.Tickets.{Ticket}
+use Rattle.fc_front.specs.Contents.{Content, Unavailable}
 use Rattle.fc_core.specs.Stage.{Stage}
 use Rattle.fc_core.specs.Stage.{ToMatch, ToTake, ToCommit, ToInstall, ToRemove, ToDescribe, ToList, ToRaise, ToAnswer, ToTell, Gone}
 use Rattle.fc_core.specs.TurnStage.{TurnStage}

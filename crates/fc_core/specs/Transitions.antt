@@ -9,15 +9,17 @@ use Rattle.fc_verify.specs.Judged.{judged}
 use Rattle.fc_observe.specs.Calls.{ObserverCall, GiveUp as GiveUpTurn}
 use Rattle.fc_observe.specs.declared.entry.Turn.{Turn}
 use Rattle.fc_observe.specs.Observers.{ObserverList}
-use Rattle.fc_registry.specs.declared.job.Job.{Job}
-use Rattle.fc_registry.specs.declared.job.InitialVars.{InitialVars}
-use Rattle.fc_registry.specs.Slots.{Slot, Shard, Ticket, slot_in, with_slot}
+use Rattle.fc_ticket.specs.declared.job.Job.{Job}
+use Rattle.fc_ticket.specs.declared.job.InitialVars.{InitialVars}
+use Rattle.fc_registry.specs.Slots.{Slot, Shard, slot_in, with_slot}
+use Rattle.fc_ticket.specs.Tickets.{Ticket}
 use Rattle.fc_registry.specs.Changes.{Change, after_changes}
 use Rattle.fc_registry.specs.Watches.{watch_at, with_calls}
-use Rattle.fc_registry.specs.Calls.{commit_calls, commits, install_in, is_out_at, outcome, readings_if, receipt_at, remove_from, snapshot, turn_calls, turn_snapshot, initial_vars_of}
-use Rattle.fc_registry.specs.Notes.{note_at, note_calls}
-use Rattle.fc_core.specs.Contents.{Rejected, Untyped}
-use Rattle.fc_core.specs.Heads.{published, word_at}
+use Rattle.fc_registry.specs.Calls.{commit_calls, commits, install_in, is_out_at, outcome, readings_if, receipt_at, remove_from, snapshot, turn_calls, turn_snapshot}
+use Rattle.fc_ticket.specs.Runs.{initial_vars_of}
+use Rattle.fc_ticket.specs.Notes.{note_at, note_calls}
+use Rattle.fc_front.specs.Contents.{Rejected, Untyped}
+use Rattle.fc_front.specs.Heads.{published, word_at}
 use Rattle.fc_core.specs.declared.event.Event.{Event}
 use Rattle.fc_core.specs.declared.event.Event.TheVariants.{Peek, Take, Commit, Install, Remove, Refuse, Receipt, Raise, Answer, Fresh, Note, GiveUp, Lose}
 use Rattle.fc_core.specs.Stage.{Stage}

@@ -1,6 +1,6 @@
 -- The next action of a lease.
 use Rattle.std.specs.Prelude.{ℕ, Option}
-use Rattle.fc_registry.specs.Slots.{Ticket}
+use Rattle.fc_ticket.specs.Tickets.{Ticket}
 
 pub data TurnStage : Type 0 where
   -- take a snapshot.

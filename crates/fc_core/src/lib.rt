@@ -1,66 +1,24 @@
-//! The core of the server: the protocol front end, answers, events and jobs.
+//! The jobs of a server by their stages, and the histories of a server.
 //!
-//! The crate also defines what a history is, and when it is legal. [`Front`] stores the exchanges.
-//! It parses datagrams, makes jobs, and writes responses. Each time and each byte is an argument;
-//! the crate has no clock and no socket. `specs/` defines the history, the stages of jobs, the
+//! A [`Task`] is a job at a stage. Each of its steps calls the shard of the job's slot, or decides
+//! without one, and leads to the next stage. `specs/` defines the history, the stages of jobs, the
 //! changes of slots, and the permitted emissions of each event. A list of all events is judged by
-//! these definitions.
-//!
-//! ```rust
-//! use coap_msg::{Emission, Endpoint};
-//! use fc_core::{Answer, Answered, Delivered, End, Front};
-//!
-//! /// Returns the datagram to send if each job is answered 4.04.
-//! fn reply(front: &mut Front, now: u64, from: Endpoint, bytes: &[u8]) -> Option<Emission> {
-//!     match front.deliver(now, from, bytes) {
-//!         Delivered::Reply(emission) => Some(emission),
-//!         Delivered::Job(job) => match front.answer(now, &job, &Answer::other(End::Missing)) {
-//!             Answered::Sent(emission) => Some(emission),
-//!             Answered::Late | Answered::NoId => None,
-//!         },
-//!         Delivered::Nothing | Delivered::Signal { .. } => None,
-//!     }
-//! }
-//! ```
+//! these definitions. Each time is an argument; the crate has no clock.
 //!
 //! # What is proved
 //!
-//! - Each delivery and each answer is as defined, including duplicates and message IDs. Each event
-//!   changes a job as defined for the job's stage.
-//! - A run's answer can't be made without the mark of the run's commit, and is no other job's
-//!   answer. Only the answer of a successful run contains the requested block of the reply.
-//! - A PUT in blocks is executed exactly if its last block fits. The body is then the payloads
-//!   since block number 0, joined.
-//! - A timer that fires makes the job of a POST of its slot's resource. The job has no exchange, so
-//!   answering the job sends nothing.
-//! - `gauges` returns how many exchanges and transfers a front holds at a time, and their limits.
-//!   It changes nothing.
-//! - The head word of a restored program is that of its stored state. The head word of each other
-//!   slot is 0 at a start.
+//! - Each event changes a job as defined for the job's stage.
+//! - A snapshot of a task is that of its job's slot. The answer of a task's run is the one that the
+//!   program means for the request, the variables and the readings of the snapshot.
+//! - An image is verified before its program is installed. An image that isn't accepted calls no
+//!   shard.
 //!
-//! By the contracts of `Front::deliver`, `handle`, `answer`, `respond`, `tick`, `fire`, `fresh_id`,
-//! `gauges`, `Heads`, `Task`, `Answer::ran`.
+//! By the contracts of `Task`, `run_and_commit`, `verify_and_install`.
 #![tactic(auto)]
 
-pub mod answer;
-pub mod by_value;
 pub mod event;
-pub mod front;
-pub mod gauges;
-pub mod heads;
-mod ids;
-mod job_writer;
-pub mod policy;
-mod reply;
 pub mod stage;
 pub mod task;
-mod text;
 
-pub use answer::{Answer, End, Words};
-pub use by_value::{Answered, Delivered};
 pub use event::Event;
-pub use front::{Front, Handled, Responded};
-pub use gauges::FrontGauges;
-pub use heads::{Heads, head_word};
-pub use policy::{ANY_ADDRESS, DEFAULT_POLICY, MOST_NETWORKS, Managers, Network, Policy};
 pub use stage::{Stage, Step, Task, TurnStep};

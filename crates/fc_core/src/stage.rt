@@ -3,20 +3,21 @@
 //! A [`Task`] and the workers (`fc_workers`) make a job's calls, and set its stage by these
 //! functions.
 ghost use Rattle.std.specs.Prelude.{◌≡◌, ◌<◌, option_copied};
-ghost use Rattle.fc_core.specs.Contents.{AreDone, Content, IsMadeBelow, IsRemovedBelow, Unavailable};
-ghost use Rattle.fc_core.specs.Ends.{refused};
+ghost use Rattle.fc_front.specs.Contents.{AreDone, Content, IsMadeBelow, IsRemovedBelow, Unavailable};
+ghost use Rattle.fc_front.specs.Ends.{refused};
 ghost use Rattle.fc_core.specs.Fits.{HasListed};
 ghost use Rattle.fc_core.specs.Room.{LeadsTo, StandsAt};
 ghost use Rattle.fc_core.specs.Stage.{Gone, ToAnswer};
 ghost use Rattle.fc_core.specs.Stages as stages;
 ghost use Rattle.fc_core.specs.Stages.{after_list, asked_stage, first_stage};
 
-use crate::answer::{Answer, End, Words};
-use crate::heads::{head_word, is_present, serial_in};
+use fc_front::answer::{Answer, End, Words};
+use fc_front::heads::{head_word, is_present, serial_in};
 use fc_isa::Fault;
 use fc_machine::Outcome;
 use fc_observe::Turn;
-use fc_registry::{Ask, Committed, Job, Made, Receipt, Removal, SlotSnapshot, Taken, Ticket, Took};
+use fc_registry::{Committed, Made, Removal, Taken, Took};
+use fc_ticket::{Ask, Job, Receipt, SlotSnapshot, Ticket};
 use fc_verify::{Refusal, Verified};
 use std::marker::Model;
 use std::sync::Arc;

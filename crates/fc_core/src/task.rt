@@ -7,12 +7,12 @@ ghost use Rattle.fc_verify.specs.Accepted.{Accepts};
 ghost use Rattle.fc_verify.specs.Judged.{judged};
 ghost use Rattle.fc_registry.specs.Slots.{IsOwned, slot_in};
 ghost use Rattle.fc_registry.specs.Calls.{HasGiven, wants};
-ghost use Rattle.fc_registry.specs.Notes.{note_calls};
+ghost use Rattle.fc_ticket.specs.Notes.{note_calls};
 ghost use Rattle.fc_registry.specs.Views.{HasSize, taken_with};
 ghost use Rattle.fc_registry.specs.Watches.{at_time, with_calls};
 ghost use Rattle.fc_core.specs.declared.event.Event.{Event};
 ghost use Rattle.fc_core.specs.Fits.{FitsStage, HasNext, TellsOwn};
-ghost use Rattle.fc_core.specs.Receiving.{emission_if};
+ghost use Rattle.fc_front.specs.Receiving.{emission_if};
 ghost use Rattle.fc_core.specs.Sound.{AllSafe};
 ghost use Rattle.fc_core.specs.Room.{FitsTurnStep, StandsAt, turn_stage_of};
 ghost use Rattle.fc_core.specs.Stage.{Gone};
@@ -22,17 +22,17 @@ ghost use Rattle.fc_core.specs.declared.stage.TurnStep.TheVariants.{ToDraw};
 ghost use Rattle.fc_core.specs.Steps.{changes_of_call, next_stage};
 ghost use Rattle.fc_core.specs.Transitions.{Common, Inputs, ShardMoves, TaskMoves, commit_call, commit_effect, install_call, install_effect, goes_to, note_on, notification, transition, inputs_of, shard_moved, task_moved, words_after};
 
-use crate::answer::Answer;
-use crate::front::blank_job;
-use crate::heads::{Heads, WORDS};
 use crate::stage::{Stage, Step, Task, TurnStep};
 use coap_msg::Emission;
+use fc_front::answer::Answer;
+use fc_front::front::blank_job;
+use fc_front::heads::{Heads, WORDS};
 use fc_help::{NO_READINGS, Readings};
 use fc_machine::{Frame, run};
 use fc_observe::Turn;
-use fc_registry::{
-    Ask, InitialVars, Job, NoteOutcome, Notification, Receipt, Shard, SlotNumber, SlotSnapshot,
-    Taken, Ticket, wants_to_write,
+use fc_registry::{Shard, Taken, wants_to_write};
+use fc_ticket::{
+    Ask, InitialVars, Job, NoteOutcome, Notification, Receipt, SlotNumber, SlotSnapshot, Ticket,
 };
 use fc_verify::{Refusal, Verified, verify};
 use std::alloc::{AllocError, Global};

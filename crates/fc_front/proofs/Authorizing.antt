@@ -7,10 +7,10 @@ use Rattle.coap_opts.specs.declared.request.Asking.{Asking}
 use Rattle.coap_opts.specs.declared.request.Asking.TheVariants.{Serve, Refuse, Silent}
 use Rattle.coap_opts.specs.declared.request.Request.{Request}
 use Rattle.coap_opts.specs.Classified.{asked_by}
-use Rattle.fc_core.specs.Askings.{new_request, authorized}
-use Rattle.fc_core.specs.Exchanges.{FrontState}
-use Rattle.fc_core.specs.Policies.{is_allowed}
-use Rattle.fc_core.specs.Receiving.{Received, Refused, received_if}
+use Rattle.fc_front.specs.Askings.{new_request, authorized}
+use Rattle.fc_front.specs.Exchanges.{FrontState}
+use Rattle.fc_front.specs.Policies.{is_allowed}
+use Rattle.fc_front.specs.Receiving.{Received, Refused, received_if}
 
 -- if a request is refused after the check of its endpoint, the front refuses it by the same code.
 pub is_refused : (f : FrontState) (to : Endpoint) (m : Message) (asking : Asking (Unit {0})) (request : Request) (answer : Code) (allowed : Bool)

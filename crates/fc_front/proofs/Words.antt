@@ -4,7 +4,7 @@ use Rattle.std.specs.List.{range_with_len}
 use Rattle.std.proofs.lemmas.Bool.{cases_eq}
 use Rattle.std.proofs.lemmas.List.{ext_get_or, get_or-replicate, get_or-set_other, get_or-set_same, length-replicate}
 use Rattle.std.proofs.lemmas.List.FromFn.{get_or-map-range_with_len, length-map-range_with_len}
-use Rattle.fc_core.specs.Heads.{no_words, word_at, word_raised}
+use Rattle.fc_front.specs.Heads.{no_words, word_at, word_raised}
 
 -- the words of the slots below `done` are these; the others are 0.
 pub record AreFirstBelow (word : ℕ → ℕ) (done : ℕ) (words : List ℕ) : Type 0 where

@@ -2,16 +2,16 @@
 -- late if the exchange isn't live.
 use Rattle.std.specs.Prelude.{ℕ, Bool, true, false, Option, Some, None}
 use Rattle.coap_msg.specs.declared.types.Emission.{Emission}
-use Rattle.fc_registry.specs.declared.job.Job.{Job}
-use Rattle.fc_core.specs.declared.by_value.Answered.{Answered}
-use Rattle.fc_core.specs.declared.by_value.Answered.TheVariants.{Sent, Late, NoId}
-use Rattle.fc_core.specs.declared.front.Responded.{Responded}
-use Rattle.fc_core.specs.declared.front.Responded.TheVariants as responds
-use Rattle.fc_core.specs.Contents.{Content}
-use Rattle.fc_core.specs.Ids.{drawn_for}
-use Rattle.fc_core.specs.Replies.{IsReplyTo}
-use Rattle.fc_core.specs.Exchanges.{FrontState, opening_is_live}
-use Rattle.fc_core.specs.Receiving.{id_in, keeping}
+use Rattle.fc_ticket.specs.declared.job.Job.{Job}
+use Rattle.fc_front.specs.declared.by_value.Answered.{Answered}
+use Rattle.fc_front.specs.declared.by_value.Answered.TheVariants.{Sent, Late, NoId}
+use Rattle.fc_front.specs.declared.front.Responded.{Responded}
+use Rattle.fc_front.specs.declared.front.Responded.TheVariants as responds
+use Rattle.fc_front.specs.Contents.{Content}
+use Rattle.fc_front.specs.Ids.{drawn_for}
+use Rattle.fc_front.specs.Replies.{IsReplyTo}
+use Rattle.fc_front.specs.Exchanges.{FrontState, opening_is_live}
+use Rattle.fc_front.specs.Receiving.{id_in, keeping}
 
 abbrev pub Answers : Bool → Option ℕ → Job → Content → Answered → Type 0
 Answers true (Some id) job content (Sent emission) = IsReplyTo job id content emission

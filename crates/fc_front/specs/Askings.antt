@@ -9,8 +9,8 @@ use Rattle.coap_opts.specs.Fields.{IsResource}
 use Rattle.coap_opts.specs.Served.{resource_in}
 use Rattle.coap_opts.specs.Verdict.{Asked}
 use Rattle.coap_opts.specs.Classified.{asked_by}
-use Rattle.fc_core.specs.Exchanges.{FrontState}
-use Rattle.fc_core.specs.Receiving.{Received, Refused, Silenced, look_in, looked, request_received}
+use Rattle.fc_front.specs.Exchanges.{FrontState}
+use Rattle.fc_front.specs.Receiving.{Received, Refused, Silenced, look_in, looked, request_received}
 use Rattle.coap_msg.specs.declared.types.Endpoint.{Endpoint}
 
 abbrev pub new_request : FrontState → Endpoint → Message → Asking (Unit {0}) → Request → Received

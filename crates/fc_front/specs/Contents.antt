@@ -1,17 +1,18 @@
 -- The content of an answer. The rule and the slot of a refusal by typing aren't specified.
 use Rattle.std.specs.Prelude.{◌≡◌, ◌≤◌, ℕ, Bool, true, List, Option}
 use Rattle.fc_isa.specs.declared.rule.Rule.{Rule}
-use Rattle.fc_registry.specs.declared.receipt.Receipt.{Receipt}
-use Rattle.fc_registry.specs.declared.job.Job.{Job}
-use Rattle.fc_registry.specs.declared.job.Origin.{Origin}
+use Rattle.fc_ticket.specs.declared.receipt.Receipt.{Receipt}
+use Rattle.fc_ticket.specs.declared.job.Job.{Job}
+use Rattle.fc_ticket.specs.declared.job.Origin.{Origin}
 use Rattle.fc_registry.specs.declared.commit.Committed.{Committed}
 use Rattle.fc_registry.specs.declared.commit.Committed.TheVariants.{Done}
 use Rattle.fc_registry.specs.declared.shard.Made.{Made as Install}
 use Rattle.fc_registry.specs.declared.shard.Made.TheVariants.{Raised, AtEnd}
 use Rattle.fc_registry.specs.declared.shard.Removal.{Removal}
 use Rattle.fc_registry.specs.declared.shard.Removal.TheVariants as removals
-use Rattle.fc_registry.specs.Slots.{Ticket, Mark, last_serial}
-use Rattle.fc_registry.specs.Calls.{run_of}
+use Rattle.fc_ticket.specs.Tickets.{Ticket}
+use Rattle.fc_registry.specs.Slots.{Mark, last_serial}
+use Rattle.fc_ticket.specs.Runs.{run_of}
 use Rattle.fc_machine.specs.Ran.{Ran as Run}
 use Rattle.fc_kinds.specs.Meaning.{Meaning}
 use Rattle.coap_block.specs.Cuts.{Part}

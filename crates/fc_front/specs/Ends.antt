@@ -6,11 +6,11 @@ use Rattle.fc_verify.specs.declared.refusal.Refusal.{Refusal}
 use Rattle.fc_verify.specs.declared.refusal.Refusal.TheVariants.{Broken, NoMemory}
 use Rattle.coap_block.specs.Cuts.{Part}
 use Rattle.coap_opts.specs.Values.{Place}
-use Rattle.fc_core.specs.declared.answer.End.{End}
-use Rattle.fc_core.specs.declared.answer.End.TheVariants.{Match, Missing, Unavailable, Made, Rejected, Removed, Told, Core}
-use Rattle.fc_core.specs.declared.answer.AnswerBody.{AnswerBody}
-use Rattle.fc_core.specs.declared.answer.AnswerBody.TheVariants.{Ran, Other}
-use Rattle.fc_core.specs.Contents.{Content, Ran as Runs, Missing as Misses, Unavailable as NotNow, Made as Makes, Rejected as Rejects, Untyped, Valid, Deleted, Described, Listed}
+use Rattle.fc_front.specs.declared.answer.End.{End}
+use Rattle.fc_front.specs.declared.answer.End.TheVariants.{Match, Missing, Unavailable, Made, Rejected, Removed, Told, Core}
+use Rattle.fc_front.specs.declared.answer.AnswerBody.{AnswerBody}
+use Rattle.fc_front.specs.declared.answer.AnswerBody.TheVariants.{Ran, Other}
+use Rattle.fc_front.specs.Contents.{Content, Ran as Runs, Missing as Misses, Unavailable as NotNow, Made as Makes, Rejected as Rejects, Untyped, Valid, Deleted, Described, Listed}
 
 -- a refusal by a rule below 20 has the rule and the slot; a refusal by typing has neither.
 abbrev pub refused_by : Bool → Fault → Content

@@ -5,10 +5,10 @@ use Rattle.coap_dedup.specs.declared.exchange.Limits.{Limits}
 use Rattle.coap_msg.specs.Windows.{window}
 use Rattle.coap_dedup.specs.Exchanges.{is_live as is_held}
 use Rattle.coap_block.specs.declared.transfer.Transfer.{Transfer}
-use Rattle.fc_registry.specs.declared.job.Opening.{Opening}
-use Rattle.fc_core.specs.Ids.{Ids, first_ids}
-use Rattle.fc_core.specs.declared.policy.Network.{Network}
-use Rattle.fc_core.specs.declared.policy.Policy.{Policy}
+use Rattle.fc_ticket.specs.declared.job.Opening.{Opening}
+use Rattle.fc_front.specs.Ids.{Ids, first_ids}
+use Rattle.fc_front.specs.declared.policy.Network.{Network}
+use Rattle.fc_front.specs.declared.policy.Policy.{Policy}
 
 -- whether this is the opening of an exchange: its number is less than 2^64 - 1.
 abbrev pub has_exchange : Opening → Bool

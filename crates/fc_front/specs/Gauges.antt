@@ -2,8 +2,8 @@
 use Rattle.std.specs.Prelude.{ℕ, length, max}
 use Rattle.coap_block.specs.Uploads.{live}
 use Rattle.coap_dedup.specs.Exchanges.{places_of}
-use Rattle.fc_core.specs.Exchanges.{FrontState, advanced}
-use Rattle.fc_core.specs.declared.gauges.FrontGauges.{FrontGauges}
+use Rattle.fc_front.specs.Exchanges.{FrontState, advanced}
+use Rattle.fc_front.specs.declared.gauges.FrontGauges.{FrontGauges}
 
 -- the exchanges within their lifetime at a time, and the transfers in progress then, each with the
 -- limit. An earlier time counts as the front's own.

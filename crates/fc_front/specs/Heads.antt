@@ -1,7 +1,8 @@
 -- Head words: the published states of the slots, which can be read without a snapshot.
 use Rattle.std.specs.Prelude.{ℕ, ◌+◌, ◌*◌, ◌/◌, ◌%◌, ◌==◌, ◌&&◌, Bool, true, false, List, Option, Some, None, map, max, replicate, slice_index_or, slice_set}
 use Rattle.std.specs.List.{list_any, range_with_len}
-use Rattle.fc_registry.specs.Slots.{Present, Slot}
+use Rattle.fc_ticket.specs.Tickets.{Present}
+use Rattle.fc_registry.specs.Slots.{Slot}
 
 -- the head word of a slot: twice its serial, plus one if it has a program.
 abbrev pub head_word : ℕ → Bool → ℕ

@@ -1,7 +1,7 @@
 -- The list of the slots that have a program, as links (RFC 6690, section 2).
 use Rattle.std.specs.Prelude.{ℕ, ◌+◌, if◌then◌else◌, List, [], ◌∷◌, ◌++◌, codes, drop}
 use Rattle.std.specs.Fmt.{decimal}
-use Rattle.fc_core.specs.Heads.{is_present}
+use Rattle.fc_front.specs.Heads.{is_present}
 
 -- a comma and the link to slot n's resource, which may be observed (RFC 7641, section 6).
 abbrev pub link : ℕ → List ℕ

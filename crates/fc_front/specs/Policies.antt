@@ -5,8 +5,8 @@ use Rattle.coap_msg.specs.declared.types.Endpoint.{Endpoint}
 use Rattle.coap_opts.specs.declared.request.Action.{Action}
 use Rattle.coap_opts.specs.declared.request.Action.TheVariants as actions
 use Rattle.coap_dedup.specs.Keys.{address_number}
-use Rattle.fc_core.specs.declared.policy.Network.{Network}
-use Rattle.fc_core.specs.declared.policy.Policy.{Policy}
+use Rattle.fc_front.specs.declared.policy.Network.{Network}
+use Rattle.fc_front.specs.declared.policy.Policy.{Policy}
 
 -- whether the address begins with the network's bits.
 abbrev pub is_in : List ℕ → Network → Bool

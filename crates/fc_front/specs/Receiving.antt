@@ -29,20 +29,20 @@ use Rattle.coap_block.specs.Transfers.{Addition, after_addition}
 use Rattle.fc_help.specs.Request.{Request}
 use Rattle.fc_help.specs.declared.request.Method.{Method as Verb}
 use Rattle.fc_help.specs.declared.request.Method.TheVariants.{Get, Post}
-use Rattle.fc_registry.specs.declared.job.Opening.{Opening}
-use Rattle.fc_registry.specs.declared.job.Ask.{Ask}
-use Rattle.fc_registry.specs.declared.job.Ask.TheVariants.{Run, Install, Remove, Describe, Discover}
-use Rattle.fc_registry.specs.declared.job.Job.{Job}
-use Rattle.fc_registry.specs.declared.job.InitialVars.{InitialVars}
-use Rattle.fc_registry.specs.declared.job.InitialVars.TheVariants.{Zeros, Kept}
-use Rattle.fc_core.specs.declared.by_value.Delivered.{Delivered}
-use Rattle.fc_core.specs.declared.by_value.Delivered.TheVariants.{Nothing, Reply, Job as Brings, Signal}
-use Rattle.fc_core.specs.declared.front.Handled.{Handled}
-use Rattle.fc_core.specs.declared.front.Handled.TheVariants as hearing
+use Rattle.fc_ticket.specs.declared.job.Opening.{Opening}
+use Rattle.fc_ticket.specs.declared.job.Ask.{Ask}
+use Rattle.fc_ticket.specs.declared.job.Ask.TheVariants.{Run, Install, Remove, Describe, Discover}
+use Rattle.fc_ticket.specs.declared.job.Job.{Job}
+use Rattle.fc_ticket.specs.declared.job.InitialVars.{InitialVars}
+use Rattle.fc_ticket.specs.declared.job.InitialVars.TheVariants.{Zeros, Kept}
+use Rattle.fc_front.specs.declared.by_value.Delivered.{Delivered}
+use Rattle.fc_front.specs.declared.by_value.Delivered.TheVariants.{Nothing, Reply, Job as Brings, Signal}
+use Rattle.fc_front.specs.declared.front.Handled.{Handled}
+use Rattle.fc_front.specs.declared.front.Handled.TheVariants as hearing
 use Rattle.coap_reply.specs.Responses.{Response, bare, reply_kind, sent_in, settled_by, reset_of}
-use Rattle.fc_core.specs.Ids.{Ids, free_id, reply_id, drawn_for}
-use Rattle.fc_core.specs.Exchanges.{FrontState}
-use Rattle.fc_core.specs.Policies.{is_allowed}
+use Rattle.fc_front.specs.Ids.{Ids, free_id, reply_id, drawn_for}
+use Rattle.fc_front.specs.Exchanges.{FrontState}
+use Rattle.fc_front.specs.Policies.{is_allowed}
 
 -- ---- classification
 

@@ -7,11 +7,11 @@ use Rattle.coap_opts.specs.declared.number.TheConstants as option
 use Rattle.coap_reply.specs.Blocks.{block1, cut_for}
 use Rattle.coap_reply.specs.Responses.{Envelope, Response, bare, content, etag, ran_response, reply_kind, sent_in, text}
 use Rattle.fc_isa.specs.Rules.{number_of, fault_text}
-use Rattle.fc_registry.specs.Receipts.{receipt_text}
-use Rattle.fc_registry.specs.declared.job.Job.{Job}
-use Rattle.fc_registry.specs.declared.receipt.Receipt.{Receipt}
-use Rattle.fc_core.specs.Contents.{Content, Ran, Missing, Unavailable, Made, Rejected, Untyped, Valid, Deleted, Described, Listed}
-use Rattle.fc_core.specs.Links.{links_text}
+use Rattle.fc_ticket.specs.Receipts.{receipt_text}
+use Rattle.fc_ticket.specs.declared.job.Job.{Job}
+use Rattle.fc_ticket.specs.declared.receipt.Receipt.{Receipt}
+use Rattle.fc_front.specs.Contents.{Content, Ran, Missing, Unavailable, Made, Rejected, Untyped, Valid, Deleted, Described, Listed}
+use Rattle.fc_front.specs.Links.{links_text}
 
 -- the response to an install: the receipt of the program. If the image came in blocks, the response
 -- has the last one as Block1.

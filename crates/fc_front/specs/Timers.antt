@@ -4,9 +4,9 @@ use Rattle.std.specs.Prelude.{ℕ, ◌%◌, false, List, [], ◌∷◌, None}
 use Rattle.coap_msg.specs.declared.types.Endpoint.{Endpoint}
 use Rattle.fc_help.specs.Request.{Request}
 use Rattle.fc_help.specs.declared.request.Method.TheVariants.{Post}
-use Rattle.fc_registry.specs.declared.job.Ask.TheVariants.{Run}
-use Rattle.fc_registry.specs.declared.job.Job.{Job}
-use Rattle.fc_registry.specs.declared.job.Opening.{Opening}
+use Rattle.fc_ticket.specs.declared.job.Ask.TheVariants.{Run}
+use Rattle.fc_ticket.specs.declared.job.Job.{Job}
+use Rattle.fc_ticket.specs.declared.job.Opening.{Opening}
 
 -- the opening of a job without an exchange: no exchange has this number.
 abbrev pub no_opening : Opening

@@ -1,8 +1,8 @@
 //! The answer of a job.
 ghost use Rattle.std.specs.Prelude.{◌≡◌, ◌≤◌, length};
 ghost use Rattle.fc_machine.specs.Ran.{meaning_of};
-ghost use Rattle.fc_core.specs.Contents.{Ran, AreOne, run_answer};
-ghost use Rattle.fc_core.specs.Ends.{IsTold, content_of, part_in, said_of};
+ghost use Rattle.fc_front.specs.Contents.{Ran, AreOne, run_answer};
+ghost use Rattle.fc_front.specs.Ends.{IsTold, content_of, part_in, said_of};
 
 use crate::heads::WORDS;
 use arrayvec::ArrayVec;
@@ -10,7 +10,8 @@ use coap_msg::Code;
 use coap_opts::Block;
 use coap_reply::{BLOCK, BodyBlock};
 use fc_machine::Outcome;
-use fc_registry::{Mark, Origin, Receipt, Ticket};
+use fc_registry::Mark;
+use fc_ticket::{Origin, Receipt, Ticket};
 use fc_verify::Refusal;
 use std::marker::Model;
 
@@ -68,11 +69,11 @@ pub struct Answer {
 }
 
 impl Model for Answer {
-    ghost use Rattle.fc_core.specs.Contents.{Content};
+    ghost use Rattle.fc_front.specs.Contents.{Content};
 
     ghost Value = { Content };
 
-    ghost use Rattle.fc_core.specs.Ends.{said_of, IsTold};
+    ghost use Rattle.fc_front.specs.Ends.{said_of, IsTold};
 
     ghost view = { λ a. said_of a.said a.bytes.items };
 

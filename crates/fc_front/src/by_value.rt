@@ -1,15 +1,15 @@
 //! The results of a front's calls by value: the job and the response are moved.
 ghost use Rattle.std.specs.Prelude.{◌≡◌};
-ghost use Rattle.fc_core.specs.Answering.{AnswersIn, after_answered, emission_of};
-ghost use Rattle.fc_core.specs.Contents.{IsOf};
-ghost use Rattle.fc_core.specs.Exchanges.{advanced};
-ghost use Rattle.fc_core.specs.Receiving.{after_delivered};
-ghost use Rattle.fc_core.specs.Receiving as receiving;
+ghost use Rattle.fc_front.specs.Answering.{AnswersIn, after_answered, emission_of};
+ghost use Rattle.fc_front.specs.Contents.{IsOf};
+ghost use Rattle.fc_front.specs.Exchanges.{advanced};
+ghost use Rattle.fc_front.specs.Receiving.{after_delivered};
+ghost use Rattle.fc_front.specs.Receiving as receiving;
 
 use crate::answer::Answer;
 use crate::front::{Front, Handled, Responded, blank_emission, blank_job};
 use coap_msg::{Emission, Endpoint};
-use fc_registry::Job;
+use fc_ticket::Job;
 
 /// The result of the delivery of a datagram.
 #[derive(Drop)]

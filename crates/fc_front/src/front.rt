@@ -3,19 +3,19 @@ ghost use Rattle.std.specs.Prelude.{◌≡◌, ◌≤◌, [], false, true, IfOk,
 ghost use Rattle.coap_opts.specs.Verdict.{verdict};
 ghost use Rattle.coap_opts.specs.Classified.{asked_by};
 ghost use Rattle.coap_dedup.specs.Exchanges.{IsNew};
-ghost use Rattle.fc_core.specs.Answering.{AnswersIn, after_answered, emission_of, responded};
-ghost use Rattle.fc_core.specs.Askings.{IsAsking, IsServable, asked_in, new_request, authorized};
-ghost use Rattle.fc_core.specs.Contents.{IsOf};
-ghost use Rattle.fc_core.specs.Exchanges as spec;
-ghost use Rattle.fc_core.specs.Exchanges.{advanced, first_front, front_expired, handed};
-ghost use Rattle.fc_core.specs.Gauges.{gauges_at};
-ghost use Rattle.fc_core.specs.Ids.{drawn_for, free_id};
-ghost use Rattle.fc_core.specs.Policies.{is_allowed};
+ghost use Rattle.fc_front.specs.Answering.{AnswersIn, after_answered, emission_of, responded};
+ghost use Rattle.fc_front.specs.Askings.{IsAsking, IsServable, asked_in, new_request, authorized};
+ghost use Rattle.fc_front.specs.Contents.{IsOf};
+ghost use Rattle.fc_front.specs.Exchanges as spec;
+ghost use Rattle.fc_front.specs.Exchanges.{advanced, first_front, front_expired, handed};
+ghost use Rattle.fc_front.specs.Gauges.{gauges_at};
+ghost use Rattle.fc_front.specs.Ids.{drawn_for, free_id};
+ghost use Rattle.fc_front.specs.Policies.{is_allowed};
 ghost use Rattle.coap_block.specs.Transfers.{after_addition};
 ghost use Rattle.coap_block.specs.Views.{add_seen};
-ghost use Rattle.fc_core.specs.Receiving.{add_in, addition_of, after_delivered, after_received, emission_if, handed_on, handled, handled_if, id_in, is_confirmable, look_in, next_opening, opening_for, received_as, reply_or_nothing, request_received, immediate_front, reply_sent};
-ghost use Rattle.fc_core.specs.Receiving as receiving;
-ghost use Rattle.fc_core.specs.Timers.{timer_job};
+ghost use Rattle.fc_front.specs.Receiving.{add_in, addition_of, after_delivered, after_received, emission_if, handed_on, handled, handled_if, id_in, is_confirmable, look_in, next_opening, opening_for, received_as, reply_or_nothing, request_received, immediate_front, reply_sent};
+ghost use Rattle.fc_front.specs.Receiving as receiving;
+ghost use Rattle.fc_front.specs.Timers.{timer_job};
 ghost use Rattle.coap_reply.specs.Responses.{reset_of, settled_by};
 
 use crate::answer::Answer;
@@ -33,7 +33,7 @@ use coap_msg::{Bad, Code, Datagram, Emission, Endpoint, Message, MessageType, WI
 use coap_opts::laws::requests_are_within;
 use coap_opts::{Action, Asking, Block, Classified, Request, classify_over};
 use coap_reply::reset;
-use fc_registry::{Ask, Job, Opening, Origin, SlotNumber};
+use fc_ticket::{Ask, Job, Opening, Origin, SlotNumber};
 use std::alloc::{AllocError, Global};
 use std::marker::Model;
 
@@ -81,7 +81,7 @@ pub struct Front {
 
 impl Model for Front {
     ghost use Rattle.std.specs.Prelude.{◌≤◌};
-    ghost use Rattle.fc_core.specs.Exchanges.{FrontState};
+    ghost use Rattle.fc_front.specs.Exchanges.{FrontState};
 
     ghost Value = { FrontState };
 

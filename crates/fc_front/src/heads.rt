@@ -7,10 +7,10 @@ ghost use Rattle.fc_registry.specs.Restored.{restored_slot};
 ghost use Rattle.fc_registry.specs.Slots.{last_serial};
 ghost use Rattle.fc_registry.specs.Starts.{CanRestore};
 ghost use Rattle.fc_store.specs.Stored.{stored_in};
-ghost use Rattle.fc_core.specs.Heads as spec;
+ghost use Rattle.fc_front.specs.Heads as spec;
 
-use fc_registry::{SLOTS, SlotNumber};
 use fc_store::StoredSlot;
+use fc_ticket::{SLOTS, SlotNumber};
 use std::marker::Model;
 
 /// The number of slots.

@@ -3,7 +3,7 @@
 //! The front draws a message ID for each response that isn't an acknowledgement, and for each
 //! notification.
 ghost use Rattle.std.specs.Prelude.{◌≡◌, ◌<◌, IfOk, length};
-ghost use Rattle.fc_core.specs.Ids.{first_ids, free_id, drawn, is_recent};
+ghost use Rattle.fc_front.specs.Ids.{first_ids, free_id, drawn, is_recent};
 
 use coap_msg::WINDOW;
 use std::alloc::{AllocError, Global};
@@ -21,7 +21,7 @@ pub(crate) struct MessageIds {
 
 impl Model for MessageIds {
     ghost use Rattle.std.specs.Prelude.{◌≡◌, length};
-    ghost use Rattle.fc_core.specs.Ids.{Ids};
+    ghost use Rattle.fc_front.specs.Ids.{Ids};
 
     ghost Value = { Ids };
 

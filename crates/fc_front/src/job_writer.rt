@@ -1,10 +1,10 @@
 //! The jobs of requests and of timers, each written over a job.
 ghost use Rattle.std.specs.Prelude.{◌≡◌, ◌≤◌, length};
 ghost use Rattle.coap_opts.specs.Classified.{asked_by};
-ghost use Rattle.fc_core.specs.Askings.{IsServable};
-ghost use Rattle.fc_core.specs.Receiving.{ask_by, etags_by, job_of, observes, request_asked, initial_vars_by};
-ghost use Rattle.fc_core.specs.Receiving as receiving;
-ghost use Rattle.fc_core.specs.Timers.{timer_job, timer_request};
+ghost use Rattle.fc_front.specs.Askings.{IsServable};
+ghost use Rattle.fc_front.specs.Receiving.{ask_by, etags_by, job_of, observes, request_asked, initial_vars_by};
+ghost use Rattle.fc_front.specs.Receiving as receiving;
+ghost use Rattle.fc_front.specs.Timers.{timer_job, timer_request};
 
 use arrayvec::ArrayVec;
 use coap_block::Body;
@@ -12,7 +12,7 @@ use coap_msg::{Endpoint, Message, MessageType, Token};
 use coap_opts::request::ETAGS;
 use coap_opts::{Action, Block, CANCEL, REGISTER, Request, has_observe};
 use fc_help::Method;
-use fc_registry::{Ask, InitialVars, Job, Opening, Origin, SlotNumber};
+use fc_ticket::{Ask, InitialVars, Job, Opening, Origin, SlotNumber};
 
 /// The opening of a job without an exchange, with a number that no exchange has.
 pub(crate) const NO_OPENING: Opening = Opening {

@@ -3,9 +3,9 @@
 //! The allow list names the addresses that may change programs. The policy also determines how
 //! often notifications are confirmable.
 ghost use Rattle.std.specs.Prelude.{◌≡◌, ◌/◌, ◌^◌, ◌-◌};
-ghost use Rattle.fc_core.specs.Policies as spec;
+ghost use Rattle.fc_front.specs.Policies as spec;
 ghost use Rattle.coap_dedup.specs.Keys.{address_number};
-ghost use Rattle.fc_core.specs.Policies.{is_in};
+ghost use Rattle.fc_front.specs.Policies.{is_in};
 
 use coap_dedup::{DEFAULT_LIMITS, Limits};
 use coap_msg::Endpoint;

@@ -5,18 +5,18 @@ ghost use Rattle.coap_opts.specs.Replies.{reply_options};
 ghost use Rattle.coap_reply.specs.Views.{HasNoBlock};
 ghost use Rattle.coap_reply.specs.Responses.{etag, sent_in, settled_by};
 ghost use Rattle.coap_reply.specs.Views.{to_peer};
-ghost use Rattle.fc_core.specs.Contents.{Listed};
-ghost use Rattle.fc_core.specs.Ends.{content_of, part_in};
-ghost use Rattle.fc_core.specs.Receiving.{reply_sent_by};
-ghost use Rattle.fc_core.specs.Replies as spec;
-ghost use Rattle.fc_core.specs.Replies.{IsReplyTo, link_format, made_response, to_job};
+ghost use Rattle.fc_front.specs.Contents.{Listed};
+ghost use Rattle.fc_front.specs.Ends.{content_of, part_in};
+ghost use Rattle.fc_front.specs.Receiving.{reply_sent_by};
+ghost use Rattle.fc_front.specs.Replies as spec;
+ghost use Rattle.fc_front.specs.Replies.{IsReplyTo, link_format, made_response, to_job};
 
 use crate::answer::{Answer, AnswerBody, End};
 use crate::text::{fault_line, link_lines, receipt_line};
 use coap_msg::{Code, Datagram, Emission, Endpoint, Message, MessageType};
 use coap_opts::{Block, ReplyOptions};
 use coap_reply::{BodyBlock, Envelope, content, ran, reply_kind, respond, text};
-use fc_registry::{Job, Receipt};
+use fc_ticket::{Job, Receipt};
 use fc_verify::Refusal;
 
 // Writes the response to a job over `bytes`, with this message ID and this answer.

@@ -2,13 +2,13 @@
 ghost use Rattle.std.specs.Prelude.{◌≡◌, ◌+◌, ◌<◌, ◌≤◌, ◌++◌, length};
 ghost use Rattle.std.specs.Fmt.{decimal};
 ghost use Rattle.fc_isa.specs.Rules.{number_of, fault_text};
-ghost use Rattle.fc_registry.specs.Receipts.{receipt_text};
-ghost use Rattle.fc_core.specs.Links.{link, links_from};
+ghost use Rattle.fc_ticket.specs.Receipts.{receipt_text};
+ghost use Rattle.fc_front.specs.Links.{link, links_from};
 
 use crate::heads::is_present;
 use arrayvec::ArrayVec;
 use fc_isa::Fault;
-use fc_registry::Receipt;
+use fc_ticket::Receipt;
 use itoa::Buffer;
 
 // The greatest length of a text, in bytes.

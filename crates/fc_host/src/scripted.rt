@@ -3,7 +3,7 @@
 //! The player waits at the scripted host for the worker that runs a line's job.
 use coap_msg::Emission;
 use fc_backend::{CallLog, Device, TimeSource, Wire};
-use fc_core::front::blank_emission;
+use fc_front::front::blank_emission;
 use fc_help::{NO_READINGS, Readings};
 use std::sync::atomic::{AtomicU64, Ordering};
 use std::sync::{Condvar, Mutex, Wait};

@@ -1,5 +1,5 @@
 //! A timer: a slot whose program runs periodically.
-use fc_registry::SlotNumber;
+use fc_ticket::SlotNumber;
 use std::marker::Model;
 
 /// The time from one beat of a timer to the next, in milliseconds: at least 1.

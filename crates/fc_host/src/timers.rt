@@ -5,7 +5,7 @@ ghost use Rattle.std.specs.Prelude.{◌≡◌, ◌≤◌};
 ghost use Rattle.fc_host.specs.Timers.{first_due, new_timer, put_off};
 
 use crate::timer::{Period, Timer};
-use fc_registry::SlotNumber;
+use fc_ticket::SlotNumber;
 
 impl Timer {
     /// Makes a timer that is first due after one period.

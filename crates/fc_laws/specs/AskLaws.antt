@@ -10,7 +10,7 @@ use Rattle.coap_opts.specs.declared.number.TheConstants as option
 use Rattle.coap_opts.specs.Verdict.{number_in, query, values}
 use Rattle.fc_help.specs.Request.{Request}
 use Rattle.fc_help.specs.declared.request.Method.{Method}
-use Rattle.fc_registry.specs.declared.job.Job.{Job}
+use Rattle.fc_ticket.specs.declared.job.Job.{Job}
 use Rattle.fc_core.specs.declared.event.Event.TheVariants.{Deliver}
 use Rattle.fc_core.specs.History.{Entry, Seen, and_then}
 use Rattle.fc_core.specs.Stages.{new_task}

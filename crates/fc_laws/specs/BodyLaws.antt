@@ -10,14 +10,14 @@ use Rattle.coap_opts.specs.declared.request.Action.TheVariants as actions
 use Rattle.coap_opts.specs.Verdict.{Asked, IsAsked, verdict}
 use Rattle.coap_block.specs.Transfers.{Addition}
 use Rattle.coap_block.specs.UnderWay.{FitsBehind}
-use Rattle.fc_registry.specs.declared.job.Ask.TheVariants.{Install as Installs}
-use Rattle.fc_registry.specs.declared.job.Job.{Job}
+use Rattle.fc_ticket.specs.declared.job.Ask.TheVariants.{Install as Installs}
+use Rattle.fc_ticket.specs.declared.job.Job.{Job}
 use Rattle.fc_core.specs.declared.event.Event.{Event}
 use Rattle.fc_core.specs.declared.event.Event.TheVariants.{Deliver}
 use Rattle.fc_laws.specs.ExchangeLaws.{IsOpening}
 use Rattle.fc_core.specs.History.{Entry, Seen, and_then, front_at}
-use Rattle.fc_core.specs.Receiving.{Received, Immediate, add_in, addition_of, received_added, reply_sent, initial_vars_by}
-use Rattle.fc_core.specs.Policies.{is_allowed}
+use Rattle.fc_front.specs.Receiving.{Received, Immediate, add_in, addition_of, received_added, reply_sent, initial_vars_by}
+use Rattle.fc_front.specs.Policies.{is_allowed}
 use Rattle.coap_reply.specs.Responses.{Response, bare, settled_by}
 use Rattle.fc_core.specs.Stages.{new_task}
 

@@ -4,12 +4,12 @@ use Rattle.coap_msg.specs.Wire.{Message}
 use Rattle.coap_opts.specs.Verdict.{Asked}
 use Rattle.coap_reply.specs.Responses.{Response}
 use Rattle.fc_observe.specs.declared.entry.Turn.{Turn}
-use Rattle.fc_registry.specs.Slots.{Ticket}
+use Rattle.fc_ticket.specs.Tickets.{Ticket}
 use Rattle.fc_core.specs.declared.event.Event.{Event}
 use Rattle.fc_core.specs.declared.event.Event.TheVariants.{Answer, Deliver, Fresh}
-use Rattle.fc_core.specs.Contents.{Content}
+use Rattle.fc_front.specs.Contents.{Content}
 use Rattle.fc_core.specs.History.{Seen, job, stage}
-use Rattle.fc_core.specs.Receiving.{Immediate, is_confirmable}
+use Rattle.fc_front.specs.Receiving.{Immediate, is_confirmable}
 use Rattle.fc_core.specs.Stage.{ToAnswer, ToTell}
 use Rattle.fc_core.specs.TurnStage as turns
 use Rattle.fc_laws.specs.BodyLaws.{Asks, asked_at}

@@ -8,12 +8,12 @@ use Rattle.coap_msg.specs.Wire.{Message}
 use Rattle.coap_opts.specs.Verdict.{Verdict, IsAsked, IsRefused, IsSilent, verdict}
 use Rattle.coap_dedup.specs.Exchanges.{Exchange}
 use Rattle.coap_dedup.specs.Exchanges.{is_of, places_of, share_of}
-use Rattle.fc_registry.specs.declared.job.Job.{Job}
+use Rattle.fc_ticket.specs.declared.job.Job.{Job}
 use Rattle.fc_core.specs.declared.event.Event.{Event}
 use Rattle.fc_core.specs.declared.event.Event.TheVariants.{Deliver}
 use Rattle.coap_reply.specs.Responses.{bare}
 use Rattle.fc_core.specs.History.{Entry, History, BeginsWith, Then, Seen, seen, and_then, front_at}
-use Rattle.fc_core.specs.Receiving.{is_confirmable, reply_sent}
+use Rattle.fc_front.specs.Receiving.{is_confirmable, reply_sent}
 
 -- ---- duplicates
 

@@ -4,7 +4,7 @@ use Rattle.fc_registry.specs.Restored.{restored_slot}
 use Rattle.fc_registry.specs.Slots.{Slot}
 use Rattle.fc_core.specs.Stage.{Stage}
 use Rattle.fc_core.specs.Stage.{ToRaise}
-use Rattle.fc_core.specs.Heads.{first_word, head_word}
+use Rattle.fc_front.specs.Heads.{first_word, head_word}
 use Rattle.fc_core.specs.declared.event.Event.{Event}
 use Rattle.fc_core.specs.declared.event.Event.TheVariants.{Raise}
 use Rattle.fc_core.specs.History.{History, BeginsWith, Then, Seen, seen, stage}

@@ -2,12 +2,12 @@
 use Rattle.std.specs.Prelude.{◌≡◌, ℕ, ◌⊎◌, true, List, map, slice_set, Option, Some, None, is_some, max}
 use Rattle.arrayvec.specs.ArrayVec.{ArrayVec}
 use Rattle.coap_msg.specs.declared.types.Emission.{Emission}
-use Rattle.fc_core.specs.Contents.{Content}
+use Rattle.fc_front.specs.Contents.{Content}
 use Rattle.fc_core.specs.declared.event.Event.{Event}
 use Rattle.fc_core.specs.declared.event.Event.TheVariants.{Answer}
 use Rattle.fc_core.specs.Stage.{ToAnswer}
 use Rattle.fc_core.specs.History.{Seen, job, stage}
-use Rattle.fc_core.specs.Ids.{free_id}
+use Rattle.fc_front.specs.Ids.{free_id}
 
 -- ---- stored answers
 

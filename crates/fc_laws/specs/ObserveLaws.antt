@@ -9,8 +9,8 @@ use Rattle.fc_observe.specs.declared.entry.Entry.{Entry as ObserverEntry}
 use Rattle.fc_observe.specs.Entries.{is_due, is_entry_of}
 use Rattle.fc_observe.specs.Observers.{ObserverList}
 use Rattle.fc_observe.specs.Views.{interest_of}
-use Rattle.fc_registry.specs.Calls.{meaning_at}
-use Rattle.fc_registry.specs.Slots.{Ticket}
+use Rattle.fc_ticket.specs.Runs.{meaning_at}
+use Rattle.fc_ticket.specs.Tickets.{Ticket}
 use Rattle.fc_registry.specs.Turns.{turn_job}
 use Rattle.fc_core.specs.declared.event.Event.TheVariants.{Commit}
 use Rattle.fc_core.specs.Stage.{ToCommit, ToTell}

@@ -3,13 +3,13 @@ use Rattle.std.specs.Prelude.{◌≡◌, ◌⊎◌, ℕ, Bool, true, false, List
 use Rattle.coap_msg.specs.Wire.{Message}
 use Rattle.coap_msg.specs.declared.types.Emission.{Emission}
 use Rattle.coap_dedup.specs.Exchanges.{Exchange, is_at}
-use Rattle.fc_registry.specs.declared.job.Ask.{Ask}
-use Rattle.fc_registry.specs.declared.job.Ask.TheVariants.{Install, Remove}
-use Rattle.fc_registry.specs.declared.job.Job.{Job}
+use Rattle.fc_ticket.specs.declared.job.Ask.{Ask}
+use Rattle.fc_ticket.specs.declared.job.Ask.TheVariants.{Install, Remove}
+use Rattle.fc_ticket.specs.declared.job.Job.{Job}
 use Rattle.fc_core.specs.declared.event.Event.{Event}
-use Rattle.fc_core.specs.declared.policy.Network.{Network}
+use Rattle.fc_front.specs.declared.policy.Network.{Network}
 use Rattle.fc_core.specs.History.{Seen}
-use Rattle.fc_core.specs.Policies.{is_manager}
+use Rattle.fc_front.specs.Policies.{is_manager}
 use Rattle.fc_laws.specs.ExchangeLaws.{bare_by}
 
 -- whether the action installs a program or removes one.

@@ -15,10 +15,10 @@ use Rattle.fc_observe.specs.declared.entry.Entry.{Entry as ObserverEntry}
 use Rattle.fc_observe.specs.declared.entry.Turn.{Turn}
 use Rattle.fc_observe.specs.Observers.{list_at_time, entry_out, turn_missed}
 use Rattle.fc_registry.specs.Calls.{wants}
-use Rattle.fc_registry.specs.Slots.{Present, Ticket}
+use Rattle.fc_ticket.specs.Tickets.{Present, Ticket}
 use Rattle.fc_verify.specs.Accepted.{Accepts}
 use Rattle.fc_verify.specs.Judged.{judged}
-use Rattle.fc_core.specs.Contents.{Content}
+use Rattle.fc_front.specs.Contents.{Content}
 use Rattle.fc_core.specs.declared.event.Event.{Event}
 use Rattle.fc_core.specs.declared.event.Event.TheVariants.{Answer, Commit, Deliver, Fresh, Install, Note, Receipt, Refuse, Remove, Take}
 use Rattle.fc_core.specs.Stage.{Stage}
@@ -26,7 +26,7 @@ use Rattle.fc_core.specs.Stage.{ToAnswer, ToCommit, ToDescribe, ToInstall, ToRem
 use Rattle.fc_core.specs.TurnStage as turns
 use Rattle.fc_laws.specs.ExchangeLaws.{ExceedsShare, FindsNoExchange, IsOpening, OpensOne}
 use Rattle.fc_core.specs.History.{Entry, Seen, and_then, job, slot_at, stage, watch}
-use Rattle.fc_core.specs.Ids.{free_id}
+use Rattle.fc_front.specs.Ids.{free_id}
 use Rattle.fc_core.specs.Laws.{slot_of}
 use Rattle.fc_laws.specs.ReplyLaws.{Refuses, Rejects}
 use Rattle.fc_core.specs.Stages.{image_of, is_refusable}

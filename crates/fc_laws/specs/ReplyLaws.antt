@@ -8,15 +8,15 @@ use Rattle.coap_msg.specs.declared.types.MessageType.TheVariants.{Confirmable}
 use Rattle.coap_msg.specs.Reading.{reading_of}
 use Rattle.coap_msg.specs.Wire.{Message}
 use Rattle.coap_opts.specs.Verdict.{Asked, IsAsked, IsRefused, verdict}
-use Rattle.fc_core.specs.Policies.{is_allowed}
+use Rattle.fc_front.specs.Policies.{is_allowed}
 use Rattle.coap_reply.specs.Responses.{Response, sent_in}
-use Rattle.fc_registry.specs.declared.job.Job.{Job}
+use Rattle.fc_ticket.specs.declared.job.Job.{Job}
 use Rattle.fc_core.specs.declared.event.Event.{Event}
 use Rattle.fc_core.specs.declared.event.Event.TheVariants.{Deliver}
-use Rattle.fc_core.specs.Contents.{Content}
+use Rattle.fc_front.specs.Contents.{Content}
 use Rattle.fc_laws.specs.ExchangeLaws.{IsOpening}
 use Rattle.fc_core.specs.History.{Seen}
-use Rattle.fc_core.specs.Replies.{Says}
+use Rattle.fc_front.specs.Replies.{Says}
 
 -- ---- refusals
 

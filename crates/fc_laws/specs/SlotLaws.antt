@@ -5,12 +5,14 @@ use Rattle.fc_help.specs.declared.request.Method.TheVariants.{Post}
 use Rattle.fc_kinds.specs.Meaning.{Program}
 use Rattle.fc_verify.specs.Accepted.{Accepts}
 use Rattle.fc_verify.specs.Judged.{judged}
-use Rattle.fc_registry.specs.Calls.{commit_of, meaning_at, initial_vars_of}
+use Rattle.fc_registry.specs.Calls.{commit_of}
+use Rattle.fc_ticket.specs.Runs.{meaning_at, initial_vars_of}
 use Rattle.fc_registry.specs.Changes.{Change, Installed, Committed, Removed}
 use Rattle.fc_registry.specs.Record.{code_class}
-use Rattle.fc_registry.specs.Slots.{Present, Ticket, vars_in}
-use Rattle.fc_registry.specs.declared.job.Ask.TheVariants.{Install as Asks}
-use Rattle.fc_registry.specs.declared.job.InitialVars.{InitialVars}
+use Rattle.fc_ticket.specs.Tickets.{Present, Ticket}
+use Rattle.fc_registry.specs.Slots.{vars_in}
+use Rattle.fc_ticket.specs.declared.job.Ask.TheVariants.{Install as Asks}
+use Rattle.fc_ticket.specs.declared.job.InitialVars.{InitialVars}
 use Rattle.fc_core.specs.declared.event.Event.TheVariants.{Commit, Install, Remove}
 use Rattle.fc_core.specs.Transitions.{Inputs}
 use Rattle.fc_core.specs.Stage.{Stage}

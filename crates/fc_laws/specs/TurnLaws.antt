@@ -15,8 +15,8 @@ use Rattle.fc_observe.specs.declared.entry.Phase.TheVariants.{Outstanding, TurnO
 use Rattle.fc_observe.specs.declared.entry.Turn.{Turn}
 use Rattle.fc_observe.specs.Observers.{ObserverList, list_at_time, entry_out, overdue_entry}
 use Rattle.fc_observe.specs.Entries.{is_entry_of}
-use Rattle.fc_registry.specs.Calls.{meaning_at}
-use Rattle.fc_registry.specs.Slots.{Ticket}
+use Rattle.fc_ticket.specs.Runs.{meaning_at}
+use Rattle.fc_ticket.specs.Tickets.{Ticket}
 use Rattle.fc_core.specs.declared.event.Event.TheVariants.{Commit, Note, ShardTick, Signal}
 use Rattle.fc_core.specs.Stage.{ToCommit, ToTell}
 use Rattle.fc_core.specs.TurnStage.{ToNote}

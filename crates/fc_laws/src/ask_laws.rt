@@ -8,11 +8,11 @@ ghost use Rattle.fc_laws.specs.AskLaws.{BringsJob, IsPlain, Requests, core_path,
 ghost use Rattle.fc_laws.specs.BodyLaws.{Asks};
 ghost use Rattle.fc_core.specs.History.{Entry, Seen};
 ghost use Rattle.fc_help.specs.declared.request.Method.TheVariants.{Get, Post};
-ghost use Rattle.fc_registry.specs.declared.job.Ask.TheVariants.{Describe, Discover, Install, Remove, Run};
-ghost use Rattle.fc_registry.specs.declared.job.Job.{Job};
-ghost use Rattle.fc_registry.specs.declared.job.InitialVars.TheVariants.{Kept, Zeros};
-ghost use Rattle.fc_registry.specs.Calls.{initial_vars_of};
-ghost use Rattle.fc_core.specs.Receiving.{initial_vars_by};
+ghost use Rattle.fc_ticket.specs.declared.job.Ask.TheVariants.{Describe, Discover, Install, Remove, Run};
+ghost use Rattle.fc_ticket.specs.declared.job.Job.{Job};
+ghost use Rattle.fc_ticket.specs.declared.job.InitialVars.TheVariants.{Kept, Zeros};
+ghost use Rattle.fc_ticket.specs.Runs.{initial_vars_of};
+ghost use Rattle.fc_front.specs.Receiving.{initial_vars_by};
 ghost use Rattle.std.specs.Prelude.{ℕ, ◌≡◌, ◌≢◌, ◌↔◌, ◌<◌, ◌≤◌, ◌∷◌, [], None, Some, codes, length, max, true};
 
 /// A job has the request of its message, by the code and path (RFC 7252, 5.8).

@@ -13,7 +13,7 @@ ghost use Rattle.fc_laws.specs.BodyLaws.{Asks, BringsInstall, FitsBy, IsAnswerAt
 ghost use Rattle.fc_laws.specs.ExchangeLaws.{bare_by};
 ghost use Rattle.fc_core.specs.History.{Entry, History, Seen, and_then, seen};
 ghost use Rattle.fc_core.specs.Legal.{Emits};
-ghost use Rattle.fc_core.specs.Receiving.{Opened, Immediate};
+ghost use Rattle.fc_front.specs.Receiving.{Opened, Immediate};
 ghost use Rattle.coap_reply.specs.Responses.{Response, bare, settled_by};
 ghost use Rattle.std.specs.Prelude.{ℕ, ◌≡◌, ◌↔◌, ◌++◌, ◌<◌, ◌≤◌, List, Some, false, length, true};
 

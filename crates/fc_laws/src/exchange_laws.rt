@@ -1,7 +1,7 @@
 //! Laws of exchanges and message IDs: each function is a law with its contract.
 ghost use Rattle.coap_dedup.specs.Exchanges.{Exchange};
 ghost use Rattle.fc_laws.specs.ExchangeLaws.{AllBefore, AreApart, AreInOrder, FindsNoExchange, HasExchange, IsOfRequest, Opens, OpensOne, Repeats, arrivals, bare_by, draws_of, first_id, repeat_emits};
-ghost use Rattle.fc_core.specs.Contents.{Content};
+ghost use Rattle.fc_front.specs.Contents.{Content};
 ghost use Rattle.fc_core.specs.History.{Entry, History, Seen, Then, and_then, did, job, seen, stage};
 ghost use Rattle.fc_laws.specs.DrawLaws.{NeedsId};
 ghost use Rattle.fc_laws.specs.TimerLaws.{HasNoFire};
@@ -11,7 +11,7 @@ ghost use Rattle.fc_core.specs.Stage.{ToAnswer};
 ghost use Rattle.coap_msg.specs.Wire.{Message};
 ghost use Rattle.coap_msg.specs.declared.types.Emission.{Emission};
 ghost use Rattle.fc_core.specs.Laws.{HasCome};
-ghost use Rattle.fc_core.specs.Ids.{free_id};
+ghost use Rattle.fc_front.specs.Ids.{free_id};
 ghost use Rattle.fc_core.specs.Legal.{Emits};
 ghost use Rattle.std.specs.Prelude.{ℕ, ◌+◌, ◌%◌, ◌<◌, ◌≤◌, ◌≡◌, ◌↔◌, ◌++◌, ◌∷◌, [], None, Option, Some, is_some, false, length, max, true};
 

@@ -2,8 +2,8 @@
 ghost use Rattle.std.specs.Prelude.{◌≡◌, [], ◌∷◌, ℕ};
 ghost use Rattle.coap_block.specs.declared.transfer.Transfer.{Transfer};
 ghost use Rattle.coap_dedup.specs.Exchanges.{Exchange};
-ghost use Rattle.fc_core.specs.Exchanges.{FrontState};
-ghost use Rattle.fc_core.specs.Gauges.{gauges_at};
+ghost use Rattle.fc_front.specs.Exchanges.{FrontState};
+ghost use Rattle.fc_front.specs.Gauges.{gauges_at};
 
 /// A front holds an exchange and a transfer for 247 s.
 ///

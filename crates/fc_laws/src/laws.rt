@@ -1,6 +1,6 @@
 //! Laws of jobs: each function is a law, stated by its contract.
 ghost use Rattle.coap_msg.specs.declared.types.Emission.{Emission};
-ghost use Rattle.fc_core.specs.Contents.{Content, Ran, RunAnswer, Unavailable};
+ghost use Rattle.fc_front.specs.Contents.{Content, Ran, RunAnswer, Unavailable};
 ghost use Rattle.fc_core.specs.declared.event.Event.TheVariants.{Take, Commit, Install, Refuse, Raise, Answer, Lose};
 ghost use Rattle.fc_core.specs.Stage.{ToTake, ToCommit, ToInstall, ToRemove, ToRaise, ToAnswer, ToTell, Gone};
 ghost use Rattle.fc_core.specs.TurnStage.{ToDraw, ToNote};
@@ -8,9 +8,10 @@ ghost use Rattle.fc_core.specs.History.{Entry, History, Then, Seen, seen, and_th
 ghost use Rattle.fc_core.specs.Laws.{HasCome, IsOfNewest, IsOvertaken, TakesAgain, answer_at, answers_of, is_noop, followed_by, slot_of, snapshots_of};
 ghost use Rattle.fc_help.specs.declared.request.Method.TheVariants.{Get, Post};
 ghost use Rattle.fc_observe.specs.declared.entry.Turn.{Turn};
-ghost use Rattle.fc_registry.specs.Calls.{commit_of, meaning_at, run_of};
+ghost use Rattle.fc_registry.specs.Calls.{commit_of};
+ghost use Rattle.fc_ticket.specs.Runs.{meaning_at, run_of};
 ghost use Rattle.fc_registry.specs.Record.{code_class};
-ghost use Rattle.fc_registry.specs.Slots.{Present, Ticket};
+ghost use Rattle.fc_ticket.specs.Tickets.{Present, Ticket};
 ghost use Rattle.fc_core.specs.Legal.{AllMean, Emits, IsMeant};
 ghost use Rattle.fc_core.specs.Stages.{is_refusable};
 ghost use Rattle.fc_core.specs.Transitions.{names};

@@ -6,7 +6,7 @@ ghost use Rattle.coap_opts.specs.Verdict.{Asked};
 ghost use Rattle.fc_observe.specs.declared.entry.Turn.{Turn};
 ghost use Rattle.fc_laws.specs.BodyLaws.{Asks, RespondsNowBy};
 ghost use Rattle.fc_core.specs.History.{Entry, Seen, and_then};
-ghost use Rattle.fc_core.specs.Receiving.{slot_asked};
+ghost use Rattle.fc_front.specs.Receiving.{slot_asked};
 ghost use Rattle.fc_laws.specs.RefusalLaws.{FindsTurnMissing, IsRefusedByCheck, IsRefusedCall, IsTurnedDown, LeavesAll, LeavesAllButExchange, LeavesAllButStage, LeavesAllButTransfer, LeavesAllButTurn, sender};
 
 use coap_block::laws::blocks_leave_other_transfers;

@@ -9,16 +9,16 @@ ghost use Rattle.coap_msg.specs.declared.types.Endpoint.{Endpoint};
 ghost use Rattle.coap_msg.specs.declared.types.MessageType.TheVariants.{Acknowledgement, Confirmable, NonConfirmable};
 ghost use Rattle.coap_opts.specs.Verdict.{IsIgnored, IsSignal, IsSilent, verdict};
 ghost use Rattle.coap_reply.specs.Responses.{Response, sent_in};
-ghost use Rattle.fc_core.specs.Contents.{Content};
+ghost use Rattle.fc_front.specs.Contents.{Content};
 ghost use Rattle.fc_laws.specs.ExchangeLaws.{IsOpening, bare_by};
-ghost use Rattle.fc_core.specs.Exchanges.{FrontState};
+ghost use Rattle.fc_front.specs.Exchanges.{FrontState};
 ghost use Rattle.fc_core.specs.History.{Entry, Seen, and_then, did, job, stage};
-ghost use Rattle.fc_core.specs.Ids.{free_id};
+ghost use Rattle.fc_front.specs.Ids.{free_id};
 ghost use Rattle.fc_core.specs.Legal.{Emits};
-ghost use Rattle.fc_core.specs.Receiving.{delivered, reply_sent};
+ghost use Rattle.fc_front.specs.Receiving.{delivered, reply_sent};
 ghost use Rattle.fc_laws.specs.ReplyLaws.{IsAnswerTo, Refuses, Rejects, reset_to};
 ghost use Rattle.fc_core.specs.declared.event.Event.TheVariants.{Answer, Deliver};
-ghost use Rattle.fc_core.specs.declared.by_value.Delivered.TheVariants.{Signal};
+ghost use Rattle.fc_front.specs.declared.by_value.Delivered.TheVariants.{Signal};
 ghost use Rattle.fc_core.specs.Stage.{ToAnswer};
 
 /// A request that a check of its options refuses is answered with the check's code.

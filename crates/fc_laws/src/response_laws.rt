@@ -5,14 +5,14 @@ ghost use Rattle.coap_block.specs.Cuts.{Part};
 ghost use Rattle.coap_opts.specs.Values.{Place, block_bytes, uint_bytes};
 ghost use Rattle.coap_reply.specs.Blocks.{cut_for};
 ghost use Rattle.coap_reply.specs.Responses.{Response};
-ghost use Rattle.fc_core.specs.Contents.{Deleted, Described, Listed, Made, Missing, Ran, Rejected, RunAnswer, Unavailable, Untyped, Valid};
-ghost use Rattle.fc_core.specs.Links.{links_text};
-ghost use Rattle.fc_core.specs.Replies.{Says};
+ghost use Rattle.fc_front.specs.Contents.{Deleted, Described, Listed, Made, Missing, Ran, Rejected, RunAnswer, Unavailable, Untyped, Valid};
+ghost use Rattle.fc_front.specs.Links.{links_text};
+ghost use Rattle.fc_front.specs.Replies.{Says};
 ghost use Rattle.fc_isa.specs.Rules.{fault_text, number_of};
 ghost use Rattle.fc_isa.specs.declared.rule.Rule.{Rule};
-ghost use Rattle.fc_registry.specs.Receipts.{receipt_text};
-ghost use Rattle.fc_registry.specs.declared.job.Job.{Job};
-ghost use Rattle.fc_registry.specs.declared.receipt.Receipt.{Receipt};
+ghost use Rattle.fc_ticket.specs.Receipts.{receipt_text};
+ghost use Rattle.fc_ticket.specs.declared.job.Job.{Job};
+ghost use Rattle.fc_ticket.specs.declared.receipt.Receipt.{Receipt};
 
 /// An install is answered by the receipt of the program.
 ///

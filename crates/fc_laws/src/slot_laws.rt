@@ -1,11 +1,11 @@
 //! Laws of slots: each function is a law, stated by its contract.
 ghost use Rattle.coap_msg.specs.declared.types.Emission.{Emission};
-ghost use Rattle.fc_core.specs.Contents.{Content};
+ghost use Rattle.fc_front.specs.Contents.{Content};
 ghost use Rattle.fc_core.specs.History.{Entry, History, Then, Seen, seen, and_then, did, first_slot, job, slot_at, stage};
 ghost use Rattle.fc_core.specs.AnswerLaws.{HasSerial, greatest};
-ghost use Rattle.fc_core.specs.Contents.{Valid};
+ghost use Rattle.fc_front.specs.Contents.{Valid};
 ghost use Rattle.fc_laws.specs.HeadLaws.{PublishesAt, raises_of};
-ghost use Rattle.fc_core.specs.Heads.{head_word, word_at};
+ghost use Rattle.fc_front.specs.Heads.{head_word, word_at};
 ghost use Rattle.fc_core.specs.declared.event.Event.TheVariants.{Peek};
 ghost use Rattle.fc_core.specs.Stage.{ToAnswer, ToMatch};
 ghost use Rattle.fc_core.specs.Laws.{HasCome, changes_by, slot_of, snapshots_of};
@@ -16,11 +16,12 @@ ghost use Rattle.fc_core.specs.declared.event.Event.TheVariants.{Commit, Install
 ghost use Rattle.fc_core.specs.Stage.{ToCommit, ToRaise};
 ghost use Rattle.fc_help.specs.declared.request.Method.TheVariants.{Get};
 ghost use Rattle.fc_kinds.specs.Meaning.{Program};
-ghost use Rattle.fc_registry.specs.Calls.{commit_of, meaning_at, initial_vars_of};
+ghost use Rattle.fc_registry.specs.Calls.{commit_of};
+ghost use Rattle.fc_ticket.specs.Runs.{meaning_at, initial_vars_of};
 ghost use Rattle.fc_registry.specs.Changes.{Committed};
 ghost use Rattle.fc_registry.specs.Record.{IsChain, code_class};
-ghost use Rattle.fc_registry.specs.Slots.{Present, Ticket};
-ghost use Rattle.fc_registry.specs.declared.job.InitialVars.TheVariants.{Kept, Zeros};
+ghost use Rattle.fc_ticket.specs.Tickets.{Present, Ticket};
+ghost use Rattle.fc_ticket.specs.declared.job.InitialVars.TheVariants.{Kept, Zeros};
 ghost use Rattle.arrayvec.specs.ArrayVec.{ArrayVec};
 ghost use Rattle.fc_verify.specs.Accepted.{Accepts};
 ghost use Rattle.fc_verify.specs.Judged.{judged};

@@ -1,8 +1,8 @@
 //! Laws of starts: each function is a law, stated by its contract.
 ghost use Rattle.std.specs.Prelude.{ℕ, ◌≡◌, ◌<◌, ◌≤◌, ◌⊎◌, ◌∷◌, [], List, None, Option, Some, false, length, map, max, true};
-ghost use Rattle.fc_core.specs.Heads.{first_word, head_word, word_at};
+ghost use Rattle.fc_front.specs.Heads.{first_word, head_word, word_at};
 ghost use Rattle.fc_core.specs.History.{BeginsWith, History, seen, slot_at};
-ghost use Rattle.fc_core.specs.declared.policy.Policy.{Policy};
+ghost use Rattle.fc_front.specs.declared.policy.Policy.{Policy};
 ghost use Rattle.fc_isa.specs.Rules.{number_of};
 ghost use Rattle.fc_isa.specs.declared.rule.Fault.{Fault};
 ghost use Rattle.fc_isa.specs.declared.rule.Rule.{Rule};
@@ -11,7 +11,7 @@ ghost use Rattle.fc_laws.specs.StartLaws.{restored_at};
 ghost use Rattle.fc_registry.specs.Changes.{Change, Commit, Committed, after_changes, entry_of};
 ghost use Rattle.fc_registry.specs.Plans.{IsStoredOf};
 ghost use Rattle.fc_registry.specs.Restored.{at_least, restored_slot};
-ghost use Rattle.fc_registry.specs.Slots.{Present};
+ghost use Rattle.fc_ticket.specs.Tickets.{Present};
 ghost use Rattle.fc_registry.specs.Starts.{CanRestore, IsStartError, RingContinuesIf};
 ghost use Rattle.fc_registry.specs.declared.restore.RestoreError.{RestoreError};
 ghost use Rattle.fc_registry.specs.declared.restore.RestoreError.TheVariants.{Image};

@@ -11,7 +11,7 @@ ghost use Rattle.fc_core.specs.declared.event.Event.TheVariants.{Answer, Fire};
 ghost use Rattle.fc_laws.specs.AskLaws.{BringsJob};
 ghost use Rattle.fc_laws.specs.ExchangeLaws.{HasExchange, IsInPlace, IsOfLease, IsOfRequest, arrival_of_job, arrivals};
 ghost use Rattle.fc_laws.specs.TimerLaws.{HasNoFire, IsOfFire, IsPostOfTimer};
-ghost use Rattle.fc_registry.specs.declared.job.Job.{Job};
+ghost use Rattle.fc_ticket.specs.declared.job.Job.{Job};
 
 /// A timer that fires makes one job, that of a POST of its slot's resource.
 ///

@@ -3,8 +3,8 @@ ghost use Rattle.std.specs.Prelude.{◌≡◌, ℕ, ◌+◌, ◌<◌, ◌≤◌,
 ghost use Rattle.arrayvec.specs.ArrayVec.{ArrayVec};
 ghost use Rattle.coap_msg.specs.declared.types.Emission.{Emission};
 ghost use Rattle.fc_core.specs.AnswerLaws.{HasSerial};
-ghost use Rattle.fc_core.specs.Contents.{Deleted, Described, Listed, Made, Missing, Rejected, Untyped};
-ghost use Rattle.fc_core.specs.Heads.{head_word, word_at};
+ghost use Rattle.fc_front.specs.Contents.{Deleted, Described, Listed, Made, Missing, Rejected, Untyped};
+ghost use Rattle.fc_front.specs.Heads.{head_word, word_at};
 ghost use Rattle.fc_core.specs.History.{Seen, and_then, did, job, slot_at, stage};
 ghost use Rattle.fc_core.specs.Laws.{slot_of};
 ghost use Rattle.fc_core.specs.Stages.{image_of, new_task, run_content};
@@ -15,10 +15,10 @@ ghost use Rattle.fc_help.specs.Request.{Request};
 ghost use Rattle.fc_isa.specs.declared.rule.Rule.{Rule};
 ghost use Rattle.fc_kinds.specs.Meaning.{Program};
 ghost use Rattle.fc_registry.specs.Calls.{wants};
-ghost use Rattle.fc_registry.specs.Slots.{Present, Ticket};
-ghost use Rattle.fc_registry.specs.declared.job.InitialVars.{InitialVars};
-ghost use Rattle.fc_registry.specs.declared.job.Ask.TheVariants.{Describe, Discover, Install as Installs, Remove as Removes, Run};
-ghost use Rattle.fc_registry.specs.declared.job.Job.{Job};
+ghost use Rattle.fc_ticket.specs.Tickets.{Present, Ticket};
+ghost use Rattle.fc_ticket.specs.declared.job.InitialVars.{InitialVars};
+ghost use Rattle.fc_ticket.specs.declared.job.Ask.TheVariants.{Describe, Discover, Install as Installs, Remove as Removes, Run};
+ghost use Rattle.fc_ticket.specs.declared.job.Job.{Job};
 ghost use Rattle.fc_verify.specs.Accepted.{Accepts, Breaks, Untypable};
 ghost use Rattle.fc_verify.specs.Judged.{judged};
 

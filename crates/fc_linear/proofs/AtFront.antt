@@ -3,25 +3,25 @@ use Rattle.std.proofs.Common.{◌≡◌, ℕ, max, Bool, true, false, List, [], 
 use Rattle.std.proofs.lemmas.List.{append-nil}
 use Rattle.coap_msg.specs.declared.types.Emission.{Emission}
 use Rattle.coap_msg.specs.declared.types.Endpoint.{Endpoint}
-use Rattle.fc_registry.specs.declared.job.Job.{Job}
-use Rattle.fc_core.specs.declared.by_value.Answered.{Answered}
-use Rattle.fc_core.specs.declared.by_value.Answered.TheVariants.{Sent, Late, NoId}
-use Rattle.fc_core.specs.declared.by_value.Delivered.{Delivered}
-use Rattle.fc_core.specs.declared.by_value.Delivered.TheVariants.{Nothing, Reply, Job as Brings, Signal as Signals}
+use Rattle.fc_ticket.specs.declared.job.Job.{Job}
+use Rattle.fc_front.specs.declared.by_value.Answered.{Answered}
+use Rattle.fc_front.specs.declared.by_value.Answered.TheVariants.{Sent, Late, NoId}
+use Rattle.fc_front.specs.declared.by_value.Delivered.{Delivered}
+use Rattle.fc_front.specs.declared.by_value.Delivered.TheVariants.{Nothing, Reply, Job as Brings, Signal as Signals}
 use Rattle.fc_core.specs.declared.stage.Task.{Task}
 use Rattle.fc_core.specs.declared.event.Event.TheVariants.{Answer, Deliver, Fresh, Tick}
-use Rattle.fc_core.specs.Answering.{Answers, emission_of}
-use Rattle.fc_core.specs.Contents.{Content}
-use Rattle.fc_core.specs.Exchanges.{FrontState, advanced, opening_is_live}
+use Rattle.fc_front.specs.Answering.{Answers, emission_of}
+use Rattle.fc_front.specs.Contents.{Content}
+use Rattle.fc_front.specs.Exchanges.{FrontState, advanced, opening_is_live}
 use Rattle.fc_core.specs.History.{History, task_at}
-use Rattle.fc_core.specs.Ids.{free_id}
+use Rattle.fc_front.specs.Ids.{free_id}
 use Rattle.fc_core.specs.Legal.{AnswerEmits, IsAnswered}
-use Rattle.fc_core.specs.Receiving.{id_in}
+use Rattle.fc_front.specs.Receiving.{id_in}
 use Rattle.fc_core.specs.Stage.{Stage}
 use Rattle.fc_core.specs.Stage.{ToAnswer, ToTell}
 use Rattle.fc_core.specs.TurnStage as turns
 use Rattle.fc_core.specs.Stages.{content_at, drew, ended, needs_id, new_task}
-use Rattle.fc_core.specs.Timers.{timer_job}
+use Rattle.fc_front.specs.Timers.{timer_job}
 use Rattle.fc_calls.specs.Logged.{AdvancesFront, AnswersRequest, DrawsId, FiresTimer, HandlesDatagram}
 use Rattle.fc_calls.specs.Doings.{AdvancesTo, AnswersAt, FiresAt}
 use Rattle.fc_server.specs.Serving.{Serves, next}

@@ -4,15 +4,16 @@ use Rattle.std.specs.Prelude.{◌==◌}
 use Rattle.std.proofs.lemmas.Bool.Decides.{nat_tests}
 use Rattle.arrayvec.specs.ArrayVec.{ArrayVec}
 use Rattle.fc_observe.specs.declared.entry.Turn.{Turn}
-use Rattle.fc_registry.specs.declared.job.Job.{Job}
+use Rattle.fc_ticket.specs.declared.job.Job.{Job}
 use Rattle.fc_registry.specs.Calls.{readings_if, snapshot, snapshot_by, snapshot_calls_by}
 use Rattle.fc_registry.specs.Shards.{shard_at}
-use Rattle.fc_registry.specs.Slots.{Present, Shard, slot_in}
-use Rattle.fc_registry.specs.Taken.{Taken}
+use Rattle.fc_ticket.specs.Tickets.{Present}
+use Rattle.fc_registry.specs.Slots.{Shard, slot_in}
+use Rattle.fc_ticket.specs.Taken.{Taken}
 use Rattle.fc_registry.specs.Watches.{watch_at, with_calls}
 use Rattle.fc_core.specs.declared.stage.Task.{Task}
 use Rattle.fc_core.specs.declared.event.Event.TheVariants.{Peek, Raise, Take}
-use Rattle.fc_core.specs.Heads.{word_at, word_raised}
+use Rattle.fc_front.specs.Heads.{word_at, word_raised}
 use Rattle.fc_core.specs.History.{History, task_at}
 use Rattle.fc_core.specs.Transitions.{call_if, effect_of, transition, task_moved, words_after}
 use Rattle.fc_core.specs.Sound.{AllSafe}

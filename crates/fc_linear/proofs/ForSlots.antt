@@ -15,25 +15,27 @@ use Rattle.fc_observe.specs.Observers.{ObserverList, list_at_time}
 use Rattle.fc_registry.specs.declared.commit.CommitOutcome.{CommitOutcome}
 use Rattle.fc_registry.specs.declared.commit.CommitOutcome.TheVariants.{Writes, Keeps, Overtakes, Ends}
 use Rattle.fc_registry.specs.declared.commit.Committed.{Committed}
-use Rattle.fc_registry.specs.declared.job.Job.{Job}
-use Rattle.fc_registry.specs.declared.job.InitialVars.{InitialVars}
-use Rattle.fc_registry.specs.declared.note.Noted.{Noted}
-use Rattle.fc_registry.specs.declared.note.Noted.TheVariants.{Send, Stale, Stranger}
-use Rattle.fc_registry.specs.declared.note.Notification.{Notification}
-use Rattle.fc_registry.specs.declared.note.Notification.TheVariants as tells
-use Rattle.fc_registry.specs.declared.receipt.Receipt.{Receipt as Facts}
+use Rattle.fc_ticket.specs.declared.job.Job.{Job}
+use Rattle.fc_ticket.specs.declared.job.InitialVars.{InitialVars}
+use Rattle.fc_ticket.specs.declared.note.Noted.{Noted}
+use Rattle.fc_ticket.specs.declared.note.Noted.TheVariants.{Send, Stale, Stranger}
+use Rattle.fc_ticket.specs.declared.note.Notification.{Notification}
+use Rattle.fc_ticket.specs.declared.note.Notification.TheVariants as tells
+use Rattle.fc_ticket.specs.declared.receipt.Receipt.{Receipt as Facts}
 use Rattle.fc_registry.specs.declared.shard.Made.{Made}
 use Rattle.fc_registry.specs.declared.shard.Removal.{Removal}
-use Rattle.fc_registry.specs.Calls.{HasGiven, clear_by, commits, outcome, put_by, receipt_of, run_of, initial_vars_of}
+use Rattle.fc_registry.specs.Calls.{HasGiven, clear_by, commits, outcome, put_by}
+use Rattle.fc_ticket.specs.Runs.{receipt_of, run_of, initial_vars_of}
 use Rattle.fc_registry.specs.Changes.{Change, after_changes}
-use Rattle.fc_registry.specs.Notes.{IsNotedIn, IsOfTurn, note_at, note_calls, note_in, sent_of, ticket_told}
+use Rattle.fc_ticket.specs.Notes.{IsNotedIn, IsOfTurn, note_at, note_calls, note_in, sent_of, ticket_told}
 use Rattle.fc_registry.specs.Shards.{no_shard, shard_at}
-use Rattle.fc_registry.specs.Slots.{Present, Shard, Slot, Ticket, last_serial, slot_in, with_slot}
+use Rattle.fc_ticket.specs.Tickets.{Present, Ticket}
+use Rattle.fc_registry.specs.Slots.{Shard, Slot, last_serial, slot_in, with_slot}
 use Rattle.fc_registry.specs.Watches.{after_given_up, at_time, watch_at, with_calls}
 use Rattle.fc_core.specs.declared.stage.Task.{Task}
 use Rattle.fc_core.specs.declared.event.Event.TheVariants.{Commit, GiveUp, Install, Note, Receipt, Refuse, Remove}
-use Rattle.fc_core.specs.Contents.{Content, Unavailable}
-use Rattle.fc_core.specs.Ends.{refused}
+use Rattle.fc_front.specs.Contents.{Content, Unavailable}
+use Rattle.fc_front.specs.Ends.{refused}
 use Rattle.fc_core.specs.Fits.{FitsTurn, IsSafe, IsTicketOf}
 use Rattle.fc_core.specs.History.{History, task_at}
 use Rattle.fc_core.specs.Transitions.{Effect, Inputs, call_if, install_call, install_if, effect_of, goes_to, transition, task_moved, words_after}

@@ -2,7 +2,7 @@
 use Rattle.std.proofs.Common.{◌≡◌, ℕ, ◌%◌, ◌<◌, List, [], ◌∷◌, length, refl, sym, ap, ◌∙◌}
 use Rattle.fc_core.specs.declared.stage.Task.{Task}
 use Rattle.fc_core.specs.History.{BeginsWith, History}
-use Rattle.fc_core.specs.declared.policy.Policy.{Policy}
+use Rattle.fc_front.specs.declared.policy.Policy.{Policy}
 use Rattle.fc_core.proofs.Restoring.{restored_fit}
 use Rattle.fc_calls.specs.Logged.{HandlesDatagram, AdvancesFront, FiresTimer, DrawsId, AnswersRequest, TellsReceipt, GivesReadings, LooksAt, TakesForJob, CommitsRun, InstallsProgram, RemovesProgram, HandsSignal, AdvancesIdle, AdvancesShard, GivesTurn, NotesTurn, GivesUpTurn, RaisesWord, ReadsCost, SkipsIdle}
 use Rattle.fc_registry.specs.Slots.{Shard, slot_in}

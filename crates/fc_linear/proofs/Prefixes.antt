@@ -5,7 +5,7 @@ use Rattle.std.specs.Prelude.{is_some}
 use Rattle.fc_registry.specs.Shards.{shard_at}
 use Rattle.fc_registry.specs.Slots.{Shard}
 use Rattle.fc_core.specs.declared.stage.Task.{Task}
-use Rattle.fc_core.specs.Exchanges.{FrontState}
+use Rattle.fc_front.specs.Exchanges.{FrontState}
 use Rattle.fc_core.specs.History.{task_at}
 use Rattle.fc_core.specs.Stages.{new_task}
 use Rattle.fc_server.specs.States.{ServerState}

@@ -14,28 +14,30 @@ use Rattle.fc_verify.specs.Judged.{judged}
 use Rattle.fc_verify.specs.Refusals.{IsRefusal}
 use Rattle.fc_verify.specs.declared.refusal.Refusal.TheVariants.{Broken}
 use Rattle.fc_observe.specs.declared.entry.Turn.{Turn}
-use Rattle.fc_registry.specs.declared.job.Job.{Job}
-use Rattle.fc_registry.specs.declared.receipt.Receipt.{Receipt as Facts}
-use Rattle.fc_registry.specs.Calls.{commit_of, initial_vars_of, receipt_of, run_of, wants}
+use Rattle.fc_ticket.specs.declared.job.Job.{Job}
+use Rattle.fc_ticket.specs.declared.receipt.Receipt.{Receipt as Facts}
+use Rattle.fc_registry.specs.Calls.{commit_of, wants}
+use Rattle.fc_ticket.specs.Runs.{initial_vars_of, receipt_of, run_of}
 use Rattle.fc_registry.specs.Changes.{installed}
-use Rattle.fc_registry.specs.Notes.{sent_of}
-use Rattle.fc_registry.specs.Slots.{Shard, Slot, Ticket}
+use Rattle.fc_ticket.specs.Notes.{sent_of}
+use Rattle.fc_registry.specs.Slots.{Shard, Slot}
+use Rattle.fc_ticket.specs.Tickets.{Ticket}
 use Rattle.fc_core.specs.declared.event.Event.{Event}
 use Rattle.fc_core.specs.declared.event.Event.TheVariants.{Deliver, Peek, Take, Commit, Install, Remove, Refuse, Receipt, Raise, Answer, Due, Fire, Fresh, Note, GiveUp, Signal, Tick, ShardTick}
-use Rattle.fc_core.specs.declared.by_value.Delivered.{Delivered}
-use Rattle.fc_core.specs.declared.by_value.Delivered.TheVariants.{Job as Brings, Reply}
+use Rattle.fc_front.specs.declared.by_value.Delivered.{Delivered}
+use Rattle.fc_front.specs.declared.by_value.Delivered.TheVariants.{Job as Brings, Reply}
 use Rattle.fc_core.specs.Stage.{Stage}
 use Rattle.fc_core.specs.Stage.{ToMatch, ToTake, ToCommit, ToInstall, ToRemove, ToDescribe, ToList, ToRaise, ToAnswer, ToTell, Gone}
 use Rattle.fc_core.specs.TurnStage.{TurnStage}
 use Rattle.fc_core.specs.TurnStage as turns
-use Rattle.fc_core.specs.Contents.{Content, Unavailable}
-use Rattle.fc_core.specs.Ends.{refused}
-use Rattle.fc_core.specs.Exchanges.{FrontState}
+use Rattle.fc_front.specs.Contents.{Content, Unavailable}
+use Rattle.fc_front.specs.Ends.{refused}
+use Rattle.fc_front.specs.Exchanges.{FrontState}
 use Rattle.fc_core.specs.Fits.{IsSafe}
-use Rattle.fc_core.specs.Heads.{word_at, word_raised}
+use Rattle.fc_front.specs.Heads.{word_at, word_raised}
 use Rattle.fc_core.specs.Legal.{resent}
 use Rattle.fc_core.specs.Stages.{after_commit, had_memory, image_of, listed, made, matched, removed, receipt_content, took, turn_took, with_id}
-use Rattle.fc_core.specs.Timers.{timer_job}
+use Rattle.fc_front.specs.Timers.{timer_job}
 use Rattle.fc_calls.specs.Logged.{LoggedCall}
 use Rattle.fc_calls.specs.Logged.{HandlesDatagram, AdvancesFront, FiresTimer, DrawsId, AnswersRequest, TellsReceipt, GivesReadings, ReadsCost, LooksAt, RaisesWord}
 use Rattle.fc_calls.specs.Logged.{TakesForJob, CommitsRun, InstallsProgram, RemovesProgram, HandsSignal, AdvancesIdle, SkipsIdle, AdvancesShard, GivesTurn, NotesTurn, GivesUpTurn}

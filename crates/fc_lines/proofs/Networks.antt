@@ -4,7 +4,7 @@ use Rattle.std.proofs.Common.{map, Option, None, Some, MatchOption, slice_index_
 use Rattle.std.specs.Net.Addr.{ipv4_octets}
 use Rattle.std.specs.Net.Grammar.{IsDotted, IsIpv4Text}
 use Rattle.std.specs.declared.net.ipv4_addr.Ipv4Addr.{Ipv4Addr}
-use Rattle.fc_core.specs.declared.policy.Network.{Network}
+use Rattle.fc_front.specs.declared.policy.Network.{Network}
 use Rattle.fc_lines.specs.Fields.{IsNoNumber, IsNumber}
 use Rattle.fc_lines.specs.Policies.{AreManagers, AreNetworks, AreNoManagers, AreNoNetworks, IsNetwork, IsNoNetwork, IsUnslashed, slash}
 use Rattle.fc_lines.proofs.Reading.{AreSame}

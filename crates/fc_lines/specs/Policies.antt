@@ -1,8 +1,8 @@
 -- A server's policy as text.
 use Rattle.std.specs.Prelude.{◌≡◌, ◌≢◌, ◌*◌, ◌<◌, ◌≤◌, ℕ, List, [], ◌∷◌, ◌++◌, length, slice_index}
 use Rattle.std.specs.Net.Grammar.{IsDotted}
-use Rattle.fc_core.specs.declared.policy.Network.{Network}
-use Rattle.fc_core.specs.declared.policy.Policy.{Policy}
+use Rattle.fc_front.specs.declared.policy.Network.{Network}
+use Rattle.fc_front.specs.declared.policy.Policy.{Policy}
 use Rattle.fc_lines.specs.Fields.{IsNumber}
 
 abbrev pub slash : ℕ

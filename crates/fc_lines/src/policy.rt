@@ -4,7 +4,7 @@ ghost use Rattle.fc_lines.specs.Policies.{AreManagers, AreNetworks, AreNoManager
 
 use crate::line::byte;
 use coap_dedup::{Limits, MOST_EXCHANGES};
-use fc_core::{Managers, Network, Policy};
+use fc_front::{Managers, Network, Policy};
 use std::net::Ipv4Addr;
 
 /// Maximum of the seconds after which a notification is confirmable: 24 hours.

@@ -9,9 +9,9 @@ use Rattle.coap_msg.specs.declared.types.Bad.{Bad}
 use Rattle.coap_msg.specs.Codes.{code_text}
 use Rattle.coap_msg.specs.Reading.{reading_of}
 use Rattle.coap_msg.specs.Wire.{Message}
-use Rattle.fc_registry.specs.declared.job.Ask.{Ask}
-use Rattle.fc_registry.specs.declared.job.Ask.TheVariants.{Install, Remove}
-use Rattle.fc_registry.specs.declared.job.Job.{Job}
+use Rattle.fc_ticket.specs.declared.job.Ask.{Ask}
+use Rattle.fc_ticket.specs.declared.job.Ask.TheVariants.{Install, Remove}
+use Rattle.fc_ticket.specs.declared.job.Job.{Job}
 
 -- a response: its code, and its diagnostic payload or the receipt (RFC 7252, section 5.5.2).
 pub record Coded : Type 0 where

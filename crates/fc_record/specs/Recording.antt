@@ -4,12 +4,12 @@ use Rattle.std.specs.Prelude.{◌≡◌, ℕ, List, Option}
 use Rattle.std.specs.Borrow.{Bor}
 use Rattle.coap_msg.specs.declared.types.Emission.{Emission}
 use Rattle.coap_msg.specs.declared.types.Endpoint.{Endpoint}
-use Rattle.fc_registry.specs.declared.job.Ask.{Ask}
-use Rattle.fc_registry.specs.declared.job.Ask.TheVariants.{Install, Remove}
-use Rattle.fc_registry.specs.declared.job.Job.{Job}
-use Rattle.fc_core.specs.declared.front.Handled.{Handled}
-use Rattle.fc_core.specs.Exchanges.{advanced}
-use Rattle.fc_core.specs.Receiving.{delivered, emission_if}
+use Rattle.fc_ticket.specs.declared.job.Ask.{Ask}
+use Rattle.fc_ticket.specs.declared.job.Ask.TheVariants.{Install, Remove}
+use Rattle.fc_ticket.specs.declared.job.Job.{Job}
+use Rattle.fc_front.specs.declared.front.Handled.{Handled}
+use Rattle.fc_front.specs.Exchanges.{advanced}
+use Rattle.fc_front.specs.Receiving.{delivered, emission_if}
 use Rattle.fc_server.specs.SingleThread.{FiresAlone, HandlesAlone, NotifiesAlone, PassesAlone, PassesOverAlone, ResendsAlone, StaysIdleAlone, TellsGaugesAlone, TellsObserversAlone, TellsOffloadedAlone}
 use Rattle.fc_server.specs.Ingresses.{IngressCalls, is_reply, never}
 use Rattle.fc_server.specs.Shown.{IsShown}

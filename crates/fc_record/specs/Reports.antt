@@ -3,8 +3,8 @@ use Rattle.std.specs.Prelude.{◌+◌, ◌==◌, ℕ, Bool, true, false, List, �
 use Rattle.std.specs.Fmt.{decimal}
 use Rattle.coap_msg.specs.Codes.{code}
 use Rattle.coap_msg.specs.declared.types.Emission.{Emission}
-use Rattle.fc_core.specs.declared.front.Handled.{Handled}
-use Rattle.fc_core.specs.declared.front.Handled.TheVariants.{Reply}
+use Rattle.fc_front.specs.declared.front.Handled.{Handled}
+use Rattle.fc_front.specs.declared.front.Handled.TheVariants.{Reply}
 use Rattle.fc_observe.specs.declared.observers.Ticked.{Ticked}
 use Rattle.fc_observe.specs.declared.observers.Ticked.TheVariants.{Quiet, Removed, Resend}
 use Rattle.fc_server.specs.Notified.{Notified, is_given}

@@ -4,12 +4,13 @@ ghost use Rattle.fc_record.specs.Recording.{recorded_calls};
 
 use crate::recorder::{ChangeLog, Recorder};
 use coap_msg::{Emission, Endpoint};
-use fc_core::{FrontGauges, Handled};
+use fc_front::{FrontGauges, Handled};
 use fc_help::Readings;
 use fc_observe::Ticked;
-use fc_registry::{PLACES, SlotNumber};
+use fc_registry::PLACES;
 use fc_server::engine::{FireOutcome, NotifyOutcome};
 use fc_server::{Ingress, SingleThread};
+use fc_ticket::SlotNumber;
 use std::marker::Model;
 
 /// A single-threaded server that records each change after its response.

@@ -3,7 +3,7 @@ ghost use Rattle.std.specs.Prelude.{◌≡◌};
 ghost use Rattle.fc_record.specs.Gauges.{no_gauges};
 
 use crate::observer_counts::ObserverCounts;
-use fc_core::FrontGauges;
+use fc_front::FrontGauges;
 use std::fmt;
 
 /// The gauges of a server at one time, and the number of jobs that it sent to workers by then.

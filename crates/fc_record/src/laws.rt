@@ -6,7 +6,7 @@ ghost use Rattle.hex.specs.Hex.{encode_lower};
 ghost use Rattle.sha2.specs.Sha256.{sha256};
 ghost use Rattle.coap_msg.specs.declared.types.Emission.{Emission};
 ghost use Rattle.coap_msg.specs.declared.types.Endpoint.{Endpoint};
-ghost use Rattle.fc_core.specs.declared.front.Handled.TheVariants.{Job, Nothing, Reply};
+ghost use Rattle.fc_front.specs.declared.front.Handled.TheVariants.{Job, Nothing, Reply};
 ghost use Rattle.fc_observe.specs.declared.observers.Ticked.TheVariants.{Quiet, Removed, Resend};
 ghost use Rattle.fc_record.specs.ProgramRequests.{Coded, request_text};
 ghost use Rattle.fc_record.specs.declared.gauges.Gauges.{Gauges};

@@ -2,7 +2,8 @@
 ghost use Rattle.std.specs.Prelude.{◌≡◌};
 ghost use Rattle.fc_record.specs.Gauges.{no_counts, observers_of};
 
-use fc_registry::{PLACES, SLOTS, SlotNumber};
+use fc_registry::PLACES;
+use fc_ticket::{SLOTS, SlotNumber};
 use std::fmt;
 
 /// How many observers each slot of a server has.

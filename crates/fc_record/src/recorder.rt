@@ -1,6 +1,6 @@
 //! Recorders of changes, which are answered requests to change a slot's program.
 ghost use Rattle.std.specs.Prelude.{◌≡◌, ⊤};
-ghost use Rattle.fc_core.specs.Receiving.{emission_if};
+ghost use Rattle.fc_front.specs.Receiving.{emission_if};
 ghost use Rattle.fc_record.specs.ProgramRequests.{Requested};
 ghost use Rattle.fc_record.specs.Recording.{IsRecorded};
 ghost use Rattle.fc_backend.specs.declared.call_log.CallLog.{CallLog as Log};
@@ -8,8 +8,8 @@ ghost use Rattle.fc_backend.specs.declared.call_log.CallLog.{CallLog as Log};
 use crate::request::ProgramRequest;
 use coap_msg::Emission;
 use fc_backend::{CallLog, Gate};
-use fc_registry::Job;
 use fc_server::Witness;
+use fc_ticket::Job;
 use log::{Log as Logger, info};
 use std::marker::Model;
 use std::sync::Wait;

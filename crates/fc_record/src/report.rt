@@ -5,7 +5,7 @@ ghost use Rattle.fc_server.specs.Notified.{notified_as};
 
 use crate::gauges::Gauges;
 use coap_msg::{Code, Emission};
-use fc_core::Handled;
+use fc_front::Handled;
 use fc_observe::Ticked;
 use fc_server::engine::NotifyOutcome;
 use std::fmt;

@@ -1,12 +1,12 @@
 //! Requests to change a program: to install an image, or to remove the program.
 ghost use Rattle.std.specs.Prelude.{◌≡◌, None, Some, MatchOption, option_map};
 ghost use Rattle.coap_msg.specs.Reading.{reading_of};
-ghost use Rattle.fc_core.specs.Receiving.{emission_if};
+ghost use Rattle.fc_front.specs.Receiving.{emission_if};
 ghost use Rattle.fc_record.specs.ProgramRequests.{IsNote, IsRequestOf, IsResponseBy, IsResponseIn, change_in, method_text};
 
 use crate::text::{DigestText, PeerText, ResponseText};
 use coap_msg::{Code, Emission, Endpoint, read};
-use fc_registry::{Ask, Job, SlotNumber};
+use fc_ticket::{Ask, Job, SlotNumber};
 use std::marker::Model;
 use std::{fmt, str};
 

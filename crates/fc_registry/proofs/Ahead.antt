@@ -19,16 +19,18 @@ use Rattle.fc_registry.specs.declared.commit.Committed.{Committed as Answer}
 use Rattle.fc_registry.specs.declared.commit.Committed.TheVariants.{Done, Overtaken, Ended, Stranger}
 use Rattle.fc_registry.specs.declared.commit.CommitOutcome.{CommitOutcome}
 use Rattle.fc_registry.specs.declared.commit.CommitOutcome.TheVariants.{Writes, Keeps, Overtakes, Ends}
-use Rattle.fc_registry.specs.declared.note.Noted.{Noted}
-use Rattle.fc_registry.specs.declared.note.Noted.TheVariants as noted
-use Rattle.fc_registry.specs.declared.note.Notification.{Notification}
-use Rattle.fc_registry.specs.declared.note.Notification.TheVariants as tells
+use Rattle.fc_ticket.specs.declared.note.Noted.{Noted}
+use Rattle.fc_ticket.specs.declared.note.Noted.TheVariants as noted
+use Rattle.fc_ticket.specs.declared.note.Notification.{Notification}
+use Rattle.fc_ticket.specs.declared.note.Notification.TheVariants as tells
 use Rattle.fc_registry.specs.declared.slot.SlotState.{SlotState}
-use Rattle.fc_registry.specs.declared.job.InitialVars.{InitialVars}
-use Rattle.fc_registry.specs.Calls.{IsCommit, IsOwnCommit, clear_by, commit_calls, commits, install_in, is_cancellation, is_out_at, is_registration, mark_missing_calls, observe_calls_by, put_by, remove_from, turn_calls}
+use Rattle.fc_ticket.specs.declared.job.InitialVars.{InitialVars}
+use Rattle.fc_registry.specs.Calls.{IsCommit, IsOwnCommit, clear_by, commit_calls, commits, install_in, is_out_at, mark_missing_calls, put_by, remove_from, turn_calls}
+use Rattle.fc_ticket.specs.Registrations.{is_cancellation, is_registration, observe_calls_by}
 use Rattle.fc_registry.specs.Changes.{after_changes}
-use Rattle.fc_registry.specs.Notes.{IsNotedIn, keeps_observer, note_calls, sent_of, ticket_told, told_call}
-use Rattle.fc_registry.specs.Slots.{Present, Slot, Ticket, last_serial, new_slot}
+use Rattle.fc_ticket.specs.Notes.{IsNotedIn, keeps_observer, note_calls, sent_of, ticket_told, told_call}
+use Rattle.fc_ticket.specs.Tickets.{Present, Ticket}
+use Rattle.fc_registry.specs.Slots.{Slot, last_serial, new_slot}
 use Rattle.fc_registry.specs.Views.{as_seen}
 use Rattle.fc_registry.specs.Watches.{AreSentUpTo, IsSentUpTo, new_watches, signal_call}
 

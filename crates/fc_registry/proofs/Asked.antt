@@ -1,5 +1,5 @@
 -- The job of a lease has the request of its observer's registration.
-use Rattle.std.proofs.Common.{◌≡◌, ℕ, ◌+◌, ◌*◌, ◌<◌, ◌%◌, [], ◌∷◌, Bool, true, false, Option, Some, None, refl, ap, ◌∙◌, subst, arith, inl, inr}
+use Rattle.std.proofs.Common.{◌≡◌, ℕ, ◌+◌, ◌*◌, ◌<◌, ◌%◌, false, Option, Some, None, refl, ap, ◌∙◌, subst, arith, inl, inr}
 use Rattle.std.specs.Prelude.{◌⊎◌}
 use Rattle.std.specs.List.{Any, Contains}
 use Rattle.std.specs.Option.{option_map}
@@ -7,16 +7,15 @@ use Rattle.std.proofs.lemmas.List.Elements.{All-contains}
 use Rattle.coap_opts.specs.Values.{Place}
 use Rattle.fc_observe.specs.declared.entry.Entry.{Entry}
 use Rattle.fc_observe.specs.declared.entry.Turn.{Turn}
-use Rattle.fc_observe.specs.Calls.{IsRegisteredBy, NextDue, Register, observers_after}
+use Rattle.fc_observe.specs.Calls.{IsRegisteredBy, NextDue, observers_after}
 use Rattle.fc_observe.specs.Laws.{KeepsSerial}
 use Rattle.fc_observe.specs.Observers.{ObserverList, list_at_time, entry_out, is_out, next_turn}
 use Rattle.fc_observe.specs.Views.{Interest, interest_of}
 use Rattle.fc_observe.proofs.Hearing.{found_held}
 use Rattle.fc_observe.proofs.Serials.{serials_kept}
-use Rattle.fc_registry.specs.declared.job.Job.{Job}
-use Rattle.fc_registry.specs.Calls.{is_cancellation, is_registration, observe_calls, observe_calls_by, szx_of}
+use Rattle.fc_ticket.specs.declared.job.Job.{Job}
 use Rattle.fc_registry.specs.Laws.{IsTurnFor}
-use Rattle.fc_registry.specs.Slots.{Shard, Ticket}
+use Rattle.fc_registry.specs.Slots.{Shard}
 use Rattle.fc_registry.specs.Turns.{due_job, first_block, job_of_turn, turn_job}
 use Rattle.fc_registry.specs.Watches.{noticed_at, watch_at}
 
@@ -63,18 +62,3 @@ turn_asks shard k j is =
     let g = given_by (8 * k + shard.index) (next_turn (noticed_at shard k) (list_at_time shard.now w)) (observers_after c w) j is in
     let P = λ (o : Entry). IsRegisteredBy c w o ⊎ Any (KeepsSerial c w o) w.held in
     before_by shard.now (noticed_at shard k) w j g.0 g.2 (All-contains P (observers_after c w).held g.0 (serials_kept c w) g.1)
-
--- the call of a registration has the block size that was requested.
-registers : (now : ℕ) (t : Ticket) → is_registration t ≡ true →
-    observe_calls now t ≡ Register now t.origin.endpoint t.token t.request (szx_of t.block) t.serial ∷ []
-registers now t is = ap (λ (b : Bool). observe_calls_by b (is_cancellation t) now t) is
-
-pub keeps_no_size : (now : ℕ) (t : Ticket) → is_registration t ≡ true → t.block ≡ None →
-    observe_calls now t ≡ Register now t.origin.endpoint t.token t.request None t.serial ∷ []
-keeps_no_size now t is none =
-    registers now t is ∙ ap (λ (b : Option Place). Register now t.origin.endpoint t.token t.request (szx_of b) t.serial ∷ []) none
-
-pub keeps_size : (now : ℕ) (t : Ticket) (block : Place) → is_registration t ≡ true → t.block ≡ Some block →
-    observe_calls now t ≡ Register now t.origin.endpoint t.token t.request (Some block.szx) t.serial ∷ []
-keeps_size now t block is some =
-    registers now t is ∙ ap (λ (b : Option Place). Register now t.origin.endpoint t.token t.request (szx_of b) t.serial ∷ []) some

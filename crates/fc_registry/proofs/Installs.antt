@@ -3,12 +3,13 @@ use Rattle.std.proofs.Common.{◌≡◌, ℕ, ◌+◌, Bool, true, false, List, 
 use Rattle.std.specs.Prelude.{nat_lt, if◌then◌else◌}
 use Rattle.std.proofs.lemmas.Bool.{cases_eq, eq-eqb, ne_eqb}
 use Rattle.std.proofs.lemmas.List.{length-replicate}
-use Rattle.fc_registry.specs.Slots.{Present, Slot, new_slot, last_serial, vars_in}
+use Rattle.fc_ticket.specs.Tickets.{Present}
+use Rattle.fc_registry.specs.Slots.{Slot, new_slot, last_serial, vars_in}
 use Rattle.fc_registry.specs.Changes.{Change, Installed, Committed, Removed, Commit, after_changes, changed, installed, vars_installed, with_vars}
 use Rattle.fc_registry.specs.Calls.{install_in, put_by}
 use Rattle.fc_registry.specs.Laws.{FollowsInstall}
-use Rattle.fc_registry.specs.declared.job.InitialVars.{InitialVars}
-use Rattle.fc_registry.specs.declared.job.InitialVars.TheVariants.{Zeros, Kept}
+use Rattle.fc_ticket.specs.declared.job.InitialVars.{InitialVars}
+use Rattle.fc_ticket.specs.declared.job.InitialVars.TheVariants.{Zeros, Kept}
 use Rattle.fc_kinds.specs.Meaning.{Program}
 
 pub serials_from : (first : Slot) (cs : List Change) → (after_changes first cs).serial ≡ first.serial + length cs

@@ -4,10 +4,8 @@ pub mod Rings
 pub mod Places
 pub mod Outcomes
 pub mod Noticed
-pub mod Telling
 pub mod Ahead
 pub mod Tickets
-pub mod Endings
 mod Quiet
 pub mod Watched
 pub mod Asked

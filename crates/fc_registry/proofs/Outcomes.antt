@@ -1,17 +1,12 @@
--- The ticket of an outcome, and the outcome of a commit. Serials decide the outcome if the slot
--- gave the ticket.
+-- The outcome of a commit. Serials decide the outcome if the slot gave the ticket.
 use Rattle.std.proofs.Common.{◌≡◌, ℕ, Bool, true, false, refl, sym}
 use Rattle.std.specs.Prelude.{nat_lt, ◌==◌}
 use Rattle.std.proofs.lemmas.Bool.{lt-ltb, le-ltb, eqb-true, eq-eqb}
-use Rattle.fc_machine.specs.Ran.{Ran}
 use Rattle.fc_registry.specs.declared.commit.CommitOutcome.{CommitOutcome}
 use Rattle.fc_registry.specs.declared.commit.CommitOutcome.TheVariants.{Writes, Keeps, Overtakes, Ends}
-use Rattle.fc_registry.specs.Slots.{Slot, Ticket, last_serial}
-use Rattle.fc_registry.specs.Calls.{HasGiven, IsRunOf, ComesTo, outcome, outcome_by, run_of, wants}
-
--- an outcome of the ticket's program, request, variables and readings is that of the ticket's run.
-pub own_run : (ran : Ran) (t : Ticket) (serial : ℕ) → IsRunOf ran t serial → ran ≡ run_of t
-own_run ran t serial own = λ i. record { program = own.program i; input = record { request = own.request i; readings = own.readings i; vars = own.vars i } }
+use Rattle.fc_registry.specs.Slots.{Slot, last_serial}
+use Rattle.fc_ticket.specs.Tickets.{Ticket}
+use Rattle.fc_registry.specs.Calls.{HasGiven, ComesTo, outcome, outcome_by, wants}
 
 decided : (t : Ticket) (slot : Slot) (w same below : Bool) → wants t ≡ w → (slot.serial == t.serial) ≡ same → nat_lt slot.serial last_serial ≡ below → outcome t slot ≡ outcome_by w same below
 decided t slot w same below e f g = λ i. outcome_by (e i) (f i) (g i)

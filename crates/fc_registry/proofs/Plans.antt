@@ -3,11 +3,12 @@ use Rattle.std.proofs.Common.{◌≡◌, ℕ, ◌+◌, ◌<◌, ◌≤◌, Bool,
 use Rattle.std.specs.Prelude.{IfSome}
 use Rattle.std.proofs.lemmas.Bool.{le-ltb, lt-ltb}
 use Rattle.fc_kinds.specs.Meaning.{Program}
-use Rattle.fc_registry.specs.declared.job.InitialVars.{InitialVars}
+use Rattle.fc_ticket.specs.declared.job.InitialVars.{InitialVars}
 use Rattle.fc_registry.specs.Calls.{install_in, put_by}
 use Rattle.fc_registry.specs.Changes.{Change, Installed, Committed, Removed, changed, with_vars}
 use Rattle.fc_registry.specs.Plans.{IsStoredOf, IsStoredProgram, IsPlan, IsPlanned, SavesImage, IsUpdateOf}
-use Rattle.fc_registry.specs.Slots.{Slot, Present, last_serial}
+use Rattle.fc_registry.specs.Slots.{Slot, last_serial}
+use Rattle.fc_ticket.specs.Tickets.{Present}
 use Rattle.fc_store.specs.Updates.{program_after, slot_after, with_stored_vars}
 use Rattle.fc_store.specs.Stored.{StoredProgram, StoredSlot}
 use Rattle.fc_store.specs.declared.store.ProgramUpdate.{ProgramUpdate}

@@ -11,7 +11,8 @@ use Rattle.fc_registry.specs.Changes.{Change, after_changes}
 use Rattle.fc_registry.specs.Plans.{IsStoredOf, IsStoredProgram}
 use Rattle.fc_registry.specs.Restored.{at_least, present_if, restored_present, restored_slot}
 use Rattle.fc_registry.specs.Shards.{empty_shard}
-use Rattle.fc_registry.specs.Slots.{Present, Shard, Slot, last_serial, new_slot}
+use Rattle.fc_ticket.specs.Tickets.{Present}
+use Rattle.fc_registry.specs.Slots.{Shard, Slot, last_serial, new_slot}
 use Rattle.fc_registry.specs.Starts.{CanRestore, CanRestoreProgram, IsRestoreError, IsSlotError, IsStartError, RestoresTo, shard_over}
 use Rattle.fc_registry.specs.Watches.{new_watches}
 use Rattle.fc_registry.specs.declared.shards.StartError.{StartError}

@@ -21,13 +21,15 @@ use Rattle.fc_registry.specs.declared.commit.CommitOutcome.{CommitOutcome}
 use Rattle.fc_registry.specs.declared.commit.CommitOutcome.TheVariants.{Writes, Keeps, Overtakes, Ends}
 use Rattle.fc_help.specs.declared.request.Method.{Method}
 use Rattle.fc_help.specs.declared.request.Method.TheVariants.{Get, Post}
-use Rattle.fc_registry.specs.Calls.{IsCommit, IsOwnCommit, ComesTo, IsCurrent, commit_of, commits, is_post, wants, meaning_at, clear_by, install_in, put_by, remove_from}
-use Rattle.fc_registry.specs.declared.job.InitialVars.{InitialVars}
+use Rattle.fc_registry.specs.Calls.{IsCommit, IsOwnCommit, ComesTo, IsCurrent, commit_of, commits, is_post, wants, clear_by, install_in, put_by, remove_from}
+use Rattle.fc_ticket.specs.Runs.{meaning_at}
+use Rattle.fc_ticket.specs.declared.job.InitialVars.{InitialVars}
 use Rattle.fc_registry.specs.declared.ring.Entry.{Entry}
-use Rattle.fc_registry.specs.declared.job.InitialVars.TheVariants.{Zeros}
+use Rattle.fc_ticket.specs.declared.job.InitialVars.TheVariants.{Zeros}
 use Rattle.fc_registry.specs.Laws.{AllCommits, RingBegins, vars_begun, vars_since}
 use Rattle.fc_registry.proofs.Installs.{installed_size, serials_from}
-use Rattle.fc_registry.specs.Slots.{Slot, Present, Ticket, new_slot, last_serial, vars_in}
+use Rattle.fc_registry.specs.Slots.{Slot, new_slot, last_serial, vars_in}
+use Rattle.fc_ticket.specs.Tickets.{Present, Ticket}
 use Rattle.fc_registry.specs.Changes.{Change, Installed, Committed, Removed, Commit, after_changes, changed, installed, with_vars, entry_of}
 use Rattle.fc_registry.specs.Record.{IsLink, IsChain, IsEntry, AreEntries, left_by, HasRecordIf, HasRingFrom, HasRingIf, HasRingSince, IsRecord, IsRing, code_class}
 

@@ -1,24 +1,17 @@
 -- A ticket has the data of its job, and the data that the job's snapshot wrote.
-use Rattle.std.proofs.Common.{◌≡◌, ◌∙◌, ℕ, Bool, true, false, List, Option, Some, None, length, refl, sym, ap, subst}
+use Rattle.std.proofs.Common.{◌≡◌, ◌∙◌, ℕ, Bool, true, false, List, Option, Some, None, length, sym, ap, subst}
 use Rattle.fc_observe.specs.Observers.{ObserverList}
 use Rattle.fc_kinds.specs.Meaning.{Program}
 use Rattle.fc_registry.specs.declared.body.Body.{Body}
-use Rattle.fc_registry.specs.declared.job.Job.{Job}
-use Rattle.fc_registry.specs.Calls.{IsSnapshot, is_out_at, readings_if, request_of, snapshot, snapshot_by, ticket_of, turn_of, turn_snapshot}
-use Rattle.fc_registry.specs.Laws.{IsTicketOfJob}
-use Rattle.fc_registry.specs.Slots.{Present, Slot, Ticket}
-use Rattle.fc_registry.specs.Taken.{SlotSnapshot, Given, IsSized, ticket_with}
+use Rattle.fc_ticket.specs.declared.job.Job.{Job}
+use Rattle.fc_registry.specs.Calls.{IsSnapshot, is_out_at, readings_if, snapshot, snapshot_by, turn_of, turn_snapshot}
+use Rattle.fc_ticket.specs.Runs.{ticket_of}
+use Rattle.fc_ticket.specs.Laws.{IsTicketOfJob}
+use Rattle.fc_ticket.specs.Tickets.{Present, Ticket}
+use Rattle.fc_registry.specs.Slots.{Slot}
+use Rattle.fc_ticket.specs.Taken.{SlotSnapshot, Given, IsSized, ticket_with}
 use Rattle.fc_registry.specs.Views.{present_of}
-
-ticket_is : (job : Job) (readings : List ℕ) (serial : ℕ) (p : Present) → IsTicketOfJob job (ticket_of job readings serial p)
-ticket_is job readings serial p = record {
-  origin = refl;
-  turn = refl;
-  token = refl;
-  block = refl;
-  observe = refl;
-  request = λ request asks. ap request_of asks;
-}
+use Rattle.fc_ticket.proofs.JobTickets.{ticket_is}
 
 given_by : (kept : Option (List ℕ)) (job : Job) (serial : ℕ) (present : Option Present) (t : Ticket) → Given t ≡ snapshot kept job serial present → IsTicketOfJob job t
 given_by kept job serial None t is = absurd (cc is)

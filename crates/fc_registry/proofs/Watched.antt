@@ -13,8 +13,9 @@ use Rattle.fc_observe.specs.Entries.{is_due, is_overdue}
 use Rattle.fc_observe.specs.Observers.{ObserverList, list_at_time, next_turn_by, no_observers}
 use Rattle.fc_observe.proofs.Nobody.{EnterNone, EntersNone, stays_empty}
 use Rattle.fc_registry.specs.Calls.{is_out_at, mark_missing_calls, turn_calls}
-use Rattle.fc_registry.specs.Notes.{keeps_observer, note_calls, serial_told, told_call}
-use Rattle.fc_registry.specs.Slots.{Present, Shard, Ticket}
+use Rattle.fc_ticket.specs.Notes.{keeps_observer, note_calls, serial_told, told_call}
+use Rattle.fc_ticket.specs.Tickets.{Present, Ticket}
+use Rattle.fc_registry.specs.Slots.{Shard}
 use Rattle.fc_registry.specs.Watches.{AreWatched, has_due, has_overdue, is_idle, noticed_at, place_from, signal_call, watch_at}
 use Rattle.fc_registry.proofs.Ahead.{mapped_at}
 

@@ -2,50 +2,37 @@
 -- determines both from the slot that the call finds.
 use Rattle.std.specs.Prelude.{◌≡◌, ℕ, ◌+◌, ◌/◌, ◌==◌, ◌&&◌, ◌<◌, ◌≤◌, Bool, true, false, if◌then◌else◌, nat_lt, List, [], ◌∷◌, ◌++◌, Option, Some, None, is_none, is_some, max}
 use Rattle.coap_msg.specs.Codes.{code}
-use Rattle.coap_opts.specs.declared.observe.TheConstants as observe
-use Rattle.coap_opts.specs.Observe.{has_observe}
-use Rattle.coap_opts.specs.Values.{Place}
-use Rattle.fc_help.specs.Request.{Request, no_request}
 use Rattle.fc_help.specs.declared.request.Method.{Method}
 use Rattle.fc_help.specs.declared.request.Method.TheVariants.{Get, Post}
-use Rattle.fc_kinds.specs.Meaning.{Program, Input, input_with, Meaning}
+use Rattle.fc_kinds.specs.Meaning.{Program}
 use Rattle.fc_machine.specs.Ran.{Ran, meaning_of}
-use Rattle.fc_observe.specs.declared.observers.Registered.{Registered}
-use Rattle.fc_observe.specs.declared.observers.Registered.TheVariants.{Full}
 use Rattle.fc_observe.specs.declared.entry.Turn.{Turn}
-use Rattle.fc_observe.specs.Calls.{ObserverCall, Advance, Cancel, MarkMissing, Register}
-use Rattle.fc_observe.specs.Observers.{ObserverList, list_at_time, entry_out, registration}
-use Rattle.fc_registry.specs.declared.job.Ask.{Ask}
-use Rattle.fc_registry.specs.declared.job.Ask.TheVariants.{Run, Install}
-use Rattle.fc_registry.specs.declared.job.Job.{Job}
-use Rattle.fc_registry.specs.declared.job.InitialVars.{InitialVars}
-use Rattle.fc_registry.specs.declared.job.InitialVars.TheVariants.{Zeros}
-use Rattle.fc_registry.specs.Taken.{Taken}
-use Rattle.fc_registry.specs.Taken.{Given, Missing, Stale, Refused}
+use Rattle.fc_observe.specs.Calls.{ObserverCall, Advance, MarkMissing}
+use Rattle.fc_observe.specs.Observers.{ObserverList, list_at_time, entry_out}
+use Rattle.fc_ticket.specs.declared.job.Job.{Job}
+use Rattle.fc_ticket.specs.declared.job.InitialVars.{InitialVars}
+use Rattle.fc_ticket.specs.Notes.{IsNoted, note_calls, sent_of, ticket_told}
+use Rattle.fc_ticket.specs.declared.note.Noted.{Noted}
+use Rattle.fc_ticket.specs.declared.note.Notification.{Notification}
+use Rattle.fc_ticket.specs.Runs.{meaning_at, run_of, ticket_of, receipt_of, IsRunOf}
+use Rattle.fc_ticket.specs.Registrations.{is_observed, observe_calls}
+use Rattle.fc_ticket.specs.Taken.{Taken, Given, Missing, Stale, Refused}
 use Rattle.fc_registry.specs.declared.shard.Made.{Made}
 use Rattle.fc_registry.specs.declared.shard.Made.TheVariants.{Raised, AtEnd}
 use Rattle.fc_registry.specs.declared.shard.Removal.{Removal}
 use Rattle.fc_registry.specs.declared.shard.Removal.TheVariants as removals
-use Rattle.fc_registry.specs.declared.receipt.Receipt.{Receipt}
+use Rattle.fc_ticket.specs.declared.receipt.Receipt.{Receipt}
 use Rattle.fc_registry.specs.declared.commit.CommitOutcome.{CommitOutcome}
 use Rattle.fc_registry.specs.declared.commit.CommitOutcome.TheVariants.{Writes, Keeps, Overtakes, Ends}
 use Rattle.fc_registry.specs.declared.commit.Committed.{Committed}
 use Rattle.fc_registry.specs.declared.commit.Committed.TheVariants.{Done, Overtaken, Ended, Stranger}
-use Rattle.fc_registry.specs.Slots.{Slot, Shard, Present, Ticket, Mark, slot_in, with_slot, last_serial}
+use Rattle.fc_registry.specs.Slots.{Slot, Shard, Mark, slot_in, with_slot, last_serial}
+use Rattle.fc_ticket.specs.Tickets.{Present, Ticket}
 use Rattle.fc_registry.specs.Changes.{Change, Installed, Committed as Wrote, Removed, Commit, after_changes}
 use Rattle.fc_registry.specs.Record.{code_class}
-use Rattle.fc_registry.specs.Watches.{watch_at, with_calls}
+use Rattle.fc_registry.specs.Watches.{at_time, watch_at, with_calls}
 
 -- ---- snapshots
-
--- the request that a job asks a program to answer; an empty one if the job runs no program.
-abbrev pub request_of : Ask → Request
-request_of (Run request) = request
-request_of other = no_request
-
--- the ticket of a slot's contents at this serial, with the readings passed to the snapshot.
-abbrev pub ticket_of : Job → List ℕ → ℕ → Present → Ticket
-ticket_of job readings serial found = record { origin = job.origin; turn = job.turn; token = job.token; request = request_of job.ask; block = job.block; observe = job.observe; serial = serial; found = found; readings = readings }
 
 -- the readings that a snapshot keeps; none if there is no memory for a ticket.
 abbrev pub readings_if : Bool → List ℕ → Option (List ℕ)
@@ -131,11 +118,6 @@ pub record Called (A : Type 0) : Type 0 where
 
 -- ---- install
 
--- the variables that an install is to leave; `Zeros` if the action is another one.
-abbrev pub initial_vars_of : Ask → InitialVars
-initial_vars_of (Install image initial) = initial
-initial_vars_of other = Zeros
-
 -- an install changes a slot that is below the last serial. The install's result has the new serial,
 -- and whether the slot was empty.
 abbrev pub put_by : Bool → Slot → Program → InitialVars → Called Made
@@ -161,10 +143,6 @@ remove_from slot = clear_by (nat_lt slot.serial last_serial) slot.serial slot.pr
 
 -- ---- receipt
 
--- the receipt of a program whose install has this serial.
-abbrev pub receipt_of : Program → ℕ → Receipt
-receipt_of p version = record { version = version; cost = p.cost; budget = p.budget; vars = p.vars_size }
-
 -- the receipt of the program in a slot.
 abbrev pub receipt_at : Option Present → Option Receipt
 receipt_at None = None
@@ -181,64 +159,9 @@ is_post Post = true
 abbrev pub wants_by : Ran → Bool
 wants_by ran = is_post ran.input.request.method && (code_class (meaning_of ran).code == 2)
 
--- the input of a ticket's run: the ticket's request, and the variables and readings of the
--- snapshot.
-abbrev pub input_of : Ticket → Input
-input_of t = input_with t.request t.found.vars t.readings
-
--- the run of a ticket.
-abbrev pub run_of : Ticket → Ran
-run_of t = record { program = t.found.program; input = input_of t }
-
 -- whether the ticket's run wants to write.
 abbrev pub wants : Ticket → Bool
 wants t = wants_by (run_of t)
-
--- the meaning of the ticket's program for the ticket's request, and for the variables and readings
--- of the snapshot.
-abbrev pub meaning_at : Ticket → Meaning
-meaning_at t = meaning_of (run_of t)
-
--- ---- observe
-
--- whether the requested block is the first one, or none is requested.
-abbrev pub is_first_block : Option Place → Bool
-is_first_block None = true
-is_first_block (Some block) = block.number == 0
-
--- the size of the requested block, as an exponent, if a block is requested.
-abbrev pub szx_of : Option Place → Option ℕ
-szx_of None = None
-szx_of (Some block) = Some block.szx
-
--- whether the run registers the client as an observer: Observe 0, the first block, and a 2.05
--- (Content) response (RFC 7641, section 4.1).
-abbrev pub is_registration : Ticket → Bool
-is_registration t = has_observe observe.REGISTER t.observe && (is_first_block t.block && ((meaning_at t).code == code 2 5))
-
--- whether the run removes the client from the observers: Observe 1, whatever the code (RFC 7641,
--- section 3.6).
-abbrev pub is_cancellation : Ticket → Bool
-is_cancellation t = has_observe observe.CANCEL t.observe
-
--- the call of a registration or of a cancellation on the observers; none for any other run.
-abbrev pub observe_calls_by : Bool → Bool → ℕ → Ticket → List ObserverCall
-observe_calls_by true cancel now t = Register now t.origin.endpoint t.token t.request (szx_of t.block) t.serial ∷ []
-observe_calls_by false true now t = Cancel t.origin.endpoint t.token.items ∷ []
-observe_calls_by false false now t = []
-
--- the calls of a run that has nothing to write on the observers of its slot, at this time.
-abbrev pub observe_calls : ℕ → Ticket → List ObserverCall
-observe_calls now t = observe_calls_by (is_registration t) (is_cancellation t) now t
-
--- whether a registration was made.
-abbrev pub is_entered : Registered → Bool
-is_entered Full = false
-is_entered other = true
-
--- whether the client observes the slot, with these observers, from now on.
-abbrev pub is_observed : Ticket → ObserverList → Bool
-is_observed t w = is_registration t && is_entered (registration t.origin.endpoint t.token.items w)
 
 -- ---- commit
 
@@ -294,15 +217,6 @@ abbrev pub commit_calls : Committed → ℕ → Ticket → List ObserverCall
 commit_calls (Done m) now t = if m.changed then [] else observe_calls now t
 commit_calls other now t = []
 
--- the outcome is that of a run of the ticket's program, with the ticket's request, variables and
--- readings. The ticket's serial isn't above this serial, the slot's.
-pub record IsRunOf (ran : Ran) (t : Ticket) (serial : ℕ) : Type 0 where
-  pub program : ran.program ≡ t.found.program
-  pub request : ran.input.request ≡ t.request
-  pub vars : ran.input.vars ≡ t.found.vars
-  pub readings : ran.input.readings ≡ t.readings
-  pub found : t.serial ≤ serial
-
 -- the ticket isn't a lease's, and the outcome is that of the ticket's run.
 pub record IsOwn (ran : Ran) (t : Ticket) (slot : Slot) : Type 0 where
   pub asked : t.turn ≡ None
@@ -340,3 +254,11 @@ pub record CommitsTo (ran : Ran) (t : Ticket) (old : Shard) (now : ℕ) (c : Com
   pub after : Slot
   pub commit : IsCommit ran t (slot_in old t.origin.slot) (watch_at old (t.origin.slot / 8)) c after
   pub shard : new ≡ with_calls (commit_calls c (max old.now now) t) t.origin.slot (with_slot (record old { now = max old.now now }) t.origin.slot after)
+
+-- ---- notifications
+
+-- the result of a notification at this time. The notification changes only the shard's time, and
+-- the observers of the lease's slot.
+pub record NotesTo (told : Notification) (turn : Turn) (id random : ℕ) (old : Shard) (now : ℕ) (noted : Noted) (new : Shard) : Type 0 where
+  pub is : IsNoted told turn id (max old.now now) (slot_in old turn.slot).serial (watch_at old (turn.slot / 8)) noted
+  pub after : new ≡ with_calls (note_calls turn id random (max old.now now) (ticket_told told) (sent_of noted)) turn.slot (at_time old now)

@@ -3,10 +3,11 @@ use Rattle.std.specs.Prelude.{ℕ, ◌+◌, ◌==◌, Bool, true, if◌then◌el
 use Rattle.fc_help.specs.Request.{Request}
 use Rattle.fc_kinds.specs.Meaning.{Program}
 use Rattle.circular_buffer.specs.Buffer.{keep_last}
-use Rattle.fc_registry.specs.declared.job.InitialVars.{InitialVars}
-use Rattle.fc_registry.specs.declared.job.InitialVars.TheVariants.{Zeros, Kept}
+use Rattle.fc_ticket.specs.declared.job.InitialVars.{InitialVars}
+use Rattle.fc_ticket.specs.declared.job.InitialVars.TheVariants.{Zeros, Kept}
 use Rattle.fc_registry.specs.declared.ring.Entry.{Entry}
-use Rattle.fc_registry.specs.Slots.{Slot, Present, vars_in}
+use Rattle.fc_registry.specs.Slots.{Slot, vars_in}
+use Rattle.fc_ticket.specs.Tickets.{Present}
 
 -- a commit: the run's request, the readings of the snapshot, the variables that the commit found
 -- and left, and whether the run set the notify flag.

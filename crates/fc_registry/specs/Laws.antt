@@ -1,13 +1,13 @@
 -- Definitions for three kinds of laws: of a slot and its changes, of a ticket and its job, and of a
 -- lease's job and observer.
 use Rattle.std.specs.Prelude.{◌≡◌, ℕ, ◌+◌, ◌<◌, false, if◌then◌else◌, Some, None, List, [], ◌∷◌, ◌++◌, length}
-use Rattle.fc_help.specs.Request.{Request}
 use Rattle.fc_observe.specs.Views.{Interest}
-use Rattle.fc_registry.specs.declared.job.Ask.TheVariants.{Run}
-use Rattle.fc_registry.specs.declared.job.Job.{Job}
-use Rattle.fc_registry.specs.declared.job.InitialVars.{InitialVars}
+use Rattle.fc_ticket.specs.declared.job.Ask.TheVariants.{Run}
+use Rattle.fc_ticket.specs.declared.job.Job.{Job}
+use Rattle.fc_ticket.specs.declared.job.InitialVars.{InitialVars}
 use Rattle.fc_registry.specs.Record.{HasRingSince}
-use Rattle.fc_registry.specs.Slots.{Present, Slot, Ticket, new_slot, vars_in}
+use Rattle.fc_ticket.specs.Tickets.{Present}
+use Rattle.fc_registry.specs.Slots.{Slot, new_slot, vars_in}
 use Rattle.fc_registry.specs.Changes.{Change, Installed, Committed, Removed, after_changes, installed, is_noticed}
 
 -- no install and no removal is among the changes.
@@ -58,15 +58,6 @@ pub record FollowsInstall (serial : ℕ) (cs : List Change) (p : Present) : Type
   pub only_commits : AllCommits later
   pub version : p.version ≡ (after_changes (new_slot serial) earlier).serial + 1
   pub vars : p.vars ≡ vars_left (installed (after_changes (new_slot serial) earlier) p.program initial).vars later
-
--- a ticket has the data of its job.
-pub record IsTicketOfJob (j : Job) (t : Ticket) : Type 0 where
-  pub origin : t.origin ≡ j.origin
-  pub turn : t.turn ≡ j.turn
-  pub token : t.token ≡ j.token
-  pub block : t.block ≡ j.block
-  pub observe : t.observe ≡ j.observe
-  pub request : (request : Request) → j.ask ≡ Run request → t.request ≡ request
 
 -- the job of a lease answers the observer's request again, from the first block on. The size of the
 -- block is the one that the registration requested, if any. A size has an exponent of three bits.

@@ -1,6 +1,4 @@
-pub mod Receipts
 pub mod Slots
-pub mod Taken
 pub mod Watches
 pub mod Turns
 pub mod Shards
@@ -8,7 +6,6 @@ pub mod Changes
 pub mod Record
 pub mod Views
 pub mod Calls
-pub mod Notes
 pub mod Laws
 pub mod Plans
 pub mod Restored

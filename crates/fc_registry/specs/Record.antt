@@ -3,7 +3,8 @@ use Rattle.std.specs.Prelude.{◌≡◌, ℕ, ◌+◌, ◌-◌, ◌/◌, ◌≤�
 use Rattle.fc_help.specs.declared.request.Method.TheVariants.{Post}
 use Rattle.fc_kinds.specs.Meaning.{Program, input_with, meant}
 use Rattle.fc_registry.specs.declared.ring.Entry.{Entry}
-use Rattle.fc_registry.specs.Slots.{Slot, Present}
+use Rattle.fc_registry.specs.Slots.{Slot}
+use Rattle.fc_ticket.specs.Tickets.{Present}
 use Rattle.fc_registry.specs.Changes.{Change, Installed, Committed, Removed, Commit, after_changes}
 
 -- the class of a code: its upper three bits (RFC 7252, section 3).

@@ -3,7 +3,8 @@ use Rattle.std.specs.Prelude.{ℕ, [], Option, Some, None, max}
 use Rattle.fc_store.specs.Stored.{StoredProgram, StoredSlot, StoredSlots}
 use Rattle.fc_verify.specs.Accepted.{Accepts, Judgement}
 use Rattle.fc_verify.specs.Judged.{judged}
-use Rattle.fc_registry.specs.Slots.{Present, Slot}
+use Rattle.fc_ticket.specs.Tickets.{Present}
+use Rattle.fc_registry.specs.Slots.{Slot}
 
 -- the stored program if this judgement of its image accepts the image.
 abbrev pub present_if : Judgement → StoredProgram → Option Present

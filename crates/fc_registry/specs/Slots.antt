@@ -1,18 +1,9 @@
--- Slots and shards, and the tickets of their jobs.
+-- Slots and shards, and the marks of commits.
 use Rattle.std.specs.Prelude.{◌≡◌, ℕ, ◌/◌, ◌%◌, ◌<◌, Bool, List, [], Option, Some, None, slice_index_or, slice_set}
-use Rattle.arrayvec.specs.ArrayVec.{ArrayVec}
-use Rattle.coap_opts.specs.Values.{Place}
-use Rattle.fc_help.specs.Request.{Request}
-use Rattle.fc_kinds.specs.Meaning.{Program}
 use Rattle.fc_observe.specs.Observers.{ObserverList}
-use Rattle.fc_registry.specs.declared.job.Origin.{Origin}
+use Rattle.fc_ticket.specs.declared.job.Origin.{Origin}
 use Rattle.fc_registry.specs.declared.ring.Entry.{Entry}
-
--- a program in a slot, with the serial of the program's install as its version.
-pub record Present : Type 0 where
-  pub program : Program
-  pub version : ℕ
-  pub vars : List ℕ
+use Rattle.fc_ticket.specs.Tickets.{Present}
 
 -- the version of the present program, if there is one.
 abbrev pub version_in : Option Present → Option ℕ
@@ -61,20 +52,6 @@ slot_in shard n = slice_index_or shard.slots (n / 8) (new_slot 0)
 -- the shard with this state of slot n; the other slots are unchanged.
 abbrev pub with_slot : Shard → ℕ → Slot → Shard
 with_slot shard n slot = record shard { slots = slice_set shard.slots (n / 8) slot }
-
--- a ticket: the slot's serial, its program with version and variables, and the readings, as a
--- snapshot found them. It also has the request with the token, the response block that the request
--- names, and the Observe value. The ticket of a lease has the lease's number.
-pub record Ticket : Type 0 where
-  pub origin : Origin
-  pub turn : Option ℕ
-  pub token : ArrayVec ℕ
-  pub request : Request
-  pub block : Option Place
-  pub observe : Option ℕ
-  pub serial : ℕ
-  pub found : Present
-  pub readings : List ℕ
 
 -- the mark of a commit, which a response consumes. It has the serial that the snapshot found, the
 -- serial at the commit, and whether the commit changed the slot. It also says whether the client

@@ -11,7 +11,8 @@ use Rattle.fc_registry.specs.Changes.{Change}
 use Rattle.fc_registry.specs.Laws.{vars_since}
 use Rattle.fc_registry.specs.Record.{HasRingSince}
 use Rattle.fc_registry.specs.Restored.{restored_slot}
-use Rattle.fc_registry.specs.Slots.{Present, Shard, Slot, last_serial, new_slot, with_slot}
+use Rattle.fc_ticket.specs.Tickets.{Present}
+use Rattle.fc_registry.specs.Slots.{Shard, Slot, last_serial, new_slot, with_slot}
 use Rattle.fc_registry.specs.Watches.{new_watches}
 use Rattle.fc_registry.specs.declared.restore.RestoreError.{RestoreError}
 use Rattle.fc_registry.specs.declared.restore.RestoreError.TheVariants as restores

@@ -7,8 +7,8 @@ use Rattle.fc_observe.specs.declared.entry.Turn.{Turn}
 use Rattle.fc_observe.specs.Calls.{NextDue, observers_after}
 use Rattle.fc_observe.specs.Observers.{ObserverList, list_at_time, entry_out, next_turn}
 use Rattle.fc_observe.specs.Views.{Interest, interest_of}
-use Rattle.fc_registry.specs.declared.job.Ask.TheVariants.{Run}
-use Rattle.fc_registry.specs.declared.job.Job.{Job}
+use Rattle.fc_ticket.specs.declared.job.Ask.TheVariants.{Run}
+use Rattle.fc_ticket.specs.declared.job.Job.{Job}
 use Rattle.fc_registry.specs.Slots.{Shard}
 use Rattle.fc_registry.specs.Watches.{noticed_at, watch_at}
 

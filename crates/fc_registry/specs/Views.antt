@@ -2,9 +2,10 @@
 use Rattle.std.specs.Prelude.{Option, Some, None}
 use Rattle.fc_registry.specs.declared.body.Body.{Body}
 use Rattle.fc_registry.specs.declared.slot.SlotState.{SlotState}
-use Rattle.fc_registry.specs.Slots.{Slot, Present}
-use Rattle.fc_registry.specs.Taken as spec
-use Rattle.fc_registry.specs.Taken.{SlotSnapshot, IsSized, ticket_with}
+use Rattle.fc_registry.specs.Slots.{Slot}
+use Rattle.fc_ticket.specs.Tickets.{Present}
+use Rattle.fc_ticket.specs.Taken as spec
+use Rattle.fc_ticket.specs.Taken.{SlotSnapshot, IsSized, ticket_with}
 use Rattle.fc_registry.specs.declared.shard.Taken.{Taken}
 use Rattle.fc_registry.specs.declared.shard.Taken.TheVariants.{Given, Missing, Stale, Refused}
 

@@ -2,7 +2,7 @@
 ghost use Rattle.std.specs.Prelude.{◌≡◌};
 ghost use Rattle.fc_registry.specs.Calls.{is_post, wants_by};
 
-use crate::ticket::Mark;
+use crate::mark::Mark;
 use fc_help::Method;
 use fc_machine::Outcome;
 

@@ -3,33 +3,30 @@
 //! Each law is the contract of an empty function.
 ghost use Rattle.circular_buffer.specs.Buffer.{keep_last};
 ghost use Rattle.fc_registry.specs.Changes.{Change, Commit, Committed, Installed, after_changes, changed};
-ghost use Rattle.coap_msg.specs.declared.types.Emission.{Emission};
-ghost use Rattle.fc_registry.specs.Laws.{AllCommits, FollowsInstall, IsTicketOfJob, IsTurnFor, RingBegins, notify_serial, vars_begun};
-ghost use Rattle.coap_opts.specs.Values.{Place};
-ghost use Rattle.fc_observe.specs.Calls.{Advance, End, Notify, Register};
+ghost use Rattle.fc_registry.specs.Laws.{AllCommits, FollowsInstall, IsTurnFor, RingBegins, notify_serial, vars_begun};
+ghost use Rattle.fc_ticket.specs.Laws.{IsTicketOfJob};
 ghost use Rattle.fc_observe.specs.Views.{interest_of};
 ghost use Rattle.fc_observe.specs.declared.entry.Entry.{Entry};
 ghost use Rattle.fc_observe.specs.Observers.{ObserverList};
-ghost use Rattle.fc_observe.specs.declared.entry.Turn.{Turn};
 ghost use Rattle.fc_observe.specs.declared.observers.Ticked.TheVariants.{Quiet};
-ghost use Rattle.fc_registry.specs.Notes.{note_calls};
 ghost use Rattle.fc_registry.specs.Plans.{IsStoredOf, IsPlanned, SavesImage};
 ghost use Rattle.fc_registry.specs.Record.{IsChain, IsRing};
 ghost use Rattle.fc_store.specs.Updates.{slot_after};
 ghost use Rattle.fc_store.specs.Stored.{StoredSlot};
 ghost use Rattle.fc_store.specs.declared.store.SlotUpdate.{SlotUpdate};
 ghost use Rattle.fc_registry.specs.Restored.{at_least, restored_slot};
-ghost use Rattle.fc_registry.specs.Slots.{Present, Shard, Slot, Ticket, last_serial, new_slot, vars_in};
+ghost use Rattle.fc_ticket.specs.Tickets.{Present, Ticket};
+ghost use Rattle.fc_registry.specs.Slots.{Shard, Slot, last_serial, new_slot, vars_in};
 ghost use Rattle.fc_registry.specs.Starts.{CanRestore, RingContinues};
 ghost use Rattle.fc_registry.specs.Turns.{due_job};
 ghost use Rattle.fc_registry.specs.Watches.{after_due, shard_after_tick, due_place, is_idle, overdue_place, ticked_in, watch_at};
 ghost use Rattle.fc_registry.specs.declared.commit.CommitOutcome.{CommitOutcome};
-ghost use Rattle.fc_registry.specs.declared.job.Job.{Job};
-ghost use Rattle.fc_registry.specs.declared.job.InitialVars.{InitialVars};
-ghost use Rattle.fc_registry.specs.declared.job.InitialVars.TheVariants.{Kept, Zeros};
+ghost use Rattle.fc_ticket.specs.declared.job.Job.{Job};
+ghost use Rattle.fc_ticket.specs.declared.job.InitialVars.{InitialVars};
+ghost use Rattle.fc_ticket.specs.declared.job.InitialVars.TheVariants.{Kept, Zeros};
 ghost use Rattle.fc_kinds.specs.Meaning.{Program};
-ghost use Rattle.fc_registry.specs.Taken.{Given};
-ghost use Rattle.fc_registry.specs.Calls.{HasGiven, ComesTo, IsSnapshot, install_in, is_registration, meaning_at, observe_calls, outcome};
+ghost use Rattle.fc_ticket.specs.Taken.{Given};
+ghost use Rattle.fc_registry.specs.Calls.{HasGiven, ComesTo, IsSnapshot, install_in, outcome};
 ghost use Rattle.std.specs.List.{Any};
 ghost use Rattle.std.specs.Prelude.{List, [], None, Some, length, max, replicate, true, ℕ, ◌∷◌, ◌++◌, ◌+◌, ◌≤◌, ◌≡◌};
 
@@ -119,31 +116,13 @@ pub fn tickets_are_of_their_jobs()
         IsSnapshot job readings slot at w (Given t) → IsTicketOfJob job t }
 {}
 
-/// A notification ends its lease.
-///
-/// A 2.05 (Content) notification, code 69, ends the lease and records the message ID, the serial
-/// and the bytes that were sent. A notification of another code, or of an empty slot, ends the
-/// lease and removes the observer (RFC 7641, section 4.2).
-pub fn notifications_end_their_turns()
-    ensures content { (turn : Turn) (id random at : ℕ) (t : Ticket) (e : Emission) → (meaning_at t).code ≡ 69 →
-        note_calls turn id random at (Some t) (Some e) ≡ Notify at turn id t.serial random e.bytes ∷ Advance at ∷ [] }
-    ensures error { (turn : Turn) (id random at : ℕ) (t : Ticket) (e : Emission) → ((meaning_at t).code ≡ 69 → ⊥) →
-        note_calls turn id random at (Some t) (Some e) ≡ End turn ∷ Advance at ∷ [] }
-    ensures empty { (turn : Turn) (id random at : ℕ) (e : Emission) →
-        note_calls turn id random at None (Some e) ≡ End turn ∷ Advance at ∷ [] }
-{}
-
 /// The job of a lease has the request of a registration in the lease's slot.
 ///
 /// The job requests the first block, of the size in the Block2 option of that registration, if
-/// there was one (RFC 7959, section 2.6). A registration stores that size.
+/// there was one (RFC 7959, section 2.6).
 pub fn turns_ask_what_was_registered()
-    ensures turn { (shard : Shard) (k : ℕ) (j : Job) → due_job (Some k) shard ≡ Some j →
+    ensures { (shard : Shard) (k : ℕ) (j : Job) → due_job (Some k) shard ≡ Some j →
         Any (λ (o : Entry). IsTurnFor j (interest_of o)) (watch_at shard k).held }
-    ensures whole { (now : ℕ) (t : Ticket) → is_registration t ≡ true → t.block ≡ None →
-        observe_calls now t ≡ Register now t.origin.endpoint t.token t.request None t.serial ∷ [] }
-    ensures size { (now : ℕ) (t : Ticket) (block : Place) → is_registration t ≡ true → t.block ≡ Some block →
-        observe_calls now t ≡ Register now t.origin.endpoint t.token t.request (Some block.szx) t.serial ∷ [] }
 {}
 
 /// The update of a change makes the stored state that of the changed slot.

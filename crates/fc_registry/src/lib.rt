@@ -1,4 +1,4 @@
-//! Slots in shards: jobs, snapshots, commits, installs, rings and observers.
+//! Slots in shards: snapshots, commits, installs, rings and observers.
 //!
 //! Shard `n mod 8` owns slot `n`. A job takes a snapshot of its slot, which is the job's ticket,
 //! and runs the ticket's program. The commit of the run writes only if nothing has changed since
@@ -8,7 +8,8 @@
 //! ```rust
 //! ghost use Rattle.fc_registry.specs.Slots.{IsOwned};
 //!
-//! use fc_registry::{InitialVars, Made, Shard, SlotNumber};
+//! use fc_registry::{Made, Shard};
+//! use fc_ticket::{InitialVars, SlotNumber};
 //! use fc_verify::Verified;
 //! use std::sync::Arc;
 //!
@@ -76,30 +77,21 @@
 
 mod body;
 pub mod commit;
-pub mod job;
 pub mod laws;
-pub mod note;
-mod observe;
+pub mod mark;
 pub mod plan;
-pub mod receipt;
 pub mod restore;
 pub mod ring;
 pub mod shard;
 pub mod shards;
 mod slot;
-pub mod slot_number;
-pub mod ticket;
 mod turn;
 
 pub use commit::{CommitOutcome, Committed, wants_to_write};
-pub use job::{Ask, InitialVars, Job, Opening, Origin};
-pub use note::{NoteOutcome, Noted, Notification};
+pub use mark::Mark;
 pub use plan::{plan_commit, plan_install, plan_removal};
-pub use receipt::Receipt;
 pub use restore::{RestoreError, raise_serials};
 pub use ring::Entry;
 pub use shard::{Made, PLACES, Removal, Shard, Taken, Took};
 pub use shards::{StartError, make_shards, restore_shards};
 pub use slot::LAST_SERIAL;
-pub use slot_number::{SHARDS, SLOTS, SlotNumber};
-pub use ticket::{Mark, SlotSnapshot, Ticket};

@@ -7,13 +7,11 @@ ghost use Rattle.fc_registry.specs.Changes.{Committed};
 ghost use Rattle.fc_registry.specs.Plans.{HasImage, IsPlan, IsPlanned};
 ghost use Rattle.fc_registry.specs.Slots.{IsOwned, last_serial, slot_in};
 
-use crate::job::InitialVars;
 use crate::shard::Shard;
 use crate::slot::LAST_SERIAL;
-use crate::slot_number::SlotNumber;
-use crate::ticket::Ticket;
 use fc_machine::Outcome;
 use fc_store::{ProgramUpdate, SlotUpdate};
+use fc_ticket::{InitialVars, SlotNumber, Ticket};
 use fc_verify::Verified;
 
 /// Returns the update of an install, or `None` if the slot is at its last serial.

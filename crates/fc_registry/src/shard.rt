@@ -6,34 +6,31 @@ ghost use Rattle.std.specs.Prelude.{◌≡◌, ◌↔◌, IsTrue, if◌then◌el
 ghost use Rattle.fc_registry.specs.Shards.{empty_shard};
 ghost use Rattle.fc_registry.specs.Slots.{IsOwned, slot_in, with_slot, last_serial, version_in, vars_in};
 ghost use Rattle.fc_registry.specs.Changes.{after_changes, vars_installed};
-ghost use Rattle.fc_registry.specs.Calls.{TakesAt, CommitsTo, WouldWrite, install_in, receipt_at, remove_from, after_snapshot};
+ghost use Rattle.fc_registry.specs.Calls.{TakesAt, CommitsTo, WouldWrite, install_in, receipt_at, remove_from, after_snapshot, NotesTo};
 ghost use Rattle.fc_registry.specs.Views.{HasSize, as_seen, taken_with};
 ghost use Rattle.fc_registry.specs.Record.{IsRecord};
 ghost use Rattle.fc_registry.specs.Starts.{CanRestore, IsRestoreError, RestoresTo};
 ghost use Rattle.fc_observe.specs.Calls.{observers_after};
 ghost use Rattle.fc_observe.specs.Observers.{no_observers};
 ghost use Rattle.fc_observe.specs.Quiet.{AreIdleUntil};
-ghost use Rattle.fc_registry.specs.Notes.{IsKeptUnlessSent, NotesTo, noted_as};
+ghost use Rattle.fc_ticket.specs.Notes.{IsKeptUnlessSent, noted_as};
 ghost use Rattle.fc_registry.specs.Turns.{due_job, written_if};
 ghost use Rattle.fc_registry.specs.Watches.{AreWatched, IsSentUpTo, StaysIdleUntil, after_due, after_given_up, shard_after_tick, due_place, at_time, has_due, has_overdue, is_idle, is_idle_at, overdue_place, new_watches, noticed_at, observer_counts, signal_call, signalled, ticked_in, watch_at};
 
 use crate::commit::Committed;
-use crate::job::{InitialVars, Job};
-use crate::note::{NoteOutcome, Noted, Notification, note};
-use crate::receipt::Receipt;
 use crate::restore::RestoreError;
-use crate::slot::{
-    SlotState, clear, committed, empty_slot, find, install, noticed_of, receipt_in, restore,
-    serial_of, take_turn, vars_installed, vars_of, version_of, would_write,
-};
-use crate::slot_number::{SHARDS, SlotNumber};
-use crate::ticket::{SlotSnapshot, Ticket};
+use crate::slot::SlotState;
 use crate::turn::{next_turn, no_job};
 use coap_msg::{Datagram, Emission, Endpoint};
 use fc_help::Readings;
 use fc_machine::Outcome;
 use fc_observe::{Observers, Ticked, Turn};
 use fc_store::StoredSlot;
+use fc_ticket::note::note;
+use fc_ticket::{
+    InitialVars, Job, NoteOutcome, Noted, Notification, Receipt, SHARDS, SlotNumber, SlotSnapshot,
+    Ticket,
+};
 use fc_verify::Verified;
 use std::alloc::{AllocError, Global};
 use std::marker::Model;
@@ -97,7 +94,7 @@ pub struct Took {
 }
 
 impl Model for Took {
-    ghost use Rattle.fc_registry.specs.Taken as spec;
+    ghost use Rattle.fc_ticket.specs.Taken as spec;
 
     ghost Value = { spec.Taken };
 
@@ -148,7 +145,7 @@ impl Shard {
     {
         let mut slots = Vec::with_capacity(alloc, usize::from(SHARDS))?;
         for _slot in 0..SHARDS {
-            slots.push(empty_slot(alloc, first_serial)?)?;
+            slots.push(SlotState::empty(alloc, first_serial)?)?;
         }
         Ok(Shard {
             index,
@@ -167,7 +164,7 @@ impl Shard {
     pub fn would_write(&self, outcome: &Outcome<'_>, ticket: &Ticket<'_>) -> bool
         ensures { IsTrue result ↔ WouldWrite outcome.now ticket.now (slot_in self.entry.now ticket.now.origin.slot) }
     {
-        would_write(outcome, ticket, &self.slots[ticket.origin().slot.place()])
+        self.slots[ticket.origin().slot.place()].would_write(outcome, ticket)
     }
 
     /// Takes a snapshot of the job's slot, with these readings.
@@ -198,19 +195,12 @@ impl Shard {
     {
         let place = job.origin.slot.place();
         match job.turn {
-            None => find(job, readings, &self.slots[place], found),
+            None => self.slots[place].find(job, readings, found),
             Some(number) => {
                 let slot = job.origin.slot.number();
                 let watch = &mut self.watches[place];
-                take_turn(
-                    watch,
-                    self.now,
-                    Turn { slot, number },
-                    job,
-                    readings,
-                    &self.slots[place],
-                    found,
-                )
+                let turn = Turn { slot, number };
+                self.slots[place].take_turn(watch, self.now, turn, job, readings, found)
             }
         }
     }
@@ -241,7 +231,7 @@ impl Shard {
         let place = ticket.origin().slot.place();
         let slot = &mut self.slots[place];
         let watch = &mut self.watches[place];
-        let answer = committed(slot, watch, self.now, outcome, ticket);
+        let answer = slot.commit(watch, self.now, outcome, ticket);
         self.watched |= !watch.is_empty();
         answer
     }
@@ -268,7 +258,7 @@ impl Shard {
         ensures cause { IfErr result (IsRestoreError (slot_in self.old slot) stored.now) }
     {
         let state = &mut self.slots[slot.place()];
-        restore(state, alloc, stored)
+        state.restore(alloc, stored)
     }
 
     /// Installs a program in a slot, and returns the slot's new serial.
@@ -288,7 +278,7 @@ impl Shard {
             self.new ≡ with_slot self.old slot (after_changes old (install_in old program.value initial).changes) }
     {
         let state = &mut self.slots[slot.place()];
-        install(state, program, initial)
+        state.install(program, initial)
     }
 
     /// Removes the program of a slot, with its variables and its ring.
@@ -303,7 +293,7 @@ impl Shard {
             (after_changes (slot_in self.old slot) (remove_from (slot_in self.old slot)).changes) }
     {
         let state = &mut self.slots[slot.place()];
-        clear(state)
+        state.remove()
     }
 
     /// Returns the receipt of the program in a slot, or `None` if the slot is empty.
@@ -311,7 +301,7 @@ impl Shard {
         ensures { result ≡ receipt_at (slot_in self.entry.now slot).present }
     {
         let state = &self.slots[slot.place()];
-        receipt_in(state)
+        state.receipt()
     }
 
     /// Returns the serial of a slot of this shard.
@@ -321,7 +311,7 @@ impl Shard {
         ensures { result ≡ (slot_in self.entry.now slot).serial }
     {
         let state = &self.slots[slot.place()];
-        serial_of(state)
+        state.serial()
     }
 
     /// Returns the notify serial of a slot of this shard.
@@ -333,7 +323,7 @@ impl Shard {
         ensures { result ≡ (slot_in self.entry.now slot).notify_serial }
     {
         let state = &self.slots[slot.place()];
-        noticed_of(state)
+        state.noticed()
     }
 
     /// Returns the version of the program in a slot, or `None` if the slot is empty.
@@ -341,7 +331,7 @@ impl Shard {
         ensures { result ≡ version_in (slot_in self.entry.now slot).present }
     {
         let state = &self.slots[slot.place()];
-        version_of(state)
+        state.version()
     }
 
     /// Returns the variables that an install of `program` would leave in a slot.
@@ -357,7 +347,7 @@ impl Shard {
         ensures { result.now ≡ vars_installed initial program.now (vars_in (slot_in self.entry.now slot).present) }
     {
         let state = &self.slots[slot.place()];
-        vars_installed(state, program, initial)
+        state.vars_installed(program, initial)
     }
 
     /// Returns the variables of a slot's program, or no bytes if the slot is empty.
@@ -365,7 +355,7 @@ impl Shard {
         ensures { result.now ≡ vars_in (slot_in self.entry.now slot).present }
     {
         let state = &self.slots[slot.place()];
-        vars_of(state)
+        state.vars()
     }
 
     /// Grants a lease to the first observer with a pending notification.
@@ -458,7 +448,7 @@ impl Shard {
     {
         self.now = self.now.max(now);
         let place = usize::from(turn.slot / SHARDS);
-        let serial = serial_of(&self.slots[place]);
+        let serial = self.slots[place].serial();
         let watch = &mut self.watches[place];
         note(watch, self.now, serial, turn, id, random, told, emission)
     }
@@ -506,7 +496,7 @@ impl Shard {
         ensures { result ≡ noticed_at self.entry.now place }
     {
         let state = &self.slots[place];
-        noticed_of(state)
+        state.noticed()
     }
 
     /// Advances the clock to `now`, in milliseconds, if the shard is idle then.

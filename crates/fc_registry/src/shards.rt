@@ -8,8 +8,8 @@ ghost use Rattle.fc_registry.specs.Shards.{first_shards};
 
 use crate::restore::RestoreError;
 use crate::shard::Shard;
-use crate::slot_number::{SHARDS, SlotNumber};
 use fc_store::StoredSlot;
+use fc_ticket::{SHARDS, SlotNumber};
 use std::alloc::{AllocError, Global};
 use thiserror::Error;
 

@@ -2,16 +2,15 @@
 ghost use Rattle.std.specs.Prelude.{◌≡◌, false};
 ghost use Rattle.fc_observe.specs.Calls.{NextDue, observers_after};
 ghost use Rattle.fc_observe.specs.Views.{interest};
-ghost use Rattle.fc_registry.specs.declared.job.Ask.TheVariants.{Run};
+ghost use Rattle.fc_ticket.specs.declared.job.Ask.TheVariants.{Run};
 ghost use Rattle.fc_registry.specs.Turns.{first_block, turn_given_to, turn_job, written_if};
 
-use crate::job::{Ask, Job, Opening, Origin};
-use crate::slot_number::SlotNumber;
 use arrayvec::ArrayVec;
 use coap_msg::Token;
 use coap_opts::Block;
 use fc_help::Request;
 use fc_observe::{Observer, Observers};
+use fc_ticket::{Ask, Job, Opening, Origin, SlotNumber};
 
 // Grants a lease to the first observer of a slot that has a pending notification about this notify
 // serial. Writes the lease's job over `job`. Returns whether a lease was granted; if not, `job` is

@@ -1,7 +1,7 @@
 -- A policy that is made of networks, and of the limits and seconds that parts give, has all these.
 use Rattle.std.proofs.Common.{◌≡◌, ℕ, ◌^◌, List, Option, Some, None, IfSome, MatchOption, refl, sym, subst}
 use Rattle.std.specs.Prelude.{codes}
-use Rattle.fc_core.specs.declared.policy.Policy.{Policy}
+use Rattle.fc_front.specs.declared.policy.Policy.{Policy}
 use Rattle.fc_lines.specs.Policies.{AreManagers, IsNoPolicy, IsPolicyOf}
 use Rattle.fc_replay.specs.Listed.{Bytes, HasLimits, HasNumber, HasSeconds}
 

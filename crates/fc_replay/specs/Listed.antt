@@ -8,8 +8,8 @@ use Rattle.fc_core.specs.declared.event.Event.TheVariants.{Deliver, Peek, Take, 
 use Rattle.coap_msg.specs.declared.types.Endpoint.{Endpoint}
 use Rattle.fc_help.specs.Region.{no_readings}
 use Rattle.fc_registry.specs.Slots.{last_serial}
-use Rattle.fc_core.specs.Policies.{default_policy}
-use Rattle.fc_core.specs.declared.policy.Policy.{Policy}
+use Rattle.fc_front.specs.Policies.{default_policy}
+use Rattle.fc_front.specs.declared.policy.Policy.{Policy}
 use Rattle.fc_server.specs.declared.server.Begin.{Begin}
 use Rattle.fc_lines.specs.Fields.{space, IsNumber}
 use Rattle.fc_lines.specs.Emissions.{peer_endpoint}

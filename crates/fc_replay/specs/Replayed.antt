@@ -9,7 +9,7 @@ use Rattle.fc_registry.specs.Slots.{Shard, Slot, vars_in, version_in}
 use Rattle.fc_core.specs.declared.event.Event.{Event}
 use Rattle.fc_core.specs.History.{seen, slot_at}
 use Rattle.fc_core.specs.Legal.{IsLegal}
-use Rattle.fc_core.specs.Policies.{default_policy}
+use Rattle.fc_front.specs.Policies.{default_policy}
 use Rattle.fc_server.specs.declared.server.Begin.{Begin}
 use Rattle.fc_world.specs.Histories.{history_from}
 use Rattle.fc_replay.specs.Listed.{AreOfEvent, Bytes, SaysBegin, line_words}

@@ -8,14 +8,15 @@ ghost use Rattle.fc_registry.specs.Slots.{last_serial};
 ghost use Rattle.fc_replay.specs.Listed.{HasData, HasEndpoint, HasFlag, HasLimits, HasNumber, HasPart, HasPolicy, HasSeconds, AreOfEvent, IsBeginOf, SaysBegin, SaysPolicy, IsEventOf, comma, equals, line_words, texts};
 
 use coap_msg::Endpoint;
-use fc_core::{DEFAULT_POLICY, Policy};
+use fc_front::{DEFAULT_POLICY, Policy};
 use fc_help::NO_READINGS;
 use fc_lines::emission::endpoint;
 use fc_lines::hexadecimal::decode;
 use fc_lines::line::{LineError, byte, number, readings};
 use fc_lines::policy::{DEFAULT_SECONDS, policy};
-use fc_registry::{LAST_SERIAL, SLOTS};
+use fc_registry::LAST_SERIAL;
 use fc_server::Begin;
+use fc_ticket::SLOTS;
 use fc_world::Event;
 use std::alloc::{AllocError, Global};
 use std::marker::Model;

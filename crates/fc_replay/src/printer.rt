@@ -7,7 +7,8 @@ ghost use Rattle.fc_replay.specs.Printed.{IsSlotLine, emitted_line, slot_text, v
 use coap_msg::Emission;
 use fc_cli::stop::Stop;
 use fc_lines::emission::print;
-use fc_registry::{Shard, SlotNumber};
+use fc_registry::Shard;
+use fc_ticket::SlotNumber;
 use std::alloc::Global;
 use std::io;
 use std::io::Write;

@@ -14,9 +14,9 @@ use Rattle.fc_observe.specs.Observers.{ObserverList, no_observers}
 use Rattle.fc_store.specs.Stored.{StoredSlots}
 use Rattle.fc_core.specs.History.{Begins, BeginsWith, begun, seen}
 use Rattle.fc_core.specs.Fits.{FitsSlot}
-use Rattle.fc_core.specs.Heads.{first_word, first_words, no_words}
-use Rattle.fc_core.specs.Exchanges.{first_front}
-use Rattle.fc_core.specs.declared.policy.Policy.{Policy}
+use Rattle.fc_front.specs.Heads.{first_word, first_words, no_words}
+use Rattle.fc_front.specs.Exchanges.{first_front}
+use Rattle.fc_front.specs.declared.policy.Policy.{Policy}
 use Rattle.fc_core.proofs.Calling.{EntryWithin}
 use Rattle.fc_server.specs.Agreement.{ShardsAgree}
 use Rattle.fc_server.specs.Serving.{IsFirstServer, Serves}

@@ -11,14 +11,14 @@ use Rattle.coap_msg.specs.declared.types.Emission.{Emission}
 use Rattle.coap_dedup.specs.Exchanges.{Exchange}
 use Rattle.coap_dedup.specs.Exchanges.{is_live as is_held, answered_if}
 use Rattle.coap_dedup.specs.Calls.{answered}
-use Rattle.fc_core.specs.declared.policy.Policy.{Policy}
-use Rattle.fc_core.specs.Exchanges.{FrontState, advanced}
+use Rattle.fc_front.specs.declared.policy.Policy.{Policy}
+use Rattle.fc_front.specs.Exchanges.{FrontState, advanced}
 use Rattle.fc_core.specs.History.{Seen, answered_in, front_at, front_in}
-use Rattle.fc_core.specs.Ids.{Ids}
+use Rattle.fc_front.specs.Ids.{Ids}
 use Rattle.coap_block.specs.declared.transfer.Transfer.{Transfer}
 use Rattle.coap_block.specs.Transfers.{Addition, after_addition, transfers}
-use Rattle.fc_core.specs.Receiving.{Received, after_added, exchange_of, keeping, next_opening, opened_by}
-use Rattle.fc_core.specs.Receiving as x
+use Rattle.fc_front.specs.Receiving.{Received, after_added, exchange_of, keeping, next_opening, opened_by}
+use Rattle.fc_front.specs.Receiving as x
 
 -- ---- time passes
 

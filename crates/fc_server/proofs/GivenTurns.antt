@@ -12,14 +12,14 @@ use Rattle.fc_observe.specs.Observers.{ObserverList, list_at_time, entry_out, gi
 use Rattle.fc_observe.specs.Views.{Interest, interest_of}
 use Rattle.fc_observe.proofs.Hearing.{time_is, slot_is}
 use Rattle.fc_observe.proofs.Missing.{missing_after}
-use Rattle.fc_registry.specs.declared.job.Job.{Job}
+use Rattle.fc_ticket.specs.declared.job.Job.{Job}
 use Rattle.fc_registry.specs.Calls.{is_out_at, mark_missing_calls, readings_if, turn_of, turn_snapshot}
-use Rattle.fc_registry.specs.Notes.{note_at, note_in, note_to}
+use Rattle.fc_ticket.specs.Notes.{note_at, note_in, note_to}
 use Rattle.fc_registry.specs.Shards.{AreShards, no_shard, shard_at, slot_in_shards}
 use Rattle.fc_registry.specs.Slots.{Shard, slot_in}
 use Rattle.fc_registry.specs.Turns.{due_job, job_of_turn, turn_job}
 use Rattle.fc_registry.specs.Watches.{after_due, at_time as shard_handed, due_place, has_due, noticed_at, watch_at}
-use Rattle.fc_registry.specs.Taken.{Missing}
+use Rattle.fc_ticket.specs.Taken.{Missing}
 use Rattle.fc_core.specs.declared.event.Event.{Event}
 use Rattle.fc_core.specs.declared.event.Event.TheVariants.{Note, Take}
 use Rattle.fc_core.specs.declared.stage.Task.{Task}

@@ -12,14 +12,14 @@ use Rattle.fc_core.specs.Stage.{Stage}
 use Rattle.fc_core.specs.Stage.{ToMatch, ToDescribe, ToList, ToAnswer, ToTell, Gone}
 use Rattle.fc_core.specs.TurnStage as turns
 use Rattle.fc_core.specs.declared.stage.Task.{Task}
-use Rattle.fc_core.specs.Exchanges.{advanced}
-use Rattle.fc_core.specs.Ids.{free_id}
+use Rattle.fc_front.specs.Exchanges.{advanced}
+use Rattle.fc_front.specs.Ids.{free_id}
 use Rattle.fc_core.specs.History.{AtFront, Rests, at_front, at_shard, no_task, task_at}
 use Rattle.fc_core.specs.Legal.{AnswerEmits}
 use Rattle.fc_core.specs.Sound.{AllSafe}
-use Rattle.fc_core.specs.Heads.{word_at}
+use Rattle.fc_front.specs.Heads.{word_at}
 use Rattle.fc_core.specs.Stages.{content_at, drew, ended, is_refusable, needs_id, new_task}
-use Rattle.fc_core.specs.Timers.{timer_job}
+use Rattle.fc_front.specs.Timers.{timer_job}
 use Rattle.fc_core.specs.Steps.{Call, Matches, Lists, RefusesChange, next_stage}
 use Rattle.fc_core.specs.Transitions.{around_of, Around, Effect, Inputs, call_if, effect_of, goes_to, names, transition, inputs_at, sends, task_moved, words_after}
 use Rattle.fc_core.proofs.Rejections.{same_slot}

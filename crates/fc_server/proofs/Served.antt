@@ -8,28 +8,28 @@ use Rattle.std.proofs.Math.Seq.{get_or-append_seam, set-append_seam}
 use Rattle.arrayvec.specs.ArrayVec.{ArrayVec}
 use Rattle.coap_msg.specs.declared.types.Endpoint.{Endpoint}
 use Rattle.coap_msg.specs.declared.types.Emission.{Emission}
-use Rattle.fc_registry.specs.declared.job.Job.{Job}
+use Rattle.fc_ticket.specs.declared.job.Job.{Job}
 use Rattle.fc_registry.specs.Shards.{shard_at}
 use Rattle.fc_registry.specs.Slots.{Slot}
 use Rattle.fc_registry.specs.Watches.{signal_call, signalled}
 use Rattle.fc_core.specs.declared.event.Event.{Event}
 use Rattle.fc_core.specs.declared.event.Event.TheVariants.{Deliver, Peek, Take, Commit, Install, Remove, Receipt, Raise, Answer, Due, Fire, Fresh, Note, GiveUp, Signal, Tick, ShardTick}
-use Rattle.fc_core.specs.declared.by_value.Delivered.{Delivered}
-use Rattle.fc_core.specs.declared.by_value.Delivered.TheVariants.{Reply, Job as Brings, Signal as Signals}
-use Rattle.fc_registry.specs.Taken.{SlotSnapshot}
-use Rattle.fc_core.specs.Contents.{Content}
+use Rattle.fc_front.specs.declared.by_value.Delivered.{Delivered}
+use Rattle.fc_front.specs.declared.by_value.Delivered.TheVariants.{Reply, Job as Brings, Signal as Signals}
+use Rattle.fc_ticket.specs.Taken.{SlotSnapshot}
+use Rattle.fc_front.specs.Contents.{Content}
 use Rattle.fc_core.specs.Room.{stage_of}
 use Rattle.fc_core.specs.declared.stage.Step.{Step}
 use Rattle.fc_core.specs.declared.stage.Step.TheVariants as steps
 use Rattle.fc_core.specs.declared.stage.Task.{Task}
-use Rattle.fc_core.specs.Exchanges.{FrontState, advanced}
+use Rattle.fc_front.specs.Exchanges.{FrontState, advanced}
 use Rattle.fc_core.specs.Fits.{FitsStage}
 use Rattle.fc_core.specs.History.{History, Seen, seen, task_at, no_task}
-use Rattle.fc_core.specs.Receiving as x
-use Rattle.fc_core.specs.Receiving.{Received, after_delivered, brought, delivered, handed_on, next_opening, received, reply_or_nothing, sent}
+use Rattle.fc_front.specs.Receiving as x
+use Rattle.fc_front.specs.Receiving.{Received, after_delivered, brought, delivered, handed_on, next_opening, received, reply_or_nothing, sent}
 use Rattle.fc_core.specs.Stage.{ToTake}
 use Rattle.fc_core.specs.Stages.{first_stage, new_task}
-use Rattle.fc_core.specs.Timers.{timer_job}
+use Rattle.fc_front.specs.Timers.{timer_job}
 use Rattle.fc_server.specs.Agreement.{Agrees, Parts}
 use Rattle.fc_server.specs.Serving.{TurnGiven, Delivers, FiresTimer, Handled, Handles, IsReachable, AsksForTurn, Passes, TicksShard, Serves, next, run_through, signalled_below, turned, with_tasks, worked, IsBegun, IsSignalled, WorksOff}
 use Rattle.fc_server.specs.States.{Responds, AtWork, Does, DrawsId, ServerState}

@@ -9,7 +9,7 @@ use Rattle.fc_observe.specs.Calls.{ObserverCall, NextDue, Tick as TickObservers,
 use Rattle.fc_observe.specs.Observers.{list_at_time, overdue_entry, next_turn, no_observers, ticked}
 use Rattle.fc_registry.specs.Shards.{AreShards, no_shard, shard_at}
 use Rattle.fc_registry.specs.Slots.{Shard, Slot, new_slot}
-use Rattle.fc_registry.specs.declared.job.Job.{Job}
+use Rattle.fc_ticket.specs.declared.job.Job.{Job}
 use Rattle.fc_registry.specs.Turns.{due_job, turn_given_to}
 use Rattle.fc_registry.specs.Watches.{after_due, shard_after_tick, due_place, at_time as shard_handed, has_due as is_due_here, has_overdue as is_overdue_here, overdue_place, noticed_at, place_from, signal_call, signalled, ticked_in, watch_at, watch_called}
 use Rattle.fc_core.specs.History.{AtShard, AsksTurn, Signals, Ticks, Calm, Seen, calls_by, due_in, hands_by, is_due_at, is_overdue_at, is_place_of, overdue_in, slot_at, turn_at, turns_by}

@@ -8,24 +8,25 @@ use Rattle.coap_msg.specs.declared.types.Emission.{Emission}
 use Rattle.coap_block.specs.Transfers.{transfers}
 use Rattle.coap_dedup.specs.Exchanges.{is_live as is_held}
 use Rattle.fc_observe.specs.Calls.{ObserverCall, after_calls, observers}
-use Rattle.fc_registry.specs.declared.job.Job.{Job}
+use Rattle.fc_ticket.specs.declared.job.Job.{Job}
 use Rattle.fc_registry.specs.Changes.{after_changes}
 use Rattle.fc_registry.specs.Shards.{shard_at, slot_in_shards}
-use Rattle.fc_registry.specs.Slots.{Shard, Slot, Present}
+use Rattle.fc_registry.specs.Slots.{Shard, Slot}
+use Rattle.fc_ticket.specs.Tickets.{Present}
 use Rattle.fc_registry.specs.Watches.{watch_at}
 use Rattle.fc_core.specs.declared.event.Event.{Event}
 use Rattle.fc_core.specs.declared.event.Event.TheVariants.{Take}
 use Rattle.fc_core.specs.Stage.{Stage}
 use Rattle.fc_core.specs.Stage.{ToTake, ToTell}
 use Rattle.fc_core.specs.TurnStage as turns
-use Rattle.fc_core.specs.Answering.{after_answered_by}
-use Rattle.fc_core.specs.Contents.{Content}
-use Rattle.fc_core.specs.Exchanges.{FrontState, opening_is_live}
+use Rattle.fc_front.specs.Answering.{after_answered_by}
+use Rattle.fc_front.specs.Contents.{Content}
+use Rattle.fc_front.specs.Exchanges.{FrontState, opening_is_live}
 use Rattle.fc_core.specs.Fits.{FitsSlot}
 use Rattle.fc_core.specs.History.{AtFront, Receives, Answers, Draws, Fires, Passes, Rests, AtShard, Calm, Seen, additions_by, and_then, answered_in, at_front, at_shard, calls_by, calls_named, changes_after, common, did, exchanges_by, first_slot, front_at, front_in, hands_by, ids_answered, ids_by, job, time_by, received_at, inputs, shard_time_after, slot_at, stage, task_at, tasks_by, tasks_moved, watch, words_seen}
-use Rattle.fc_core.specs.Ids.{drawn, drawn_for}
+use Rattle.fc_front.specs.Ids.{drawn, drawn_for}
 use Rattle.fc_core.specs.Legal.{AnswerEmits, EmitsBy, sends_in, FindsMeaning, FoundMeans, IsAnswered, TakesMeaning}
-use Rattle.fc_core.specs.Receiving.{AskWithin, added_by, after_added, after_received, brought, drawn_by, id_in, keeping, kept_of, next_opening, opened_by, received, sent}
+use Rattle.fc_front.specs.Receiving.{AskWithin, added_by, after_added, after_received, brought, drawn_by, id_in, keeping, kept_of, next_opening, opened_by, received, sent}
 use Rattle.fc_core.specs.Sound.{AllSafe, IsSafelySeen, IsSoundlySeen}
 use Rattle.fc_core.specs.Stages.{content_at, needs_id, new_task}
 use Rattle.fc_core.specs.Transitions.{Effect, Inputs, handed, names, transition, sends, inputs_at, task_moved, words_after}

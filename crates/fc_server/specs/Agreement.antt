@@ -5,7 +5,7 @@ use Rattle.fc_registry.specs.Shards.{AreShards, shard_at, slot_in_shards}
 use Rattle.fc_registry.specs.Slots.{Shard}
 use Rattle.fc_registry.specs.Watches.{watch_at}
 use Rattle.fc_core.specs.declared.stage.Task.{Task}
-use Rattle.fc_core.specs.Exchanges.{FrontState}
+use Rattle.fc_front.specs.Exchanges.{FrontState}
 use Rattle.fc_core.specs.History.{Seen, front_in, slot_at, watch}
 use Rattle.fc_core.specs.Sound.{IsSafelySeen, IsSoundlySeen}
 

@@ -3,9 +3,9 @@ use Rattle.std.specs.Prelude.{ℕ, List, Bool, true, false}
 use Rattle.std.specs.Borrow.{Bor}
 use Rattle.coap_msg.specs.declared.types.Emission.{Emission}
 use Rattle.coap_msg.specs.declared.types.Endpoint.{Endpoint}
-use Rattle.fc_core.specs.declared.front.Handled.{Handled}
-use Rattle.fc_core.specs.declared.front.Handled.TheVariants.{Reply}
-use Rattle.fc_core.specs.declared.gauges.FrontGauges.{FrontGauges}
+use Rattle.fc_front.specs.declared.front.Handled.{Handled}
+use Rattle.fc_front.specs.declared.front.Handled.TheVariants.{Reply}
+use Rattle.fc_front.specs.declared.gauges.FrontGauges.{FrontGauges}
 use Rattle.fc_observe.specs.declared.observers.Ticked.{Ticked}
 use Rattle.fc_server.specs.Notified.{Notified}
 use Rattle.fc_server.specs.declared.engine.FireOutcome.{FireOutcome}

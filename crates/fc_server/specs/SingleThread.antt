@@ -4,13 +4,13 @@ use Rattle.std.specs.Prelude.{◌≡◌, ◌%◌, ℕ, true, false, List, None, 
 use Rattle.std.specs.Borrow.{Bor}
 use Rattle.coap_msg.specs.declared.types.Emission.{Emission}
 use Rattle.coap_msg.specs.declared.types.Endpoint.{Endpoint}
-use Rattle.fc_core.specs.Exchanges.{advanced}
-use Rattle.fc_core.specs.Gauges.{gauges_at}
-use Rattle.fc_core.specs.declared.gauges.FrontGauges.{FrontGauges}
-use Rattle.fc_core.specs.Ids.{free_id}
+use Rattle.fc_front.specs.Exchanges.{advanced}
+use Rattle.fc_front.specs.Gauges.{gauges_at}
+use Rattle.fc_front.specs.declared.gauges.FrontGauges.{FrontGauges}
+use Rattle.fc_front.specs.Ids.{free_id}
 use Rattle.fc_core.specs.Legal.{resent}
-use Rattle.fc_core.specs.Receiving.{delivered, emission_if}
-use Rattle.fc_core.specs.declared.front.Handled.{Handled}
+use Rattle.fc_front.specs.Receiving.{delivered, emission_if}
+use Rattle.fc_front.specs.declared.front.Handled.{Handled}
 use Rattle.fc_observe.specs.declared.observers.Ticked.{Ticked}
 use Rattle.fc_registry.specs.Shards.{shard_at}
 use Rattle.fc_registry.specs.Watches.{StaysIdleUntil, at_time, is_idle, observer_counts}

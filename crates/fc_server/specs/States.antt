@@ -1,21 +1,21 @@
 -- The state of a server, and the effect of an event on the server and on a task.
 use Rattle.std.specs.Prelude.{◌≡◌, ℕ, ◌%◌, ◌<◌, ◌≤◌, Bool, true, false, List, Option, Some, None, length, map, max, replicate}
 use Rattle.coap_msg.specs.declared.types.Emission.{Emission}
-use Rattle.fc_registry.specs.declared.job.Job.{Job}
+use Rattle.fc_ticket.specs.declared.job.Job.{Job}
 use Rattle.fc_registry.specs.Restored.{empty_at, restored_slot}
 use Rattle.fc_registry.specs.Shards.{AreShards, shard_at, slot_in_shards, with_owner}
 use Rattle.fc_registry.specs.Slots.{Shard, last_serial}
 use Rattle.fc_registry.specs.Starts.{shards_over}
 use Rattle.fc_registry.specs.Watches.{watch_at}
 use Rattle.fc_store.specs.Stored.{StoredSlots}
-use Rattle.fc_core.specs.declared.policy.Policy.{Policy}
+use Rattle.fc_front.specs.declared.policy.Policy.{Policy}
 use Rattle.fc_core.specs.declared.event.Event.{Event}
 use Rattle.fc_core.specs.declared.stage.Task.{Task}
-use Rattle.fc_core.specs.Answering.{after_answered}
-use Rattle.fc_core.specs.Contents.{Content}
-use Rattle.fc_core.specs.Exchanges.{FrontState, advanced, first_front}
-use Rattle.fc_core.specs.Heads.{first_words}
-use Rattle.fc_core.specs.Ids.{drawn, free_id}
+use Rattle.fc_front.specs.Answering.{after_answered}
+use Rattle.fc_front.specs.Contents.{Content}
+use Rattle.fc_front.specs.Exchanges.{FrontState, advanced, first_front}
+use Rattle.fc_front.specs.Heads.{first_words}
+use Rattle.fc_front.specs.Ids.{drawn, free_id}
 use Rattle.fc_core.specs.Fits.{FitsStage}
 use Rattle.fc_core.specs.History.{AtFront, Answers, Draws, at_front, Begins, History}
 use Rattle.fc_server.specs.declared.server.Begin.{Begin}

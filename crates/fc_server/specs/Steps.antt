@@ -5,20 +5,20 @@ use Rattle.std.specs.Option.{option_to_list}
 use Rattle.coap_msg.specs.declared.types.Endpoint.{Endpoint}
 use Rattle.coap_msg.specs.declared.types.Emission.{Emission}
 use Rattle.fc_observe.specs.declared.observers.Ticked.{Ticked}
-use Rattle.fc_registry.specs.declared.job.Job.{Job}
+use Rattle.fc_ticket.specs.declared.job.Job.{Job}
 use Rattle.fc_registry.specs.Shards.{shard_at}
 use Rattle.fc_registry.specs.Slots.{Shard}
 use Rattle.fc_registry.specs.Turns.{due_job}
 use Rattle.fc_registry.specs.Watches.{after_due, shard_after_tick, due_place, at_time, overdue_place, signal_call, signalled, ticked_in}
 use Rattle.fc_core.specs.declared.event.Event.{Event}
 use Rattle.fc_core.specs.declared.stage.Task.{Task}
-use Rattle.fc_core.specs.Exchanges.{FrontState, advanced}
+use Rattle.fc_front.specs.Exchanges.{FrontState, advanced}
 use Rattle.fc_core.specs.History.{AtFront, Receives, Answers, Draws, Fires, Passes, Rests, AtShard, AsksTurn, Signals, Ticks, Calm, Seen, and_then, at_front, at_shard, did, task_at}
 use Rattle.fc_core.specs.Legal.{AnswerEmits, Emits, TakesMeaning, resent}
-use Rattle.fc_core.specs.Receiving.{after_received, brought, next_opening, received, sent}
+use Rattle.fc_front.specs.Receiving.{after_received, brought, next_opening, received, sent}
 use Rattle.fc_core.specs.Sound.{AllSafe}
 use Rattle.fc_core.specs.Stages.{content_at, needs_id, new_task}
-use Rattle.fc_core.specs.Timers.{timer_job}
+use Rattle.fc_front.specs.Timers.{timer_job}
 use Rattle.fc_core.specs.Transitions.{Effect, names, transition, sends, task_moved, words_after}
 use Rattle.fc_server.specs.Agreement.{Agrees, Parts}
 use Rattle.fc_server.specs.States.{ServerState, front_after, front_drawn, inputs_in, shards_moved}

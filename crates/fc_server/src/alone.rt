@@ -3,8 +3,8 @@
 //! A job is that of a request, or that of an observer's lease.
 ghost use Rattle.std.specs.Prelude.{◌≡◌, [], IfOk};
 ghost use Rattle.fc_help.specs.Region.{no_readings};
-ghost use Rattle.fc_core.specs.Exchanges.{advanced};
-ghost use Rattle.fc_core.specs.Receiving.{delivered, emission_if};
+ghost use Rattle.fc_front.specs.Exchanges.{advanced};
+ghost use Rattle.fc_front.specs.Receiving.{delivered, emission_if};
 ghost use Rattle.fc_server.specs.SingleThread.{HandlesAlone, alone_calls};
 ghost use Rattle.fc_server.specs.Ingresses.{is_reply};
 ghost use Rattle.fc_server.specs.Serving.{Serves};
@@ -17,10 +17,11 @@ use crate::ingress::Ingress;
 use crate::server::Begin;
 use crate::witness::{NoWitness, Witness};
 use coap_msg::{Emission, Endpoint};
-use fc_core::{FrontGauges, Handled};
+use fc_front::{FrontGauges, Handled};
 use fc_help::{NO_READINGS, Readings};
 use fc_observe::Ticked;
-use fc_registry::{PLACES, SHARDS, SlotNumber};
+use fc_registry::PLACES;
+use fc_ticket::{SHARDS, SlotNumber};
 use std::alloc::{AllocError, Global};
 
 /// Input for jobs: sensor readings, and a random word for timeouts.

@@ -7,7 +7,7 @@ ghost use Rattle.fc_server.specs.Serving.{Serves};
 ghost use Rattle.fc_server.specs.States.{CanBegin, CanBeginWith, begin_of, first_server, server_over};
 
 use crate::server::Begin;
-use fc_core::{Front, Heads, Policy};
+use fc_front::{Front, Heads, Policy};
 use fc_registry::{Shard, StartError, make_shards, restore_shards};
 use fc_store::StoredSlot;
 use std::alloc::{AllocError, Global};

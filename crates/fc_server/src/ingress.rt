@@ -7,9 +7,10 @@ ghost use Rattle.fc_server.specs.Notified.{notified_as};
 
 use crate::engine::{FireOutcome, NotifyOutcome};
 use coap_msg::{Emission, Endpoint};
-use fc_core::{FrontGauges, Handled};
+use fc_front::{FrontGauges, Handled};
 use fc_observe::Ticked;
-use fc_registry::{PLACES, SlotNumber};
+use fc_registry::PLACES;
+use fc_ticket::SlotNumber;
 
 /// A server that handles datagrams and notifies observers.
 ///

@@ -9,7 +9,7 @@
 //!
 //! ```rust
 //! use coap_msg::{Emission, Endpoint};
-//! use fc_core::front::blank_emission;
+//! use fc_front::front::blank_emission;
 //! use fc_help::NO_READINGS;
 //! use fc_server::{Engine, NoWitness};
 //! use std::alloc::Global;

@@ -1,11 +1,11 @@
 //! Witnesses of the jobs that a single-threaded server answers.
 ghost use Rattle.std.specs.Prelude.{◌≡◌, ⊤, Option};
 ghost use Rattle.coap_msg.specs.declared.types.Emission.{Emission as Emitted};
-ghost use Rattle.fc_core.specs.Receiving.{emission_if};
-ghost use Rattle.fc_registry.specs.declared.job.Job.{Job as Asked};
+ghost use Rattle.fc_front.specs.Receiving.{emission_if};
+ghost use Rattle.fc_ticket.specs.declared.job.Job.{Job as Asked};
 
 use coap_msg::Emission;
-use fc_registry::Job;
+use fc_ticket::Job;
 
 /// A witness of a server's answers.
 ///

@@ -5,7 +5,7 @@ use Rattle.std.specs.Prelude.{MatchBool, nat_lt}
 use Rattle.coap_msg.specs.declared.types.Emission.{Emission}
 use Rattle.coap_msg.specs.declared.types.Endpoint.{Endpoint}
 use Rattle.fc_calls.specs.Logged.{AdvancesFront, AdvancesIdle, AdvancesShard, SkipsIdle}
-use Rattle.fc_core.specs.declared.front.Handled.{Handled}
+use Rattle.fc_front.specs.declared.front.Handled.{Handled}
 use Rattle.fc_registry.specs.Slots.{Shard}
 use Rattle.fc_filed.specs.declared.entry.FiledEntry.{FiledEntry}
 use Rattle.fc_host.specs.Clocks.{AreReadAt}

@@ -12,7 +12,7 @@ use Rattle.fc_registry.specs.Restored.{at_least, present_if, restored_present, r
 use Rattle.fc_registry.specs.Shards.{no_shard, slot_in_shards}
 use Rattle.fc_registry.specs.Slots.{Shard, Slot, last_serial, new_slot, slot_in}
 use Rattle.fc_registry.specs.Starts.{CanRestore, CanRestoreProgram, shard_over, shards_over}
-use Rattle.fc_core.specs.declared.policy.Policy.{Policy}
+use Rattle.fc_front.specs.declared.policy.Policy.{Policy}
 use Rattle.fc_store.specs.Saves.{FindsStored, SavesBy, SavesUpdate}
 use Rattle.fc_filed.specs.Recovered.{AreStoredAtFirst}
 use Rattle.fc_filed.specs.Saves.{AreRaised, FindsRaised}

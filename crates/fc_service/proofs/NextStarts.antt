@@ -9,7 +9,8 @@ use Rattle.fc_store.specs.Stored.{StoredProgram, StoredSlot, StoredSlots}
 use Rattle.fc_store.specs.Updates.{AreSameSlots, program_after, slot_after, slots_after}
 use Rattle.fc_registry.specs.Plans.{IsStoredOf, IsStoredProgram}
 use Rattle.fc_registry.specs.Shards.{slot_in_shards}
-use Rattle.fc_registry.specs.Slots.{Present, Slot}
+use Rattle.fc_ticket.specs.Tickets.{Present}
+use Rattle.fc_registry.specs.Slots.{Slot}
 use Rattle.fc_core.specs.History.{History, seen, slot_at}
 use Rattle.fc_server.specs.States.{ServerState}
 use Rattle.fc_filed.specs.declared.entry.FiledEntry.{FiledEntry}

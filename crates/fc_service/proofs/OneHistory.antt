@@ -8,13 +8,13 @@ use Rattle.coap_msg.specs.declared.types.Emission.{Emission}
 use Rattle.coap_msg.specs.declared.types.Endpoint.{Endpoint}
 use Rattle.fc_core.specs.declared.event.Event.{Event}
 use Rattle.fc_core.specs.declared.event.Event.TheVariants.{Answer, Commit, Deliver, Due, Fresh, GiveUp, Install, Note, Peek, Raise, Receipt, Remove, ShardTick, Signal, Take, Tick}
-use Rattle.fc_core.specs.declared.by_value.Delivered.{Delivered}
-use Rattle.fc_core.specs.declared.by_value.Delivered.TheVariants.{Job as Brings, Signal as Signals}
+use Rattle.fc_front.specs.declared.by_value.Delivered.{Delivered}
+use Rattle.fc_front.specs.declared.by_value.Delivered.TheVariants.{Job as Brings, Signal as Signals}
 use Rattle.fc_core.specs.declared.stage.Task.{Task}
-use Rattle.fc_core.specs.Exchanges.{advanced}
+use Rattle.fc_front.specs.Exchanges.{advanced}
 use Rattle.fc_core.specs.History.{Entry, History, Then, did}
 use Rattle.fc_core.specs.Laws.{followed_by}
-use Rattle.fc_core.specs.Receiving.{delivered, emission_if}
+use Rattle.fc_front.specs.Receiving.{delivered, emission_if}
 use Rattle.fc_core.specs.Stage.{Stage, ToDescribe, ToInstall, ToList, ToMatch, ToRemove, ToTake}
 use Rattle.fc_core.specs.Stages.{first_stage}
 use Rattle.fc_server.specs.Notified.{is_given, notification_in}

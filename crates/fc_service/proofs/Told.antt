@@ -8,7 +8,7 @@ use Rattle.fc_observe.specs.declared.observers.Ticked.{Ticked}
 use Rattle.fc_observe.specs.declared.observers.Ticked.TheVariants.{Quiet}
 use Rattle.fc_observe.specs.Entries.{retransmission}
 use Rattle.fc_observe.specs.Observers.{list_at_time, overdue_entry, ticked_at, ticked_by}
-use Rattle.fc_registry.specs.declared.job.Job.{Job}
+use Rattle.fc_ticket.specs.declared.job.Job.{Job}
 use Rattle.fc_registry.specs.Shards.{shard_at}
 use Rattle.fc_registry.specs.Slots.{Shard}
 use Rattle.fc_registry.specs.Watches.{at_time, has_overdue, overdue_place, ticked_in, watch_at}

@@ -4,7 +4,7 @@ use Rattle.std.specs.List.{All}
 use Rattle.std.specs.Prelude.{MatchBool, nat_lt}
 use Rattle.coap_msg.specs.declared.types.Emission.{Emission}
 use Rattle.coap_msg.specs.declared.types.Endpoint.{Endpoint}
-use Rattle.fc_core.specs.declared.front.Handled.{Handled}
+use Rattle.fc_front.specs.declared.front.Handled.{Handled}
 use Rattle.fc_host.specs.Sockets.{Incoming, Receive}
 use Rattle.fc_host.specs.declared.timer.Timer.{Timer}
 use Rattle.fc_observe.specs.declared.observers.Ticked.{Ticked}

@@ -3,7 +3,7 @@ use Rattle.std.specs.Prelude.{◌+◌, ◌-◌, ◌*◌, ◌/◌, ◌<◌, ◌�
 use Rattle.fc_store.specs.Stored.{StoredSlot, StoredSlots, stored_in}
 use Rattle.fc_registry.specs.Restored.{at_least}
 use Rattle.fc_registry.specs.Slots.{last_serial}
-use Rattle.fc_core.specs.declared.policy.Policy.{Policy}
+use Rattle.fc_front.specs.declared.policy.Policy.{Policy}
 use Rattle.fc_server.specs.declared.server.Begin.{Begin}
 
 -- the first serial of the slots of a server that starts `ms` milliseconds after the beginning of

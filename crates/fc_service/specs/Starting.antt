@@ -5,7 +5,7 @@ use Rattle.fc_store.specs.Updates.{AreSameSlots, program_after}
 use Rattle.fc_store.specs.declared.store.ProgramUpdate.{ProgramUpdate}
 use Rattle.fc_store.specs.declared.store.Store.{Ghosts}
 use Rattle.fc_registry.specs.Starts.{CanRestore}
-use Rattle.fc_core.specs.declared.policy.Policy.{Policy}
+use Rattle.fc_front.specs.declared.policy.Policy.{Policy}
 use Rattle.fc_store.specs.Recovery.{Save, stored_after}
 use Rattle.fc_store.specs.Saves.{SavesBy}
 use Rattle.fc_server.specs.States.{ServerState, server_over}

@@ -6,7 +6,7 @@ ghost use Rattle.fc_service.specs.Every.{AreRefusedBy, AreTimers, IsNoTimerText,
 use clap::ArgMatches;
 use fc_host::timer::{Period, Timer};
 use fc_lines::line::{byte, number};
-use fc_registry::{SLOTS, SlotNumber};
+use fc_ticket::{SLOTS, SlotNumber};
 use std::alloc::{AllocError, Global};
 use thiserror::Error;
 

@@ -5,13 +5,14 @@ ghost use Rattle.fc_service.specs.Firing.{AreFired, FiresIfDue, fired_calls, fir
 use crate::rounds::Preparation;
 use crate::timer_jobs::TimerJobs;
 use coap_msg::{Emission, Endpoint};
-use fc_core::{FrontGauges, Handled};
+use fc_front::{FrontGauges, Handled};
 use fc_host::timer::Timer;
 use fc_host::timers::first_due;
 use fc_observe::Ticked;
-use fc_registry::{PLACES, SlotNumber};
+use fc_registry::PLACES;
 use fc_server::Ingress;
 use fc_server::engine::{FireOutcome, NotifyOutcome};
+use fc_ticket::SlotNumber;
 use std::marker::Model;
 use std::sync::Wait;
 

@@ -6,11 +6,11 @@ ghost use Rattle.fc_filed.specs.Recovered.{AreStoredAtFirst, FindsHistory, HaveS
 ghost use Rattle.fc_filed.specs.Entries.{log_of};
 ghost use Rattle.fc_filed.specs.declared.entry.FiledEntry.{FiledEntry};
 ghost use Rattle.fc_linear.specs.Parts.{history_on};
-ghost use Rattle.fc_core.specs.Contents.{Content};
-ghost use Rattle.fc_core.specs.Exchanges.{FrontState, advanced};
+ghost use Rattle.fc_front.specs.Contents.{Content};
+ghost use Rattle.fc_front.specs.Exchanges.{FrontState, advanced};
 ghost use Rattle.fc_core.specs.History.{History, seen, slot_at};
-ghost use Rattle.fc_core.specs.Timers.{timer_job};
-ghost use Rattle.fc_core.specs.declared.front.Handled.TheVariants.{Job, Nothing, Reply, Signal};
+ghost use Rattle.fc_front.specs.Timers.{timer_job};
+ghost use Rattle.fc_front.specs.declared.front.Handled.TheVariants.{Job, Nothing, Reply, Signal};
 ghost use Rattle.fc_observe.specs.declared.observers.Ticked.{Ticked};
 ghost use Rattle.fc_observe.specs.declared.observers.Ticked.TheVariants.{Quiet};
 ghost use Rattle.fc_registry.specs.Shards.{shard_at, slot_in_shards};
@@ -31,7 +31,7 @@ ghost use Rattle.fc_service.specs.Histories.{Beat, Datagram, IsOneHistory, Silen
 ghost use Rattle.fc_server.specs.Ingresses.{is_reply};
 ghost use Rattle.fc_lines.specs.Emissions.{printed};
 ghost use Rattle.fc_service.specs.Playing.{IsNextText, IsPlayedOut, PlayedLine, printed_lines};
-ghost use Rattle.fc_core.specs.Gauges.{gauges_at};
+ghost use Rattle.fc_front.specs.Gauges.{gauges_at};
 ghost use Rattle.fc_record.specs.Gauges.{observers_of};
 ghost use Rattle.fc_record.specs.Recording.{Recording, recorded_calls};
 ghost use Rattle.fc_record.specs.Reports.{nothing_counted};

@@ -5,14 +5,14 @@ ghost use Rattle.std.specs.Prelude.{◌≡◌, ◌++◌, ⊤, ℕ, Err, List, Op
 ghost use Rattle.std.specs.Io.KnownBytes.{Appends, IsAtEnd};
 ghost use Rattle.coap_msg.specs.declared.types.Emission.{Emission};
 ghost use Rattle.fc_cli.specs.declared.stop.Stop.TheVariants.{BadLine};
-ghost use Rattle.fc_core.specs.Receiving.{emission_if};
+ghost use Rattle.fc_front.specs.Receiving.{emission_if};
 ghost use Rattle.fc_lines.specs.Lines.{IsNoLine};
 ghost use Rattle.fc_service.specs.Playing.{HasPlayed, IsCarriedOutBy, IsHandedBy, IsPlayedBy, PlayedLine, StopsAt, time_of, output_by, output_of, printed_steps};
 ghost use Rattle.fc_server.specs.Flushing.{AreFlushed, AreStepsBy, FlushingStep};
 
 use coap_msg::Emission;
 use fc_cli::stop::Stop;
-use fc_core::front::blank_emission;
+use fc_front::front::blank_emission;
 use fc_help::Readings;
 use fc_lines::emission::{endpoint, print};
 use fc_lines::line::{Line, LineError, parse};

@@ -8,7 +8,7 @@ use crate::logging::{LogOptions, logs_in};
 use crate::policy::policy_in;
 use crate::serve::Listening;
 use clap::ArgMatches;
-use fc_core::Policy;
+use fc_front::Policy;
 use fc_lines::line::number;
 use std::net::{Ipv4Addr, SocketAddrV4};
 use thiserror::Error;

@@ -5,7 +5,7 @@ ghost use Rattle.fc_service.specs.Policies.{IsNoPolicyIn, IsNoValueOr, IsPolicyI
 
 use clap::ArgMatches;
 use coap_dedup::{EXCHANGES, MOST_EXCHANGES};
-use fc_core::Policy;
+use fc_front::Policy;
 use fc_lines::line::number;
 use fc_lines::policy::{DEFAULT_SECONDS, policy};
 

@@ -5,12 +5,13 @@ ghost use Rattle.fc_service.specs.Reporting.{AreGaugesOf, ReportsIfDue, readies_
 use crate::rounds::Preparation;
 use coap_msg::{Emission, Endpoint};
 use fc_backend::CallLog;
-use fc_core::{FrontGauges, Handled};
+use fc_front::{FrontGauges, Handled};
 use fc_observe::Ticked;
 use fc_record::{Gauges, ObserverCounts, Report, Reporter};
-use fc_registry::{PLACES, SlotNumber};
+use fc_registry::PLACES;
 use fc_server::Ingress;
 use fc_server::engine::{FireOutcome, NotifyOutcome};
+use fc_ticket::SlotNumber;
 use std::marker::Model;
 use std::sync::Wait;
 

@@ -2,7 +2,7 @@
 ghost use Rattle.std.specs.Prelude.{◌≡◌, ⊤, ℕ, [], ◌∷◌, List, Option};
 ghost use Rattle.std.specs.Option.{option_to_list};
 ghost use Rattle.coap_msg.specs.declared.types.Emission.{Emission};
-ghost use Rattle.fc_core.specs.Receiving.{emission_if};
+ghost use Rattle.fc_front.specs.Receiving.{emission_if};
 ghost use Rattle.fc_service.specs.Ingresses.{IsHandledBy};
 ghost use Rattle.fc_service.specs.Rounds.{EndsByTimer, EndsInTime, HasRun, IsReadIfAny, round_calls, until_due};
 ghost use Rattle.fc_server.specs.Flushing.{AreIdleUntil, AreFlushed, AreStepsBy, FlushingStep, sent_in_steps};
@@ -10,7 +10,7 @@ ghost use Rattle.fc_service.specs.Traffic.{Sends};
 
 use coap_msg::{Emission, Endpoint};
 use fc_backend::{CallLog, TimeSource};
-use fc_core::front::blank_emission;
+use fc_front::front::blank_emission;
 use fc_host::socket::{BUFFER, SHORTEST_WAIT, Sink, Source};
 use fc_pool::{Replies, SentReplies};
 use fc_server::Ingress;

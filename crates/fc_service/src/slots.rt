@@ -13,7 +13,7 @@ ghost use Rattle.fc_store.specs.Stored.{stored_in};
 ghost use Rattle.fc_store.specs.Updates.{AreSameSlots, program_after};
 
 use crate::serials::{serial_of_start, serial_over};
-use fc_core::Policy;
+use fc_front::Policy;
 use fc_locked::ReadyStore;
 use fc_registry::{StartError, raise_serials};
 use fc_server::{Begin, FirstServer};

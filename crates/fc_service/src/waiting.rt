@@ -4,13 +4,14 @@ ghost use Rattle.fc_service.specs.Ingresses.{calls_through, waited_calls};
 
 use crate::lines::LineIngress;
 use coap_msg::{Emission, Endpoint};
-use fc_core::{FrontGauges, Handled};
+use fc_front::{FrontGauges, Handled};
 use fc_help::Readings;
 use fc_host::scripted::ScriptedHost;
 use fc_observe::Ticked;
-use fc_registry::{PLACES, SlotNumber};
+use fc_registry::PLACES;
 use fc_server::Ingress;
 use fc_server::engine::{FireOutcome, NotifyOutcome};
+use fc_ticket::SlotNumber;
 use std::sync::Wait;
 
 // An ingress that waits at a scripted host for each job and each lease until it was run.

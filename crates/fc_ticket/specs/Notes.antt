@@ -1,6 +1,6 @@
 -- Notifications (RFC 7641, section 4.2): the message to a lease's observer, and the end of the
 -- lease.
-use Rattle.std.specs.Prelude.{◌≡◌, ℕ, ◌==◌, ◌/◌, Bool, true, false, if◌then◌else◌, List, [], ◌∷◌, ◌++◌, Option, Some, None, is_some, max}
+use Rattle.std.specs.Prelude.{◌≡◌, ℕ, ◌==◌, Bool, true, false, if◌then◌else◌, List, [], ◌∷◌, ◌++◌, Option, Some, None, is_some}
 use Rattle.std.specs.Option.{option_map}
 use Rattle.arrayvec.specs.ArrayVec.{ArrayVec}
 use Rattle.coap_msg.specs.Codes.{code}
@@ -14,15 +14,14 @@ use Rattle.fc_observe.specs.declared.entry.Turn.{Turn}
 use Rattle.fc_observe.specs.Calls.{ObserverCall, Advance, End, Notify}
 use Rattle.fc_observe.specs.Observers.{ObserverList, list_at_time, entry_out, is_missing, must_confirm_turn}
 use Rattle.fc_observe.specs.Views.{Interest, interest_of}
-use Rattle.fc_registry.specs.declared.note.NoteOutcome.{NoteOutcome}
-use Rattle.fc_registry.specs.declared.note.NoteOutcome.TheVariants as outcomes
-use Rattle.fc_registry.specs.declared.note.Noted.{Noted}
-use Rattle.fc_registry.specs.declared.note.Noted.TheVariants.{Send, Stale, Stranger}
-use Rattle.fc_registry.specs.declared.note.Notification.{Notification}
-use Rattle.fc_registry.specs.declared.note.Notification.TheVariants as tells
-use Rattle.fc_registry.specs.Calls.{IsRunOf, meaning_at}
-use Rattle.fc_registry.specs.Slots.{Shard, Ticket, slot_in}
-use Rattle.fc_registry.specs.Watches.{at_time, watch_at, with_calls}
+use Rattle.fc_ticket.specs.declared.note.NoteOutcome.{NoteOutcome}
+use Rattle.fc_ticket.specs.declared.note.NoteOutcome.TheVariants as outcomes
+use Rattle.fc_ticket.specs.declared.note.Noted.{Noted}
+use Rattle.fc_ticket.specs.declared.note.Noted.TheVariants.{Send, Stale, Stranger}
+use Rattle.fc_ticket.specs.declared.note.Notification.{Notification}
+use Rattle.fc_ticket.specs.declared.note.Notification.TheVariants as tells
+use Rattle.fc_ticket.specs.Runs.{IsRunOf, meaning_at}
+use Rattle.fc_ticket.specs.Tickets.{Ticket}
 
 -- ---- the content
 
@@ -139,9 +138,3 @@ IsNotedIn told turn id serial w (Send emission) = IsOfTurn turn serial told × (
 -- the result of a notification, at this time.
 abbrev pub IsNoted : Notification → Turn → ℕ → ℕ → ℕ → ObserverList → Noted → Type 0
 IsNoted told turn id at serial w noted = IsNotedIn told turn id serial (list_at_time at w) noted
-
--- the result of a notification at this time. The notification changes only the shard's time, and
--- the observers of the lease's slot.
-pub record NotesTo (told : Notification) (turn : Turn) (id random : ℕ) (old : Shard) (now : ℕ) (noted : Noted) (new : Shard) : Type 0 where
-  pub is : IsNoted told turn id (max old.now now) (slot_in old turn.slot).serial (watch_at old (turn.slot / 8)) noted
-  pub after : new ≡ with_calls (note_calls turn id random (max old.now now) (ticket_told told) (sent_of noted)) turn.slot (at_time old now)

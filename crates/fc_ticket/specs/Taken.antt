@@ -4,8 +4,8 @@ use Rattle.arrayvec.specs.ArrayVec.{ArrayVec}
 use Rattle.coap_opts.specs.Values.{Place}
 use Rattle.fc_help.specs.Request.{Request}
 use Rattle.fc_kinds.specs.Meaning.{Program}
-use Rattle.fc_registry.specs.declared.job.Origin.{Origin}
-use Rattle.fc_registry.specs.Slots.{Ticket}
+use Rattle.fc_ticket.specs.declared.job.Origin.{Origin}
+use Rattle.fc_ticket.specs.Tickets.{Ticket}
 
 -- the result of a snapshot.
 pub data Taken : Type 0 where

@@ -55,11 +55,11 @@ pub enum Ask {
 }
 
 impl Ask {
-    ghost use Rattle.fc_registry.specs.Calls.{initial_vars_of};
+    ghost use Rattle.fc_ticket.specs.Runs.{initial_vars_of};
 
     /// Returns the variables that an install is to leave.
     ///
-    /// The result is the argument of [`crate::Shard::install`]. For any other action it is `Zeros`.
+    /// `Shard::install` of `fc_registry` takes the result. For any other action it is `Zeros`.
     pub fn initial_vars(&self) -> InitialVars
         ensures { result ≡ initial_vars_of self.now }
     {

@@ -1,11 +1,11 @@
 //! Notifications of observers (RFC 7641, section 4.2).
 //!
-//! `Shard::note` and `write_note` call [`note`], which writes the notifications.
+//! `Shard::note` and `write_note` of `fc_registry` call [`note`], which writes the notifications.
 ghost use Rattle.std.specs.Prelude.{◌≡◌, ◌↔◌, ℕ, IsTrue, None, Some};
 ghost use Rattle.fc_observe.specs.Calls.{after_calls, observers_after};
 ghost use Rattle.fc_observe.specs.Views.{interest};
-ghost use Rattle.fc_registry.specs.Calls.{run_of};
-ghost use Rattle.fc_registry.specs.Notes.{IsKeptUnlessSent, IsNoted, IsRunOfTurn, IsSentOrStale, keeps_observer, note_calls, note_envelope, note_in, note_kind, note_to, noted_as, sent_of, ticket_told, told_call, told_calls};
+ghost use Rattle.fc_ticket.specs.Runs.{run_of};
+ghost use Rattle.fc_ticket.specs.Notes.{IsKeptUnlessSent, IsNoted, IsRunOfTurn, IsSentOrStale, keeps_observer, note_calls, note_envelope, note_in, note_kind, note_to, noted_as, sent_of, ticket_told, told_call, told_calls};
 
 use crate::ticket::{Ticket, is_run_of};
 use coap_msg::{Code, Datagram, Emission, MessageType};
@@ -48,10 +48,13 @@ pub enum NoteOutcome {
     Stranger,
 }
 
-// Notifies the observer that has the lease `turn` with the content `told`, for `Shard::write_note`.
-// `serial` is that of the slot. The message is written over `emission`, which is unchanged unless
-// the result is `Sent`. The clock of `watch` advances to `now`, whatever the result.
-pub(crate) fn note(
+/// Notifies the observer that has the lease `turn` with the content `told`.
+///
+/// `now` is in milliseconds, and `serial` is that of the slot. `random` determines the timeout of a
+/// confirmable message. The message, with message ID `id`, is written over `emission`, which is
+/// unchanged unless the result is `Sent`. The clock of `watch` advances to `now`, whatever the
+/// result.
+pub fn note(
     watch: &mut Observers,
     now: u64,
     serial: u64,

@@ -2,7 +2,8 @@
 ghost use Rattle.std.specs.Prelude.{◌≡◌};
 ghost use Rattle.fc_observe.specs.Calls.{Register, after_calls, observers_after};
 ghost use Rattle.fc_observe.specs.Observers.{registration};
-ghost use Rattle.fc_registry.specs.Calls.{is_entered, is_first_block, is_observed, observe_calls, is_registration, run_of, szx_of};
+ghost use Rattle.fc_ticket.specs.Registrations.{is_entered, is_first_block, is_observed, observe_calls, is_registration, szx_of};
+ghost use Rattle.fc_ticket.specs.Runs.{run_of};
 
 use crate::ticket::Ticket;
 use coap_msg::Code;
@@ -10,14 +11,11 @@ use coap_opts::{Block, CANCEL, REGISTER, has_observe};
 use fc_machine::Outcome;
 use fc_observe::{Observers, Registered};
 
-// Registers the client of a run that has nothing to write as an observer, or removes the client's
-// entry, if the request asks for that. Returns whether the client observes the slot from now on.
-pub(crate) fn observe(
-    watch: &mut Observers,
-    now: u64,
-    outcome: &Outcome<'_>,
-    ticket: &Ticket<'_>,
-) -> bool
+/// Registers or removes the client of a run as an observer, if the run's request asks for that.
+///
+/// The run has nothing to write. `now` is in milliseconds. Returns whether the client observes the
+/// slot from now on.
+pub fn observe(watch: &mut Observers, now: u64, outcome: &Outcome<'_>, ticket: &Ticket<'_>) -> bool
     requires { outcome.now ≡ run_of ticket.now }
     ensures observed { result ≡ is_observed ticket.now watch.old }
     ensures watch { watch.new ≡ after_calls (observe_calls now ticket.now) watch.old }

@@ -1,6 +1,6 @@
 //! Receipts: descriptions of installed programs.
 ghost use Rattle.std.specs.Prelude.{◌≡◌};
-ghost use Rattle.fc_registry.specs.Calls.{receipt_of};
+ghost use Rattle.fc_ticket.specs.Runs.{receipt_of};
 
 use fc_verify::Verified;
 

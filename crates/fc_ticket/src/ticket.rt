@@ -1,8 +1,8 @@
-//! The data of snapshots, tickets and marks.
+//! The data of snapshots, and tickets.
 ghost use Rattle.std.specs.Prelude.{◌≡◌, ◌↔◌, IsTrue, length};
 ghost use Rattle.fc_kinds.specs.Meaning.{Program};
-ghost use Rattle.fc_registry.specs.Calls.{IsRunOf, request_of, run_of, ticket_of};
-ghost use Rattle.fc_registry.specs.Taken.{IsSized, ticket_with};
+ghost use Rattle.fc_ticket.specs.Runs.{IsRunOf, request_of, run_of, ticket_of};
+ghost use Rattle.fc_ticket.specs.Taken.{IsSized, ticket_with};
 
 use crate::job::{Ask, Job, Origin};
 use coap_msg::Token;
@@ -32,7 +32,7 @@ pub struct SlotSnapshot {
 }
 
 impl Model for SlotSnapshot {
-    ghost use Rattle.fc_registry.specs.Taken as spec;
+    ghost use Rattle.fc_ticket.specs.Taken as spec;
 
     ghost Value = { spec.SlotSnapshot };
 
@@ -67,16 +67,10 @@ impl SlotSnapshot {
         }
     }
 
-    // Writes the data of a job and its readings, and of a slot with this serial. The slot has a
-    // program of this version with these variables.
-    pub(crate) fn write(
-        &mut self,
-        job: &Job,
-        readings: &Readings,
-        serial: u64,
-        version: u64,
-        vars: &Vars,
-    )
+    /// Writes the data of a job and its readings, and of a slot with this serial.
+    ///
+    /// The slot has a program of this version with these variables.
+    pub fn write(&mut self, job: &Job, readings: &Readings, serial: u64, version: u64, vars: &Vars)
         ensures { (p : Program) →
             ticket_with p self.new ≡ ticket_of job.now readings.now serial (record { program = p; version = version; vars = vars.now }) }
     {
@@ -125,11 +119,11 @@ pub struct Ticket<'a> {
 }
 
 impl<'a> Model for Ticket<'a> {
-    ghost use Rattle.fc_registry.specs.Slots as spec;
+    ghost use Rattle.fc_ticket.specs.Tickets as spec;
 
     ghost Value = { spec.Ticket };
 
-    ghost use Rattle.fc_registry.specs.Taken.{IsSized, ticket_with};
+    ghost use Rattle.fc_ticket.specs.Taken.{IsSized, ticket_with};
 
     ghost view = { λ t. ticket_with t.program.now t.found.now };
 
@@ -208,8 +202,8 @@ impl<'a> Ticket<'a> {
         self.program
     }
 
-    // Returns the version of the program that the snapshot found.
-    pub(crate) fn version(&self) -> u64
+    /// Returns the version of the program that the snapshot found.
+    pub fn version(&self) -> u64
         ensures { result ≡ self.now.found.version }
     {
         let found = self.found;
@@ -234,10 +228,11 @@ impl<'a> Ticket<'a> {
     }
 }
 
-// Returns whether an outcome is of a ticket's program, request, variables and readings, and the
-// ticket's serial isn't above `serial`, the slot's. If not, the result of a commit or notification
-// is `Stranger`.
-pub(crate) fn is_run_of(outcome: &Outcome<'_>, ticket: &Ticket<'_>, serial: u64) -> bool
+/// Returns whether an outcome is that of a ticket's run, and `serial` allows the ticket.
+///
+/// The outcome is of the ticket's program, request, variables and readings. The ticket's serial
+/// isn't above `serial`, the slot's. If not, the result of a commit or notification is `Stranger`.
+pub fn is_run_of(outcome: &Outcome<'_>, ticket: &Ticket<'_>, serial: u64) -> bool
     ensures of { IsTrue result ↔ IsRunOf outcome.now ticket.now serial }
     ensures run { IsTrue result → outcome.now ≡ run_of ticket.now }
 {
@@ -246,76 +241,4 @@ pub(crate) fn is_run_of(outcome: &Outcome<'_>, ticket: &Ticket<'_>, serial: u64)
         && outcome.found().is(ticket.vars())
         && are_same_readings(outcome.readings(), ticket.readings())
         && ticket.serial() <= serial
-}
-
-/// The mark of a commit: a token that the response of the run consumes.
-///
-/// The response of a run isn't made without a mark of the run's commit. Only a commit makes a mark,
-/// a mark can't be copied, and only `into_serial` consumes it.
-#[must_use]
-pub struct Mark {
-    pub(crate) origin: Origin,
-    pub(crate) found: u64,
-    pub(crate) serial: u64,
-    pub(crate) changed: bool,
-    pub(crate) observed: bool,
-}
-
-impl Model for Mark {
-    ghost use Rattle.fc_registry.specs.Slots.{Mark as Seal};
-
-    ghost Value = { Seal };
-
-    ghost view = { λ m. record { origin = m.origin; found = m.found; serial = m.serial; changed = m.changed; observed = m.observed } };
-}
-
-impl Mark {
-    /// Returns the origin of the job whose commit made the mark.
-    pub fn origin(&self) -> Origin
-        ensures { result ≡ self.now.origin }
-    {
-        self.origin
-    }
-
-    /// Returns the serial that the job's snapshot found.
-    pub fn found(&self) -> u64
-        ensures { result ≡ self.now.found }
-    {
-        self.found
-    }
-
-    /// Returns the slot's serial at the commit.
-    pub fn serial(&self) -> u64
-        ensures { result ≡ self.now.serial }
-    {
-        self.serial
-    }
-
-    /// Returns whether the commit changed the slot.
-    pub fn changed(&self) -> bool
-        ensures { result ≡ self.now.changed }
-    {
-        self.changed
-    }
-
-    /// Returns whether the client of the job's request observes the slot from now on.
-    pub fn observed(&self) -> bool
-        ensures { result ≡ self.now.observed }
-    {
-        self.observed
-    }
-
-    /// Consumes the mark, and returns the serial that the job's snapshot found.
-    pub fn into_serial(self) -> u64
-        ensures { result ≡ self.found }
-    {
-        let Mark {
-            origin: _,
-            found,
-            serial: _,
-            changed: _,
-            observed: _,
-        } = self;
-        found
-    }
 }

@@ -12,7 +12,7 @@ use Rattle.fc_registry.specs.Slots.{Shard, new_slot}
 use Rattle.fc_registry.specs.Starts.{CanRestore, RingContinues}
 use Rattle.fc_store.specs.Stored.{StoredSlot, StoredSlots}
 use Rattle.fc_core.specs.declared.event.Event.{Event}
-use Rattle.fc_core.specs.declared.policy.Policy.{Policy}
+use Rattle.fc_front.specs.declared.policy.Policy.{Policy}
 use Rattle.fc_server.specs.States.{begin_of}
 use Rattle.fc_server.specs.declared.server.Begin.{Begin}
 use Rattle.fc_core.specs.History.{BeginsWith, Entry, History, Then, did, history_after, seen, slot_at}

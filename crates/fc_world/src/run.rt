@@ -16,7 +16,8 @@ ghost use Rattle.fc_world.specs.Runs.{EndsWith};
 
 use crate::state::WorldState;
 use coap_msg::Emission;
-use fc_core::{Event, Policy};
+use fc_core::Event;
+use fc_front::Policy;
 use fc_registry::{Shard, StartError};
 use fc_server::{Begin, DEFAULT_BEGIN};
 use fc_store::StoredSlot;

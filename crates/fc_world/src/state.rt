@@ -11,12 +11,14 @@ ghost use Rattle.fc_server.specs.Steps.{DeliveredTo, Done, IsReached, Steps};
 ghost use Rattle.fc_world.specs.Parts.{parts};
 
 use coap_msg::{Emission, Endpoint};
-use fc_core::front::blank_emission;
-use fc_core::{Event, Handled, Policy, Task};
+use fc_core::{Event, Task};
+use fc_front::front::blank_emission;
+use fc_front::{Handled, Policy};
 use fc_observe::Ticked;
-use fc_registry::{SHARDS, SLOTS, SlotNumber, StartError};
+use fc_registry::StartError;
 use fc_server::{Begin, FirstServer, Server};
 use fc_store::StoredSlot;
+use fc_ticket::{SHARDS, SLOTS, SlotNumber};
 use std::alloc::{AllocError, Global};
 
 /// A server, and the jobs of all events so far, each with its stage.

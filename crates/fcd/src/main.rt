@@ -5,7 +5,7 @@ use clap::ArgMatches;
 use fc_cli::Status;
 use fc_cli::command_line::{parse, run_main};
 use fc_cli::message_id::random_id;
-use fc_core::Policy;
+use fc_front::Policy;
 use fc_host::sensors::{FileSensors, NoSensors};
 use fc_host::timer::Timer;
 use fc_lines::LineLimit;

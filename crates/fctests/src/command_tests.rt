@@ -2,7 +2,7 @@
 //!
 //! The output of `--version` begins with the program's name and version. The values of options are
 //! those that docs/COMMANDS.md gives.
-use fc_core::Network;
+use fc_front::Network;
 use fc_service::command::{LINES, command};
 use fc_service::options::{BadOption, ServeOptions, serve_options};
 use std::alloc::Global;

@@ -8,7 +8,7 @@ use crate::serving::serve_without_store;
 use crate::socket_tests::{check_logged, put_datagram, unrecorded};
 use coap_msg::{Emission, Endpoint};
 use fc_backend::CallLog;
-use fc_core::DEFAULT_POLICY;
+use fc_front::DEFAULT_POLICY;
 use fc_host::sensors::NoSensors;
 use fc_host::socket::{Buffer, Sink, Source};
 use fc_service::serve::Extent;

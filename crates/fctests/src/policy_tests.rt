@@ -3,8 +3,8 @@
 //! The expected bytes are worked out by hand.
 use crate::socket_tests::{check_logged, serve_since};
 use coap_dedup::Limits;
-use fc_core::{MOST_NETWORKS, Network, Policy};
 use fc_fixtures::ports::at_port;
+use fc_front::{MOST_NETWORKS, Network, Policy};
 use fc_host::sensors::NoSensors;
 use fc_host::socket::open;
 use fc_observe::CONFIRM_AFTER;

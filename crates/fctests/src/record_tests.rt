@@ -4,8 +4,8 @@
 //! datagram has no record. The digests are those that `sha256sum` printed for the images.
 use crate::serving::serve_without_store;
 use crate::socket_tests::{COUNT, client_of, largest_image, never};
-use fc_core::DEFAULT_POLICY;
 use fc_fixtures::ports::at_port;
+use fc_front::DEFAULT_POLICY;
 use fc_host::sensors::NoSensors;
 use fc_host::socket::{Receiving, open};
 use fc_record::{LoggedChanges, NoReports, Recorder};

@@ -7,7 +7,7 @@ use crate::socket_tests::put_datagram;
 use coap_dedup::Limits;
 use coap_msg::{Emission, Endpoint};
 use fc_backend::CallLog;
-use fc_core::{DEFAULT_POLICY, FrontGauges, MOST_NETWORKS, Network, Policy};
+use fc_front::{DEFAULT_POLICY, FrontGauges, MOST_NETWORKS, Network, Policy};
 use fc_host::sensors::NoSensors;
 use fc_host::socket::{Buffer, Sink, Source};
 use fc_observe::CONFIRM_AFTER;

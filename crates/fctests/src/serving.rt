@@ -1,5 +1,5 @@
 //! Servers of tests without a store, which start with empty slots.
-use fc_core::Policy;
+use fc_front::Policy;
 use fc_host::sensors::Sensors;
 use fc_host::socket::{Sink, Source};
 use fc_record::{Recorder, Reporter};

@@ -2,15 +2,16 @@
 //!
 //! The first serials are those of docs/PROTOCOL.md: 32 for each millisecond, and 2^24 for each
 //! second, or one more than the greatest stored serial. The rules are those of docs/REFERENCE.md.
-use fc_core::DEFAULT_POLICY;
-use fc_core::heads::serial_in;
 use fc_fixtures::images::COUNTER;
+use fc_front::DEFAULT_POLICY;
+use fc_front::heads::serial_in;
 use fc_isa::{Fault, Rule};
-use fc_registry::{RestoreError, SlotNumber, StartError};
+use fc_registry::{RestoreError, StartError};
 use fc_service::slots::{Slots, restored_slots};
 use fc_store::{
     MemoryStore, ProgramUpdate, SlotUpdate, Store, StoredProgram, StoredSlot, copy_slots,
 };
+use fc_ticket::SlotNumber;
 use fc_verify::Refusal;
 use std::alloc::{AllocError, Global};
 use std::array::from_fn;

@@ -1,10 +1,11 @@
 //! The trace of a pool's calls: the events of the calls, and the emission of each event.
 use coap_msg::{Emission, Endpoint};
-use fc_core::Handled;
+use fc_front::Handled;
 use fc_help::Readings;
 use fc_lines::emission::print;
 use fc_observe::Ticked;
-use fc_registry::{Job, SlotNumber, Taken};
+use fc_registry::Taken;
+use fc_ticket::{Job, SlotNumber};
 use std::alloc::{AllocError, Global};
 use std::io;
 use std::io::Write;

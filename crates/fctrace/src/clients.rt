@@ -2,7 +2,7 @@
 use coap_msg::Emission;
 use fc_backend::{CallLog, Device, Gate, TimeSource, Wire};
 use fc_help::{READINGS, Readings};
-use fc_registry::Job;
+use fc_ticket::Job;
 use std::alloc::Global;
 use std::sync::atomic::{AtomicU64, Ordering};
 use std::sync::{Mutex, Wait};

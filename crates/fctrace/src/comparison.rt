@@ -3,9 +3,9 @@ use crate::call_trace::CallTrace;
 use crate::traced_pool::{BEGIN_LINE, Traced};
 use fc_cli::Status;
 use fc_cli::stop::Stop;
-use fc_registry::{SLOTS, SlotNumber};
 use fc_replay::printer::{print_slot, slot_line};
 use fc_replay::replay::replay;
+use fc_ticket::{SLOTS, SlotNumber};
 use std::alloc::{AllocError, Global};
 
 /// What the replay of a trace found.

@@ -2,15 +2,13 @@
 use crate::call_trace::CallTrace;
 use coap_msg::{Emission, Endpoint};
 use fc_backend::{Bench, TrackLog};
-use fc_core::{Answer, FrontGauges, Handled};
 use fc_filed::ServerBook;
+use fc_front::{Answer, FrontGauges, Handled};
 use fc_help::Readings;
 use fc_machine::Outcome;
 use fc_observe::{Ticked, Turn};
-use fc_registry::{
-    Committed, Job, Made, NoteOutcome, Notification, PLACES, Receipt, Removal, SlotNumber,
-    SlotSnapshot, Taken, Ticket,
-};
+use fc_registry::{Committed, Made, PLACES, Removal, Taken};
+use fc_ticket::{Job, NoteOutcome, Notification, Receipt, SlotNumber, SlotSnapshot, Ticket};
 use fc_verify::Verified;
 use std::sync::{Arc, Mutex, Wait};
 

@@ -3,7 +3,7 @@ use crate::case::Output;
 use coap_dedup::{EXCHANGES, MOST_EXCHANGES};
 use fc_cli::Status;
 use fc_cli::status::tell;
-use fc_core::Policy;
+use fc_front::Policy;
 use fc_help::Method;
 use fc_lines::policy::{DEFAULT_SECONDS, policy};
 use fc_replay::replay::replay;

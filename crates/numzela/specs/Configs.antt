@@ -1,7 +1,7 @@
 -- The initial state of a server, from the configuration that C passes.
 use Rattle.std.specs.Prelude.{ℕ, ◌&&◌, Bool, true, List, [], ◌∷◌, nat_le, if◌then◌else◌, ◌==◌}
-use Rattle.fc_core.specs.declared.policy.Network.{Network}
-use Rattle.fc_core.specs.Policies.{any_address}
+use Rattle.fc_front.specs.declared.policy.Network.{Network}
+use Rattle.fc_front.specs.Policies.{any_address}
 use Rattle.fc_server.specs.declared.server.Begin.{Begin}
 use Rattle.numzela.specs.declared.config.Config.{Config}
 use Rattle.numzela.specs.declared.config.Subnet.{Subnet}

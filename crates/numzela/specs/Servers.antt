@@ -3,8 +3,8 @@ use Rattle.std.specs.Prelude.{◌≡◌, ◌⊎◌, ℕ, true, List, [], ◌∷�
 use Rattle.std.specs.Borrow.{Bor}
 use Rattle.coap_msg.specs.declared.types.Emission.{Emission}
 use Rattle.coap_msg.specs.declared.types.Endpoint.{Endpoint}
-use Rattle.fc_core.specs.Exchanges.{advanced}
-use Rattle.fc_core.specs.Receiving.{delivered}
+use Rattle.fc_front.specs.Exchanges.{advanced}
+use Rattle.fc_front.specs.Receiving.{delivered}
 use Rattle.fc_server.specs.SingleThread.{StaysIdleAlone, alone_calls}
 use Rattle.fc_server.specs.Serving.{Handles, Passes, Serves}
 use Rattle.fc_server.specs.Flushing.{AreIdleUntil, AreFlushed, AreStepsBy, FlushingStep, sent_in_steps}

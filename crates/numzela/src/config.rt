@@ -4,8 +4,8 @@ ghost use Rattle.fc_server.specs.States.{CanBegin};
 ghost use Rattle.numzela.specs.Configs.{begin_for, is_prefix, is_valid, managers_for, network_for, or_default};
 
 use coap_dedup::{EXCHANGES, Limits, MOST_EXCHANGES};
-use fc_core::policy::ANY_ADDRESS;
-use fc_core::{Managers, Network, Policy};
+use fc_front::policy::ANY_ADDRESS;
+use fc_front::{Managers, Network, Policy};
 use fc_server::Begin;
 
 /// Greatest `confirm_after`, in milliseconds, and its default: 24 hours.

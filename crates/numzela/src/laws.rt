@@ -2,7 +2,7 @@
 //!
 //! Each law is the contract of an empty function.
 ghost use Rattle.std.specs.Prelude.{◌≡◌, [], ◌∷◌, true};
-ghost use Rattle.fc_core.specs.Policies.{default_policy};
+ghost use Rattle.fc_front.specs.Policies.{default_policy};
 ghost use Rattle.numzela.specs.Configs.{begin_for, is_valid, managers_for};
 ghost use Rattle.numzela.specs.declared.config.Subnet.{Subnet};
 

@@ -1,6 +1,6 @@
 //! A single-threaded server, whose caller has the sockets, the clock and the device.
 ghost use Rattle.std.specs.Prelude.{◌≡◌, ◌≤◌, ◌⊎◌, [], false, is_some, true, Option, Some, None, IfOk};
-ghost use Rattle.fc_core.specs.Receiving.{emission_if};
+ghost use Rattle.fc_front.specs.Receiving.{emission_if};
 ghost use Rattle.fc_server.specs.Serving.{Serves};
 ghost use Rattle.fc_server.specs.States.{CanBegin, begin_of};
 ghost use Rattle.numzela.specs.Configs.{begin_for, is_valid};
@@ -13,7 +13,7 @@ use crate::loose::{Loose, Opaque};
 use crate::status::{EMPTY, IN_USE, NO_MEMORY, OK, OUT_OF_RANGE, SEND};
 use coap_msg::types::DATAGRAM;
 use coap_msg::{Emission, Endpoint};
-use fc_core::front::blank_emission;
+use fc_front::front::blank_emission;
 use fc_help::Readings;
 use fc_server::flush::{Flushing, STEPS, idle_until};
 use fc_server::ingress::is_reply;

@@ -4,8 +4,8 @@
 use crate::overtaking_tests::Replies;
 use coap_msg::Endpoint;
 use fc_backend::{Bench, Gate};
-use fc_core::front::blank_emission;
-use fc_registry::SlotNumber;
+use fc_front::front::blank_emission;
+use fc_ticket::SlotNumber;
 use fc_workers::Dispatcher;
 use std::alloc::{AllocError, Global};
 use std::sync::Wait;

@@ -1,5 +1,5 @@
 //! The message IDs that the server draws (RFC 7252, section 4.4).
-use fc_core::{DEFAULT_POLICY, Front};
+use fc_front::{DEFAULT_POLICY, Front};
 use std::process::Abort;
 use std::test::Fail;
 

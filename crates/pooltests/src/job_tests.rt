@@ -7,7 +7,7 @@ ghost use Rattle.std.specs.Prelude.{◌≡◌};
 use coap_msg::{Endpoint, Token};
 use fc_help::{Method, Request};
 use fc_jobs::{Got, Jobs, Sent};
-use fc_registry::{Ask, Job, Opening, Origin, SlotNumber};
+use fc_ticket::{Ask, Job, Opening, Origin, SlotNumber};
 use std::sync::Wait;
 use std::sync::atomic::{AtomicUsize, Ordering};
 use std::test::Fail;

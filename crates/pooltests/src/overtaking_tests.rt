@@ -17,16 +17,16 @@ use coap_msg::Emission;
 use fc_backend::{
     Bench, CallLog, Device, Gate, JobKeys, JobMessage, ShareOf, TimeSource, TrackLog, Wire,
 };
-use fc_core::DEFAULT_POLICY;
 use fc_filed::{NewServerBook, ServerName};
 use fc_fixtures::images::COUNTER;
+use fc_front::DEFAULT_POLICY;
 use fc_help::{NO_READINGS, Readings};
 use fc_jobs::{Jobs, Sent};
 use fc_locked::{Blanks, Books, Locked};
 use fc_pool::no_store;
-use fc_registry::{Job, SlotNumber};
 use fc_server::{DEFAULT_BEGIN, FirstServer};
 use fc_store::NoStore;
+use fc_ticket::{Job, SlotNumber};
 use fc_verify::{Verified, verify};
 use fc_workers::{Context, Dispatcher, Offload, SeedOf, drive_workers, make_seats};
 use std::alloc::{AllocError, Global};

@@ -3,15 +3,15 @@ ghost use Rattle.std.specs.Prelude.{◌<◌};
 
 use crate::driver::{PEER, Request, datagram};
 use crate::overtaking_tests::{Bare, Replies};
-use fc_core::DEFAULT_POLICY;
-use fc_core::front::blank_emission;
 use fc_fixtures::datagrams::PUT_EXPENSIVE;
 use fc_fixtures::images::COUNTER;
+use fc_front::DEFAULT_POLICY;
+use fc_front::front::blank_emission;
 use fc_pool::{Driven, Driver, Pool, no_store, run_pool};
 use fc_record::NoChanges;
-use fc_registry::SlotNumber;
 use fc_server::{Begin, FirstServer, Ingress};
 use fc_store::{StoredProgram, StoredSlot};
+use fc_ticket::SlotNumber;
 use fc_workers::Offload;
 use std::alloc::{AllocError, Global};
 use std::array::from_fn;

@@ -5,12 +5,12 @@ use Rattle.coap_block.specs.Cuts.{Part, part_bytes}
 use Rattle.coap_reply.specs.Blocks.{cut_for}
 use Rattle.coap_reply.specs.Responses.{Response, bare, content, etag, observe_option, ran_response, text}
 use Rattle.fc_isa.specs.declared.rule.Rule.{Rule}
-use Rattle.fc_registry.specs.Receipts.{receipt_text}
-use Rattle.fc_registry.specs.declared.job.Job.{Job}
-use Rattle.fc_registry.specs.declared.receipt.Receipt.{Receipt}
-use Rattle.fc_core.specs.Contents.{Deleted, Described, Listed, Made, Missing, Ran, Rejected, RunAnswer, Unavailable, Untyped, Valid}
-use Rattle.fc_core.specs.Links.{links_text}
-use Rattle.fc_core.specs.Replies.{Says, link_format}
+use Rattle.fc_ticket.specs.Receipts.{receipt_text}
+use Rattle.fc_ticket.specs.declared.job.Job.{Job}
+use Rattle.fc_ticket.specs.declared.receipt.Receipt.{Receipt}
+use Rattle.fc_front.specs.Contents.{Deleted, Described, Listed, Made, Missing, Ran, Rejected, RunAnswer, Unavailable, Untyped, Valid}
+use Rattle.fc_front.specs.Links.{links_text}
+use Rattle.fc_front.specs.Replies.{Says, link_format}
 
 abbrev response_code : Response → ℕ
 response_code r = r.code

@@ -30,20 +30,20 @@ use Rattle.coap_dedup.specs.Exchanges.{Look, IsNew, IsBusy, IsAgain, IsSilent as
 use Rattle.coap_block.specs.Uploads.{Add, Continues, IsWhole, IsIncomplete, IsBadLength, IsTooLarge, IsFull, add_of}
 use Rattle.fc_help.specs.declared.request.Method.{Method as Verb}
 use Rattle.fc_help.specs.declared.request.Method.TheVariants.{Get, Post}
-use Rattle.fc_registry.specs.Calls.{initial_vars_of}
-use Rattle.fc_registry.specs.declared.job.Ask.TheVariants.{Run, Install, Remove, Describe, Discover}
-use Rattle.fc_registry.specs.declared.job.Job.{Job}
-use Rattle.fc_registry.specs.declared.job.Opening.{Opening}
-use Rattle.fc_registry.specs.declared.job.InitialVars.TheVariants.{Kept, Zeros}
+use Rattle.fc_ticket.specs.Runs.{initial_vars_of}
+use Rattle.fc_ticket.specs.declared.job.Ask.TheVariants.{Run, Install, Remove, Describe, Discover}
+use Rattle.fc_ticket.specs.declared.job.Job.{Job}
+use Rattle.fc_ticket.specs.declared.job.Opening.{Opening}
+use Rattle.fc_ticket.specs.declared.job.InitialVars.TheVariants.{Kept, Zeros}
 use Rattle.fc_core.specs.declared.event.Event.{Event}
 use Rattle.fc_core.specs.declared.event.Event.TheVariants.{Deliver}
 use Rattle.fc_core.specs.declared.stage.Task.{Task}
 use Rattle.fc_laws.specs.AskLaws.{BringsJob, IsPlain, Requests, core_path, program_path, request_in, run_path}
 use Rattle.fc_laws.specs.BodyLaws.{Asks, asked_at}
-use Rattle.fc_core.specs.Exchanges.{FrontState}
+use Rattle.fc_front.specs.Exchanges.{FrontState}
 use Rattle.fc_core.specs.History.{Entry, Seen, front_at, received_at, no_task, tasks_brought, tasks_moved}
-use Rattle.fc_core.specs.Policies.{is_allowed}
-use Rattle.fc_core.specs.Receiving.{Received, Opened, Refused, Silenced, add_in, ask_by, brought, etags_by, is_confirmable, job_of, look_in, looked, named_block, next_opening, observes, over_share, received, received_added, received_as, request_asked, request_received, slot_asked, slot_of_resource, received_if, initial_vars_by}
+use Rattle.fc_front.specs.Policies.{is_allowed}
+use Rattle.fc_front.specs.Receiving.{Received, Opened, Refused, Silenced, add_in, ask_by, brought, etags_by, is_confirmable, job_of, look_in, looked, named_block, next_opening, observes, over_share, received, received_added, received_as, request_asked, request_received, slot_asked, slot_of_resource, received_if, initial_vars_by}
 use Rattle.fc_core.specs.Stages.{new_task}
 use Rattle.fc_core.specs.Transitions.{names}
 use Rattle.fc_laws.proofs.front.Bodies.{anew_is}

@@ -15,7 +15,7 @@ use Rattle.fc_laws.specs.BodyLaws.{Asks, BadRequest, Continue, Incomplete, IsAns
 use Rattle.fc_laws.specs.ExchangeLaws.{bare_by}
 use Rattle.fc_core.specs.History.{Seen, and_then, did, front_at}
 use Rattle.fc_core.specs.Legal.{Emits}
-use Rattle.fc_core.specs.Receiving.{Received, Immediate, add_in, brought, next_opening, received_added, sent}
+use Rattle.fc_front.specs.Receiving.{Received, Immediate, add_in, brought, next_opening, received_added, sent}
 use Rattle.fc_core.specs.Stages.{new_task}
 use Rattle.fc_laws.proofs.front.Bodies.{anew_is, settled_code}
 

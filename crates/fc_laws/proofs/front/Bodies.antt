@@ -18,8 +18,8 @@ use Rattle.coap_block.specs.Cuts.{cut_at}
 use Rattle.coap_block.specs.Transfers.{Addition, transfers}
 use Rattle.coap_block.specs.UnderWay.{FitsBehind, RisesTo}
 use Rattle.coap_block.specs.Uploads.{Add, add_of, block_added, Continues, IsWhole, IsIncomplete, IsBadLength, IsTooLarge, IsFull}
-use Rattle.fc_registry.specs.declared.job.Ask.TheVariants.{Install as Installs}
-use Rattle.fc_registry.specs.declared.job.Opening.{Opening}
+use Rattle.fc_ticket.specs.declared.job.Ask.TheVariants.{Install as Installs}
+use Rattle.fc_ticket.specs.declared.job.Opening.{Opening}
 use Rattle.fc_core.specs.declared.event.Event.{Event}
 use Rattle.fc_core.specs.declared.event.Event.TheVariants.{Deliver, Answer, Fire, Fresh, Tick}
 use Rattle.coap_reply.specs.Blocks.{cut_for}
@@ -27,8 +27,8 @@ use Rattle.fc_laws.specs.BodyLaws.{Asks, BringsInstall, FitsBy, IsAskedAnew, Put
 use Rattle.fc_laws.specs.ExchangeLaws.{IsOnRequest}
 use Rattle.fc_core.specs.History.{Entry, History, BeginsWith, Then, Seen, and_then, did, front_at, received_at, seen, stage, at_front, time_by, additions_by}
 use Rattle.fc_core.specs.Legal.{Emits}
-use Rattle.fc_core.specs.Policies.{is_allowed}
-use Rattle.fc_core.specs.Receiving.{Received, Silenced, Refused, Immediate, Opened, add_in, added_by, addition_of, ask_by, brought, is_confirmable, job_of, look_in, looked, next_opening, over_share, received_added, received_as, received_read, request_received, sent, slot_asked, received_if, initial_vars_by}
+use Rattle.fc_front.specs.Policies.{is_allowed}
+use Rattle.fc_front.specs.Receiving.{Received, Silenced, Refused, Immediate, Opened, add_in, added_by, addition_of, ask_by, brought, is_confirmable, job_of, look_in, looked, next_opening, over_share, received_added, received_as, received_read, request_received, sent, slot_asked, received_if, initial_vars_by}
 use Rattle.coap_reply.specs.Responses.{settled_by}
 use Rattle.fc_core.specs.Stages.{content_at, needs_id, new_task}
 use Rattle.fc_laws.proofs.front.Repeats.{new_as, opening_is, opening_of, received_of}

@@ -17,15 +17,15 @@ use Rattle.coap_dedup.specs.declared.exchanges.Room.TheVariants.{Free, Full, Ove
 use Rattle.coap_block.specs.Uploads.{Add, Continues, IsWhole, IsIncomplete, IsBadLength, IsTooLarge, IsFull}
 use Rattle.coap_reply.specs.Responses.{Response}
 use Rattle.fc_observe.specs.declared.entry.Turn.{Turn}
-use Rattle.fc_registry.specs.Slots.{Ticket}
+use Rattle.fc_ticket.specs.Tickets.{Ticket}
 use Rattle.fc_core.specs.declared.event.Event.{Event}
 use Rattle.fc_core.specs.declared.event.Event.TheVariants.{Answer, Deliver, Fresh}
-use Rattle.fc_core.specs.Contents.{Content}
-use Rattle.fc_core.specs.Exchanges.{has_exchange, opening_is_live}
+use Rattle.fc_front.specs.Contents.{Content}
+use Rattle.fc_front.specs.Exchanges.{has_exchange, opening_is_live}
 use Rattle.fc_core.specs.History.{Entry, History, Then, Seen, seen, at_front, front_at, ids_answered, ids_by, job, time_by, stage}
-use Rattle.fc_core.specs.Ids.{Ids, drawn, drawn_for, free_id, is_recent, last_drawn}
-use Rattle.fc_core.specs.Policies.{is_allowed}
-use Rattle.fc_core.specs.Receiving.{Received, Refused, Immediate, Silenced, add_in, drawn_by, is_confirmable, look_in, looked, received_added, received_as, received_read, request_received, received_if}
+use Rattle.fc_front.specs.Ids.{Ids, drawn, drawn_for, free_id, is_recent, last_drawn}
+use Rattle.fc_front.specs.Policies.{is_allowed}
+use Rattle.fc_front.specs.Receiving.{Received, Refused, Immediate, Silenced, add_in, drawn_by, is_confirmable, look_in, looked, received_added, received_as, received_read, request_received, received_if}
 use Rattle.fc_core.specs.Stage.{Stage, ToAnswer, ToTell}
 use Rattle.fc_core.specs.Stages.{content_at, needs_id}
 use Rattle.fc_core.specs.TurnStage as turns

@@ -9,17 +9,17 @@ use Rattle.fc_core.specs.declared.event.Event.{Event}
 use Rattle.fc_core.specs.declared.event.Event.TheVariants.{Deliver, Answer, Fire, Fresh, Tick}
 use Rattle.coap_msg.specs.declared.types.Emission.{Emission}
 use Rattle.fc_observe.specs.declared.entry.Turn.{Turn}
-use Rattle.fc_registry.specs.Slots.{Ticket}
+use Rattle.fc_ticket.specs.Tickets.{Ticket}
 use Rattle.fc_core.specs.Stage.{Stage}
 use Rattle.fc_core.specs.Stage.{ToTell}
 use Rattle.fc_core.specs.TurnStage as turns
-use Rattle.fc_core.specs.Contents.{Content}
-use Rattle.fc_core.specs.Exchanges.{opening_is_live}
+use Rattle.fc_front.specs.Contents.{Content}
+use Rattle.fc_front.specs.Exchanges.{opening_is_live}
 use Rattle.fc_laws.specs.ExchangeLaws.{AllBefore, AreApart, AreInOrder, Draw, draws_by, draws_of, first_id}
 use Rattle.fc_core.specs.History.{History, BeginsWith, Then, Seen, seen, and_then, did, ids_answered, job, received_at, stage, at_front, time_by, ids_by}
-use Rattle.fc_core.specs.Ids.{Ids, drawn, drawn_for, free_id, is_recent, last_drawn, no_draws}
-use Rattle.fc_core.specs.Receiving.{Received, Full, Refused, Immediate, is_confirmable}
-use Rattle.fc_core.specs.Receiving as receiving
+use Rattle.fc_front.specs.Ids.{Ids, drawn, drawn_for, free_id, is_recent, last_drawn, no_draws}
+use Rattle.fc_front.specs.Receiving.{Received, Full, Refused, Immediate, is_confirmable}
+use Rattle.fc_front.specs.Receiving as receiving
 use Rattle.fc_core.specs.Stages.{content_at, needs_id}
 
 -- the message IDs after an event at this time: unchanged, or after a draw of the next one. That

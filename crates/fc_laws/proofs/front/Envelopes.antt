@@ -5,17 +5,17 @@ use Rattle.coap_msg.specs.declared.types.Endpoint.{Endpoint}
 use Rattle.coap_msg.specs.declared.types.MessageType.TheVariants.{Acknowledgement, Confirmable, NonConfirmable}
 use Rattle.coap_msg.specs.Wire.{Message}
 use Rattle.coap_reply.specs.Responses.{Response, reply_kind, sent_in}
-use Rattle.fc_registry.specs.declared.job.Job.{Job}
+use Rattle.fc_ticket.specs.declared.job.Job.{Job}
 use Rattle.fc_core.specs.declared.event.Event.TheVariants.{Answer}
 use Rattle.fc_core.specs.Stage.{Stage}
 use Rattle.fc_core.specs.Stage.{ToAnswer}
-use Rattle.fc_core.specs.Contents.{Content}
-use Rattle.fc_core.specs.Exchanges.{FrontState, opening_is_live}
+use Rattle.fc_front.specs.Contents.{Content}
+use Rattle.fc_front.specs.Exchanges.{FrontState, opening_is_live}
 use Rattle.fc_core.specs.History.{Seen, front_at, job, stage}
-use Rattle.fc_core.specs.Ids.{free_id, reply_id}
+use Rattle.fc_front.specs.Ids.{free_id, reply_id}
 use Rattle.fc_core.specs.Legal.{AnswerEmits, Emits, IsAnswered}
-use Rattle.fc_core.specs.Receiving.{is_confirmable, reply_sent, reply_sent_by}
-use Rattle.fc_core.specs.Replies.{IsReplyTo}
+use Rattle.fc_front.specs.Receiving.{is_confirmable, reply_sent, reply_sent_by}
+use Rattle.fc_front.specs.Replies.{IsReplyTo}
 use Rattle.fc_laws.specs.ReplyLaws.{IsAnswerTo}
 use Rattle.fc_core.specs.Stages.{content_at}
 

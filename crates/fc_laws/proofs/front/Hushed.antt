@@ -8,12 +8,12 @@ use Rattle.coap_msg.specs.Reading.{reading_of}
 use Rattle.coap_msg.specs.Wire.{Message}
 use Rattle.coap_opts.specs.Verdict.{Verdict, IsIgnored, IsSignal, IsSilent, verdict}
 use Rattle.fc_core.specs.declared.event.Event.TheVariants.{Deliver}
-use Rattle.fc_core.specs.declared.by_value.Delivered.TheVariants.{Signal}
+use Rattle.fc_front.specs.declared.by_value.Delivered.TheVariants.{Signal}
 use Rattle.fc_laws.specs.ExchangeLaws.{IsOpening}
-use Rattle.fc_core.specs.Exchanges.{FrontState}
+use Rattle.fc_front.specs.Exchanges.{FrontState}
 use Rattle.fc_core.specs.History.{Seen, front_at}
 use Rattle.fc_core.specs.Legal.{Emits}
-use Rattle.fc_core.specs.Receiving.{Received, delivered, handed_on, received, received_as, sent}
+use Rattle.fc_front.specs.Receiving.{Received, delivered, handed_on, received, received_as, sent}
 use Rattle.fc_laws.proofs.front.Repeats.{new_as, opening_is, received_of}
 
 -- the classification of a message is determined by the message's verdict.

@@ -11,21 +11,21 @@ use Rattle.coap_dedup.specs.Exchanges.{Exchange, answered_if}
 use Rattle.coap_opts.specs.Verdict.{Asked, Verdict, IsAsked, IsRefused, IsSilent, IsReset, IsSignal, IsIgnored, verdict}
 use Rattle.coap_msg.specs.Wire.{Message}
 use Rattle.coap_block.specs.Uploads.{Add, Continues, IsWhole, IsIncomplete, IsBadLength, IsTooLarge, IsFull}
-use Rattle.fc_registry.specs.declared.job.Job.{Job}
-use Rattle.fc_registry.specs.declared.job.Opening.{Opening}
-use Rattle.fc_core.specs.Contents.{Content}
+use Rattle.fc_ticket.specs.declared.job.Job.{Job}
+use Rattle.fc_ticket.specs.declared.job.Opening.{Opening}
+use Rattle.fc_front.specs.Contents.{Content}
 use Rattle.fc_core.specs.declared.event.Event.{Event}
 use Rattle.fc_core.specs.declared.event.Event.TheVariants.{Answer, Deliver}
 use Rattle.fc_core.specs.Stage.{Stage}
 use Rattle.fc_core.specs.Stage.{ToAnswer}
-use Rattle.fc_core.specs.Exchanges.{FrontState, has_exchange, opening_is_live}
+use Rattle.fc_front.specs.Exchanges.{FrontState, has_exchange, opening_is_live}
 use Rattle.fc_laws.specs.ExchangeLaws.{HasExchange, Opens}
 use Rattle.fc_core.specs.History.{Entry, History, BeginsWith, Then, Seen, seen, answered_in, did, exchanges_received, front_at, job, received_at, stage, at_front, exchanges_by}
-use Rattle.fc_core.specs.Ids.{free_id}
+use Rattle.fc_front.specs.Ids.{free_id}
 use Rattle.fc_laws.specs.KeptLaws.{AnswersJob, HasId, answers, answers_with, emitted_bytes, exchange_of_job, opened_at}
 use Rattle.fc_core.specs.Legal.{AnswerEmits, Emits, IsAnswered}
-use Rattle.fc_core.specs.Policies.{is_allowed}
-use Rattle.fc_core.specs.Receiving.{Received, Silenced, Refused, Opened, Immediate, add_in, id_in, kept_of, next_opening, opened_by, received_added, sent, received_if}
+use Rattle.fc_front.specs.Policies.{is_allowed}
+use Rattle.fc_front.specs.Receiving.{Received, Silenced, Refused, Opened, Immediate, add_in, id_in, kept_of, next_opening, opened_by, received_added, sent, received_if}
 use Rattle.fc_core.specs.Stages.{content_at}
 use Rattle.fc_laws.proofs.front.Repeats.{new_as, opened_none, opening_is}
 

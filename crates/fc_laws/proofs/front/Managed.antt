@@ -16,20 +16,20 @@ use Rattle.fc_observe.specs.declared.entry.Entry.{Entry as ObserverEntry}
 use Rattle.fc_observe.specs.declared.entry.Turn.{Turn}
 use Rattle.fc_observe.specs.Calls.{NextDue, observers_after}
 use Rattle.fc_observe.specs.Observers.{ObserverList, list_at_time, entry_out, next_turn}
-use Rattle.fc_registry.specs.declared.job.Job.{Job}
-use Rattle.fc_registry.specs.declared.job.Opening.{Opening}
+use Rattle.fc_ticket.specs.declared.job.Job.{Job}
+use Rattle.fc_ticket.specs.declared.job.Opening.{Opening}
 use Rattle.fc_observe.specs.Views.{interest_of}
 use Rattle.fc_registry.specs.Turns.{job_of_turn, turn_job}
 use Rattle.fc_core.specs.declared.event.Event.{Event}
 use Rattle.fc_core.specs.declared.event.Event.TheVariants.{Deliver, Due, Fire}
-use Rattle.fc_core.specs.declared.policy.Network.{Network}
+use Rattle.fc_front.specs.declared.policy.Network.{Network}
 use Rattle.fc_core.specs.declared.stage.Task.{Task}
-use Rattle.fc_core.specs.Exchanges.{FrontState}
+use Rattle.fc_front.specs.Exchanges.{FrontState}
 use Rattle.fc_core.specs.History.{AsksTurn, BeginsWith, History, Seen, Then, front_at, job, no_task, inputs, seen, slot_at, task_at, tasks_brought, tasks_moved, turn_at, turns_by, watch}
 use Rattle.fc_core.specs.Laws.{HasCome}
-use Rattle.fc_core.specs.Policies.{is_allowed, is_manager}
-use Rattle.fc_core.specs.Receiving.{Received, add_in, ask_by, brought, job_of, look_in, looked, next_opening, received, received_added, received_as, received_if, received_read, request_received}
-use Rattle.fc_core.specs.Receiving as x
+use Rattle.fc_front.specs.Policies.{is_allowed, is_manager}
+use Rattle.fc_front.specs.Receiving.{Received, add_in, ask_by, brought, job_of, look_in, looked, next_opening, received, received_added, received_as, received_if, received_read, request_received}
+use Rattle.fc_front.specs.Receiving as x
 use Rattle.fc_core.specs.Transitions.{names, transition, task_moved}
 use Rattle.fc_core.specs.Stages.{new_task}
 use Rattle.fc_core.proofs.Lists.{Each}

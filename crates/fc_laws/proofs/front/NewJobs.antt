@@ -8,14 +8,14 @@ use Rattle.fc_observe.specs.Calls.{NextDue, observers_after}
 use Rattle.fc_observe.specs.Observers.{ObserverList, list_at_time, entry_out, next_turn}
 use Rattle.fc_observe.specs.Views.{Interest, interest_of}
 use Rattle.fc_registry.specs.Turns.{job_of_turn, turn_job}
-use Rattle.fc_registry.specs.declared.job.Job.{Job}
-use Rattle.fc_registry.specs.declared.job.Opening.{Opening}
+use Rattle.fc_ticket.specs.declared.job.Job.{Job}
+use Rattle.fc_ticket.specs.declared.job.Opening.{Opening}
 use Rattle.fc_core.specs.declared.event.Event.{Event}
 use Rattle.fc_core.specs.declared.event.Event.TheVariants.{Deliver, Due, Fire}
 use Rattle.fc_core.specs.declared.stage.Task.{Task}
 use Rattle.fc_core.specs.History.{Entry, Seen, and_then, due_in, front_at, no_task, received_at, slot_at, task_at, tasks_brought, tasks_moved, turn_at, watch}
 use Rattle.fc_core.specs.Laws.{HasCome}
-use Rattle.fc_core.specs.Receiving.{Received, Opened, brought, next_opening}
+use Rattle.fc_front.specs.Receiving.{Received, Opened, brought, next_opening}
 use Rattle.fc_core.specs.Stages.{new_task}
 use Rattle.fc_core.specs.Transitions.{names}
 use Rattle.fc_core.proofs.Lists.{Each}

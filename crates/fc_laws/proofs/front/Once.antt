@@ -15,17 +15,17 @@ use Rattle.coap_opts.specs.Verdict.{Asked, Verdict, IsAsked, IsRefused, IsSilent
 use Rattle.coap_dedup.specs.Exchanges.{Exchange}
 use Rattle.coap_dedup.specs.Exchanges.{Look, IsNew, IsBusy, IsAgain, IsSilent as IsAnsweredNon, IsFull, IsOverShare, answered_if, is_of}
 use Rattle.coap_msg.specs.Endpoints.{same_endpoint}
-use Rattle.fc_registry.specs.declared.job.Job.{Job}
-use Rattle.fc_registry.specs.declared.job.Opening.{Opening}
-use Rattle.fc_registry.specs.declared.job.Origin.{Origin}
+use Rattle.fc_ticket.specs.declared.job.Job.{Job}
+use Rattle.fc_ticket.specs.declared.job.Opening.{Opening}
+use Rattle.fc_ticket.specs.declared.job.Origin.{Origin}
 use Rattle.fc_core.specs.declared.event.Event.{Event}
 use Rattle.fc_core.specs.declared.event.Event.TheVariants.{Deliver, Due, Fire, Answer}
 use Rattle.fc_laws.specs.ExchangeLaws.{IsOfRequest, is_within, repeated}
 use Rattle.fc_core.specs.History.{Entry, History, BeginsWith, Then, Seen, seen, and_then, answered_in, due_in, front_at, job, received_at, stage, tasks_brought, at_front, exchanges_by}
 use Rattle.fc_core.specs.Laws.{HasCome}
 use Rattle.coap_block.specs.Uploads.{Add, Continues, IsWhole, IsIncomplete, IsBadLength, IsTooLarge, IsFull}
-use Rattle.fc_core.specs.Policies.{is_allowed}
-use Rattle.fc_core.specs.Receiving.{Received, Silenced, Refused, add_in, received_added, request_received, brought, is_confirmable, kept_of, look_in, looked, next_opening, opened_by, over_share, received_as, received_read, received_if}
+use Rattle.fc_front.specs.Policies.{is_allowed}
+use Rattle.fc_front.specs.Receiving.{Received, Silenced, Refused, add_in, received_added, request_received, brought, is_confirmable, kept_of, look_in, looked, next_opening, opened_by, over_share, received_as, received_read, received_if}
 use Rattle.fc_core.specs.Stages.{content_at, new_task}
 use Rattle.fc_core.proofs.Lists.{Each}
 use Rattle.fc_laws.proofs.jobs.Others.{job_stays}

@@ -5,13 +5,13 @@ use Rattle.std.proofs.lemmas.Bool.{cases_lt}
 use Rattle.std.proofs.lemmas.List.{append-nil, append_assoc, length-map}
 use Rattle.coap_msg.specs.declared.types.Emission.{Emission}
 use Rattle.coap_msg.specs.declared.types.Endpoint.{Endpoint}
-use Rattle.fc_registry.specs.declared.job.Job.{Job}
-use Rattle.fc_registry.specs.declared.job.Opening.{Opening}
+use Rattle.fc_ticket.specs.declared.job.Job.{Job}
+use Rattle.fc_ticket.specs.declared.job.Opening.{Opening}
 use Rattle.fc_core.specs.declared.event.Event.{Event}
 use Rattle.fc_core.specs.declared.event.Event.TheVariants.{Answer, Deliver, Due, Fire}
 use Rattle.fc_core.specs.History.{Entry, History, BeginsWith, Then, Seen, seen, and_then, at_front, due_in, exchanges_by, front_at, job, received_at, stage, tasks_brought}
 use Rattle.fc_core.specs.Laws.{HasCome}
-use Rattle.fc_core.specs.Receiving.{Received, Opened, brought, next_opening, opened_by}
+use Rattle.fc_front.specs.Receiving.{Received, Opened, brought, next_opening, opened_by}
 use Rattle.fc_core.specs.Stages.{content_at}
 use Rattle.fc_core.proofs.Lists.{Each}
 use Rattle.fc_laws.specs.ExchangeLaws.{Arrival, IsInPlace, IsOfRequest, arrival_of, arrival_of_job, arrivals}

@@ -14,17 +14,19 @@ use Rattle.fc_observe.specs.declared.entry.Turn.{Turn}
 use Rattle.fc_observe.specs.Calls.{ObserverCall, Advance, observers}
 use Rattle.fc_observe.specs.Observers.{ObserverList, list_at_time, entry_out, is_missing, must_confirm_turn}
 use Rattle.fc_observe.specs.Views.{interest_of}
-use Rattle.fc_registry.specs.declared.job.InitialVars.{InitialVars}
-use Rattle.fc_registry.specs.Calls.{clear_by, commits, is_out_at, mark_missing_calls, outcome_by, put_by, initial_vars_of}
+use Rattle.fc_ticket.specs.declared.job.InitialVars.{InitialVars}
+use Rattle.fc_registry.specs.Calls.{clear_by, commits, is_out_at, mark_missing_calls, outcome_by, put_by}
+use Rattle.fc_ticket.specs.Runs.{initial_vars_of}
 use Rattle.fc_registry.specs.Changes.{Change}
-use Rattle.fc_registry.specs.Notes.{note_to, observer_told, told_calls}
-use Rattle.fc_registry.specs.Slots.{Present, Ticket, last_serial}
+use Rattle.fc_ticket.specs.Notes.{note_to, observer_told, told_calls}
+use Rattle.fc_ticket.specs.Tickets.{Present, Ticket}
+use Rattle.fc_registry.specs.Slots.{last_serial}
 use Rattle.fc_core.specs.declared.event.Event.{Event}
 use Rattle.fc_core.specs.declared.event.Event.TheVariants.{Answer, Commit, Fresh, Install, Note, Receipt, Refuse, Remove, Take}
 use Rattle.fc_core.specs.Stage.{Stage}
 use Rattle.fc_core.specs.Stage.{ToAnswer, ToCommit, ToDescribe, ToInstall, ToRemove, ToTake, ToTell}
 use Rattle.fc_core.specs.TurnStage as turns
-use Rattle.fc_core.specs.Heads.{published}
+use Rattle.fc_front.specs.Heads.{published}
 use Rattle.fc_core.specs.History.{Entry, Seen, additions_by, and_then, answered_in, at_front, calls_named, changes_after, did, exchanges_by, job, inputs, stage, tasks_brought, tasks_moved, watch, words_seen, at_shard, calls_by}
 use Rattle.fc_core.specs.Laws.{slot_of}
 use Rattle.fc_core.specs.Transitions.{Effect, Inputs, call_at, call_if, install_if, effect_of, names, transition}

@@ -16,7 +16,7 @@ use Rattle.fc_core.specs.declared.event.Event.TheVariants.{Deliver}
 use Rattle.fc_laws.specs.ExchangeLaws.{bare_by}
 use Rattle.fc_core.specs.History.{Entry, Seen, and_then, exchanges_received, front_at, received_at, tasks_brought, tasks_moved, at_front, exchanges_by}
 use Rattle.fc_core.specs.Legal.{Emits}
-use Rattle.fc_core.specs.Receiving.{Received, Refused, Rejected, brought, next_opening, received_as, sent, received_if}
+use Rattle.fc_front.specs.Receiving.{Received, Refused, Rejected, brought, next_opening, received_as, sent, received_if}
 use Rattle.fc_laws.specs.ReplyLaws.{FormatError, IsRefusal, IsRefusedAnew, IsRejected, NoRequest, Refuses, Rejects, reset_to}
 use Rattle.fc_core.specs.Stages.{new_task}
 use Rattle.fc_core.specs.Transitions.{names}

@@ -16,19 +16,19 @@ use Rattle.coap_dedup.specs.Exchanges.{Exchange}
 use Rattle.coap_dedup.specs.Exchanges.{Look, IsNew, IsBusy, IsAgain, IsSilent as IsAnsweredNon, IsFull, IsOverShare, Table, answered_if, has_place, has_share, is_of, look_by, places_of, repeated_by, room_at, room_by}
 use Rattle.coap_dedup.specs.declared.exchanges.Room.{Room}
 use Rattle.coap_dedup.specs.declared.exchanges.Room.TheVariants.{Free, Full, OverShare}
-use Rattle.fc_registry.specs.declared.job.Job.{Job}
-use Rattle.fc_registry.specs.declared.job.Opening.{Opening}
+use Rattle.fc_ticket.specs.declared.job.Job.{Job}
+use Rattle.fc_ticket.specs.declared.job.Opening.{Opening}
 use Rattle.fc_core.specs.declared.event.Event.{Event}
 use Rattle.fc_core.specs.declared.event.Event.TheVariants.{Deliver, Answer}
-use Rattle.fc_core.specs.Exchanges.{FrontState}
+use Rattle.fc_front.specs.Exchanges.{FrontState}
 use Rattle.fc_laws.specs.ExchangeLaws.{Arrival, ArrivesBy, IsOnRequest, IsOpening, IsRepeat, Opens, OpensOne, Repeats, again, arrival_of, arrivals, held_at, is_within, repeat_emits, repeated, shared_at}
 use Rattle.fc_core.specs.History.{Entry, Seen, and_then, answered_in, exchanges_received, front_at, job, received_at, stage, tasks_brought, tasks_moved, at_front, exchanges_by, additions_by, ids_by}
-use Rattle.fc_core.specs.Ids.{Ids}
+use Rattle.fc_front.specs.Ids.{Ids}
 use Rattle.fc_core.specs.Legal.{Emits}
 use Rattle.coap_block.specs.Transfers.{Addition}
 use Rattle.coap_block.specs.Uploads.{Add, Continues, IsWhole, IsIncomplete, IsBadLength, IsTooLarge, IsFull}
-use Rattle.fc_core.specs.Policies.{is_allowed}
-use Rattle.fc_core.specs.Receiving.{Received, add_in, added_by, is_confirmable, received_added, request_received, Unanswered, Again, Silenced, Refused, brought, drawn_by, kept_of, look_in, looked, next_opening, opened_by, over_share, received, received_as, received_read, sent, received_if}
+use Rattle.fc_front.specs.Policies.{is_allowed}
+use Rattle.fc_front.specs.Receiving.{Received, add_in, added_by, is_confirmable, received_added, request_received, Unanswered, Again, Silenced, Refused, brought, drawn_by, kept_of, look_in, looked, next_opening, opened_by, over_share, received, received_as, received_read, sent, received_if}
 use Rattle.fc_core.specs.Stages.{content_at, new_task}
 use Rattle.fc_core.specs.Transitions.{names}
 

@@ -17,9 +17,9 @@ use Rattle.fc_core.specs.declared.event.Event.TheVariants.{Deliver}
 use Rattle.fc_laws.specs.ExchangeLaws.{ExceedsShare, FindsNoExchange, HasNoPlace, IsCrowdedOut, IsOverShare, bare_by, held_at, shared_at}
 use Rattle.fc_laws.specs.PolicyLaws.{over_share_emits}
 use Rattle.fc_core.specs.History.{Entry, Seen, and_then, exchanges_received, front_at, received_at, tasks_brought, tasks_moved, at_front, exchanges_by, additions_by, ids_by}
-use Rattle.fc_core.specs.Ids.{Ids, drawn_for}
+use Rattle.fc_front.specs.Ids.{Ids, drawn_for}
 use Rattle.fc_core.specs.Legal.{Emits}
-use Rattle.fc_core.specs.Receiving.{Received, Full, added_by, brought, drawn_by, is_confirmable, looked, next_opening, over_share, sent}
+use Rattle.fc_front.specs.Receiving.{Received, Full, added_by, brought, drawn_by, is_confirmable, looked, next_opening, over_share, sent}
 use Rattle.fc_core.specs.Stages.{new_task}
 use Rattle.fc_core.specs.Transitions.{names}
 use Rattle.fc_laws.proofs.front.Repeats.{new_as, request_is, table_at}

@@ -12,9 +12,9 @@ use Rattle.coap_msg.specs.Wire.{Message}
 use Rattle.coap_dedup.specs.Exchanges.{Exchange, is_at, places_of, share_of}
 use Rattle.fc_core.specs.declared.event.Event.{Event}
 use Rattle.fc_core.specs.declared.event.Event.TheVariants.{Deliver}
-use Rattle.fc_core.specs.declared.policy.Policy.{Policy}
+use Rattle.fc_front.specs.declared.policy.Policy.{Policy}
 use Rattle.fc_core.specs.History.{BeginsWith, Entry, History, Seen, Then, and_then, at_front, time_by, seen}
-use Rattle.fc_core.specs.Policies.{default_policy}
+use Rattle.fc_front.specs.Policies.{default_policy}
 use Rattle.fc_laws.specs.ExchangeLaws.{Arrival, ArrivesBy, ExceedsShare, Opens, arrival_of, arrivals, held_at, is_within, shared_at}
 use Rattle.fc_laws.proofs.front.Repeats.{others_open_nothing, requests_open}
 use Rattle.fc_laws.proofs.front.Moving.{time_rises}

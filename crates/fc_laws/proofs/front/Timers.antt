@@ -8,21 +8,21 @@ use Rattle.coap_msg.specs.declared.types.Emission.{Emission}
 use Rattle.coap_msg.specs.declared.types.Endpoint.{Endpoint}
 use Rattle.coap_msg.specs.Wire.{Message}
 use Rattle.coap_dedup.specs.Exchanges.{Exchange}
-use Rattle.fc_registry.specs.declared.job.Job.{Job}
-use Rattle.fc_registry.specs.declared.job.Opening.{Opening}
-use Rattle.fc_core.specs.Contents.{Content}
+use Rattle.fc_ticket.specs.declared.job.Job.{Job}
+use Rattle.fc_ticket.specs.declared.job.Opening.{Opening}
+use Rattle.fc_front.specs.Contents.{Content}
 use Rattle.fc_core.specs.declared.event.Event.{Event}
 use Rattle.fc_core.specs.declared.event.Event.TheVariants.{Answer, Deliver, Due, Fire}
 use Rattle.fc_core.specs.declared.stage.Task.{Task}
-use Rattle.fc_core.specs.Exchanges.{has_exchange, opening_is_live}
+use Rattle.fc_front.specs.Exchanges.{has_exchange, opening_is_live}
 use Rattle.fc_core.specs.History.{Entry, History, BeginsWith, Then, Seen, seen, and_then, at_front, did, due_in, exchanges_by, front_at, ids_answered, job, no_task, received_at, stage, tasks_brought}
-use Rattle.fc_core.specs.Ids.{Ids}
+use Rattle.fc_front.specs.Ids.{Ids}
 use Rattle.fc_core.specs.Laws.{HasCome, followed_by, slot_of}
 use Rattle.fc_core.specs.Legal.{Emits}
-use Rattle.fc_core.specs.Receiving.{Received, Opened, brought, next_opening, opened_by}
+use Rattle.fc_front.specs.Receiving.{Received, Opened, brought, next_opening, opened_by}
 use Rattle.fc_core.specs.Stage.{ToTake, ToAnswer, ToTell, Gone}
 use Rattle.fc_core.specs.Stages.{content_at, new_task}
-use Rattle.fc_core.specs.Timers.{timer_job}
+use Rattle.fc_front.specs.Timers.{timer_job}
 use Rattle.fc_core.specs.TurnStage.{TurnStage}
 use Rattle.fc_core.proofs.Lists.{Each}
 use Rattle.fc_core.proofs.Unsent.{never_live, unsent}

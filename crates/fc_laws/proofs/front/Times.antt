@@ -1,7 +1,7 @@
 -- The times of the front and of the shards.
 use Rattle.std.proofs.Common.{◌≡◌, ℕ, List, ◌++◌, Bool, true, false, Option, Some, None, refl, sym, ap, ◌∙◌, max, if◌then◌else◌, [], ◌∷◌}
 use Rattle.std.specs.Prelude.{is_some, nat_lt, ◌%◌, ◌==◌, ◌&&◌}
-use Rattle.fc_registry.specs.declared.job.Job.{Job}
+use Rattle.fc_ticket.specs.declared.job.Job.{Job}
 use Rattle.fc_registry.specs.Slots.{Slot}
 use Rattle.fc_core.specs.declared.event.Event.{Event}
 use Rattle.fc_core.specs.declared.event.Event.TheVariants.{Deliver, Answer, Tick, Fire, Fresh, Due, ShardTick}

@@ -20,7 +20,7 @@ use Rattle.fc_core.specs.declared.event.Event.{Event}
 use Rattle.fc_core.specs.declared.event.Event.TheVariants.{Deliver}
 use Rattle.fc_laws.specs.ExchangeLaws.{ExceedsShare, FindsNoExchange, IsOpening}
 use Rattle.fc_core.specs.History.{Entry, Seen, and_then, did, exchanges_received, front_at, received_at}
-use Rattle.fc_core.specs.Receiving.{Received, Full, Ignored, Rejected, Immediate, Silenced, Unanswered, add_in, added_by, brought, is_confirmable, next_opening, over_share, received_added, received_as, slot_asked}
+use Rattle.fc_front.specs.Receiving.{Received, Full, Ignored, Rejected, Immediate, Silenced, Unanswered, add_in, added_by, brought, is_confirmable, next_opening, over_share, received_added, received_as, slot_asked}
 use Rattle.fc_laws.specs.RefusalLaws.{ByCode, FindsNoRoom, InSilence, IsAboveShare, IsNoMessage, IsNoRequest, IsRefusedByCheck, IsRejected, IsTurnedDown, LeavesAll, LeavesAllButExchange, LeavesAllButTransfer, sender}
 use Rattle.fc_laws.specs.ReplyLaws.{Refuses, Rejects}
 use Rattle.fc_core.specs.Stages.{new_task}

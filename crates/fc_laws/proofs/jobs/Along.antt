@@ -4,8 +4,8 @@ use Rattle.std.specs.Prelude.{length}
 use Rattle.std.proofs.lemmas.Bool.{eq-eqb, ne_eqb}
 use Rattle.std.proofs.lemmas.List.{get_or_past}
 use Rattle.fc_observe.specs.declared.entry.Turn.{Turn}
-use Rattle.fc_registry.specs.declared.job.Ask.{Ask}
-use Rattle.fc_registry.specs.declared.job.Job.{Job}
+use Rattle.fc_ticket.specs.declared.job.Ask.{Ask}
+use Rattle.fc_ticket.specs.declared.job.Job.{Job}
 use Rattle.fc_registry.specs.Calls.{turn_of}
 use Rattle.fc_store.specs.Stored.{StoredSlots}
 use Rattle.fc_core.specs.declared.event.Event.{Event}
@@ -13,7 +13,7 @@ use Rattle.fc_core.specs.Stage.{Stage}
 use Rattle.fc_core.specs.Stage.{ToTell, Gone}
 use Rattle.fc_core.specs.TurnStage as turns
 use Rattle.fc_core.specs.declared.stage.Task.{Task}
-use Rattle.fc_core.specs.declared.policy.Policy.{Policy}
+use Rattle.fc_front.specs.declared.policy.Policy.{Policy}
 use Rattle.fc_core.specs.History.{Entry, History, BeginsWith, Then, Seen, seen, and_then, no_task, inputs, stage, task_at}
 use Rattle.fc_core.specs.Laws.{is_named, is_job}
 use Rattle.fc_core.specs.Stages.{first_by, first_or_turn, first_stage}

@@ -1,17 +1,19 @@
 -- A job is answered at most once, and a job that has ended stays ended.
 use Rattle.std.proofs.Common.{◌≡◌, ℕ, ◌+◌, ◌≤◌, List, [], ◌∷◌, ◌++◌, Bool, true, false, Option, Some, None, refl, sym, ap, ◌∙◌, subst, arith, if◌then◌else◌}
 use Rattle.coap_msg.specs.declared.types.Emission.{Emission}
-use Rattle.fc_registry.specs.declared.job.Ask.{Ask}
-use Rattle.fc_registry.specs.declared.job.Job.{Job}
-use Rattle.fc_registry.specs.Slots.{Slot, Present, Ticket}
+use Rattle.fc_ticket.specs.declared.job.Ask.{Ask}
+use Rattle.fc_ticket.specs.declared.job.Job.{Job}
+use Rattle.fc_registry.specs.Slots.{Slot}
+use Rattle.fc_ticket.specs.Tickets.{Present, Ticket}
 use Rattle.fc_registry.specs.Changes.{Change}
-use Rattle.fc_registry.specs.Calls.{commit_of, run_of, snapshot, ticket_of}
+use Rattle.fc_registry.specs.Calls.{commit_of, snapshot}
+use Rattle.fc_ticket.specs.Runs.{run_of, ticket_of}
 use Rattle.fc_core.specs.declared.event.Event.{Event}
 use Rattle.fc_core.specs.declared.event.Event.TheVariants.{Take, Install, Raise, Answer, Lose}
 use Rattle.fc_core.specs.Stage.{Stage}
 use Rattle.fc_core.specs.Stage.{ToTake, ToCommit, ToInstall, ToRaise, ToAnswer, Gone, ToTell}
 use Rattle.fc_core.specs.TurnStage as turns
-use Rattle.fc_core.specs.Contents.{Content, Unavailable}
+use Rattle.fc_front.specs.Contents.{Content, Unavailable}
 use Rattle.fc_core.specs.History.{around, Entry, History, Then, Seen, seen, and_then, did, job, inputs, slot_at, stage, task_at}
 use Rattle.fc_core.specs.Laws.{HasCome, Snapshot, answers_of, gives, is_answered, is_named, followed_by, slot_of, snapshots_of}
 use Rattle.fc_core.specs.Stages.{first_by, took}

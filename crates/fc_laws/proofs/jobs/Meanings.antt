@@ -2,10 +2,10 @@
 use Rattle.std.proofs.Common.{◌≡◌, ℕ, List, [], ◌∷◌, ◌++◌, Bool, true, false, Option, Some, None, refl, ap, subst, if◌then◌else◌}
 use Rattle.std.proofs.lemmas.Bool.{eqb-true}
 use Rattle.fc_observe.specs.declared.entry.Turn.{Turn}
-use Rattle.fc_registry.specs.declared.job.Job.{Job}
+use Rattle.fc_ticket.specs.declared.job.Job.{Job}
 use Rattle.fc_registry.specs.Calls.{is_out_at}
 use Rattle.fc_registry.specs.Changes.{Change}
-use Rattle.fc_registry.specs.Slots.{Present, Ticket}
+use Rattle.fc_ticket.specs.Tickets.{Present, Ticket}
 use Rattle.fc_core.specs.declared.event.Event.{Event}
 use Rattle.fc_core.specs.declared.event.Event.TheVariants.{Take}
 use Rattle.fc_core.specs.History.{BeginsWith, History, Then, Seen, inputs, seen, stage}

@@ -3,7 +3,7 @@ use Rattle.std.proofs.Common.{◌≡◌, ℕ, [], ◌++◌, set, Bool, true, fal
 use Rattle.std.specs.Prelude.{◌==◌, ◌%◌, length, not, List}
 use Rattle.std.proofs.lemmas.List.{append-nil, set-get_or}
 use Rattle.coap_msg.specs.declared.types.Emission.{Emission}
-use Rattle.fc_registry.specs.declared.job.Job.{Job}
+use Rattle.fc_ticket.specs.declared.job.Job.{Job}
 use Rattle.fc_registry.specs.Calls.{wants}
 use Rattle.fc_registry.specs.Slots.{Slot}
 use Rattle.fc_core.specs.declared.event.Event.{Event}
@@ -11,7 +11,7 @@ use Rattle.fc_core.specs.declared.event.Event.TheVariants.{Deliver, Peek, Take, 
 use Rattle.fc_core.specs.Stage.{Stage}
 use Rattle.fc_core.specs.Stage.{ToAnswer, Gone, ToTell}
 use Rattle.fc_core.specs.TurnStage as turns
-use Rattle.fc_core.specs.Contents.{Content}
+use Rattle.fc_front.specs.Contents.{Content}
 use Rattle.fc_core.specs.Stages.{content_at, is_refusable, needs_id}
 use Rattle.fc_core.specs.Steps.{Call, RefusesChange, next_stage}
 use Rattle.fc_core.specs.declared.stage.Task.{Task}
@@ -20,7 +20,7 @@ use Rattle.fc_core.specs.History.{Entry, Seen, and_then, calls_named, changes_af
 use Rattle.coap_block.specs.Transfers.{Addition}
 use Rattle.fc_core.specs.Laws.{is_noop, is_noop_at}
 use Rattle.fc_core.specs.Legal.{Emits, AnswerEmits}
-use Rattle.fc_core.specs.Exchanges.{FrontState}
+use Rattle.fc_front.specs.Exchanges.{FrontState}
 use Rattle.fc_core.proofs.ByStep.{Step, by_step, event_by, effect_by, stage_by, IsAsked}
 use Rattle.fc_core.proofs.ByStep as steps
 

@@ -8,16 +8,19 @@ use Rattle.fc_kinds.specs.Meaning.{Program}
 use Rattle.fc_verify.specs.Accepted.{Judgement, Accepts, Breaks, Untypable}
 use Rattle.fc_verify.specs.Judged.{judged}
 use Rattle.fc_observe.specs.declared.entry.Turn.{Turn}
-use Rattle.fc_registry.specs.declared.job.InitialVars.{InitialVars}
-use Rattle.fc_registry.specs.declared.job.Ask.{Ask}
-use Rattle.fc_registry.specs.declared.job.Ask.TheVariants.{Run}
-use Rattle.fc_registry.specs.declared.job.Job.{Job}
+use Rattle.fc_ticket.specs.declared.job.InitialVars.{InitialVars}
+use Rattle.fc_ticket.specs.declared.job.Ask.{Ask}
+use Rattle.fc_ticket.specs.declared.job.Ask.TheVariants.{Run}
+use Rattle.fc_ticket.specs.declared.job.Job.{Job}
 use Rattle.fc_registry.specs.declared.commit.CommitOutcome.{CommitOutcome}
 use Rattle.fc_registry.specs.declared.commit.CommitOutcome.TheVariants.{Writes, Keeps, Overtakes, Ends}
-use Rattle.fc_registry.specs.Slots.{Slot, Present, Ticket, last_serial}
+use Rattle.fc_registry.specs.Slots.{Slot, last_serial}
+use Rattle.fc_ticket.specs.Tickets.{Present, Ticket}
 use Rattle.fc_registry.specs.Changes.{Change}
-use Rattle.fc_registry.specs.declared.receipt.Receipt.{Receipt as Facts}
-use Rattle.fc_registry.specs.Calls.{is_observed, clear_by, meaning_at, outcome, outcome_by, put_by, is_out_at, receipt_at, receipt_of, snapshot, turn_snapshot, wants, readings_if, initial_vars_of}
+use Rattle.fc_ticket.specs.declared.receipt.Receipt.{Receipt as Facts}
+use Rattle.fc_ticket.specs.Registrations.{is_observed}
+use Rattle.fc_registry.specs.Calls.{clear_by, outcome, outcome_by, put_by, is_out_at, receipt_at, snapshot, turn_snapshot, wants, readings_if}
+use Rattle.fc_ticket.specs.Runs.{meaning_at, receipt_of, initial_vars_of}
 use Rattle.fc_core.specs.declared.event.Event.{Event}
 use Rattle.fc_core.specs.declared.event.Event.TheVariants.{Take, Commit}
 use Rattle.fc_core.specs.Stage.{Stage}
@@ -25,8 +28,8 @@ use Rattle.fc_core.specs.Stage.{ToMatch, ToTake, ToCommit, ToInstall, ToList, To
 use Rattle.fc_core.specs.TurnStage.{TurnStage}
 use Rattle.fc_core.specs.TurnStage as turns
 use Rattle.coap_reply.specs.Blocks.{cut_for}
-use Rattle.fc_core.specs.Contents.{Content, Listed, Ran, RunAnswer, run_answer, Unavailable}
-use Rattle.fc_core.specs.Heads.{is_match, word_at}
+use Rattle.fc_front.specs.Contents.{Content, Listed, Ran, RunAnswer, run_answer, Unavailable}
+use Rattle.fc_front.specs.Heads.{is_match, word_at}
 use Rattle.fc_core.specs.History.{around, Entry, History, Then, Seen, seen, and_then, did, job, inputs, slot_at, stage}
 use Rattle.fc_core.specs.Laws.{IsNewest, IsOfNewest, IsOvertaken, Snapshot, TakesAgain, answer_at, finds_if, gives, slot_of, snapshots_of}
 use Rattle.fc_core.specs.Stages.{first_by, image_of, made, matched_by, removed, retaken, receipt_content, took, turn_took, with_id}

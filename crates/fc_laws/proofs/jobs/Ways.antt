@@ -4,14 +4,16 @@ use Rattle.std.specs.Prelude.{◌%◌, ◌==◌, ◌||◌}
 use Rattle.std.specs.List.{list_any}
 use Rattle.std.proofs.lemmas.Bool.{and_parts, eq-eqb, eqb-true}
 use Rattle.coap_msg.specs.declared.types.Emission.{Emission}
-use Rattle.fc_registry.specs.declared.job.Job.{Job}
-use Rattle.fc_registry.specs.Calls.{commits, is_observed, outcome_by, wants}
-use Rattle.fc_registry.specs.Slots.{Slot, Ticket, last_serial}
+use Rattle.fc_ticket.specs.declared.job.Job.{Job}
+use Rattle.fc_registry.specs.Calls.{commits, outcome_by, wants}
+use Rattle.fc_ticket.specs.Registrations.{is_observed}
+use Rattle.fc_registry.specs.Slots.{Slot, last_serial}
+use Rattle.fc_ticket.specs.Tickets.{Ticket}
 use Rattle.fc_core.specs.AnswerLaws.{HasSerial}
 use Rattle.fc_core.specs.declared.event.Event.TheVariants.{Commit, Peek}
 use Rattle.fc_core.specs.Stage.{Stage}
 use Rattle.fc_core.specs.Stage.{ToAnswer, ToCommit, ToMatch, ToTake}
-use Rattle.fc_core.specs.Heads.{head_word, is_match, is_present, serial_in, word_at}
+use Rattle.fc_front.specs.Heads.{head_word, is_match, is_present, serial_in, word_at}
 use Rattle.fc_core.specs.History.{Seen, and_then, around, did, job, slot_at, stage, watch}
 use Rattle.fc_core.specs.Laws.{slot_of}
 use Rattle.fc_core.specs.Transitions.{Around, Inputs, call_if, effect_of, transition}

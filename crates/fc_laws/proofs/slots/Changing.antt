@@ -5,19 +5,21 @@ use Rattle.std.proofs.lemmas.Bool.{cases_Bool, cases_lt, eqb-true}
 use Rattle.fc_kinds.specs.Meaning.{Program}
 use Rattle.fc_verify.specs.Accepted.{Judgement, Accepts, Breaks, Untypable}
 use Rattle.fc_verify.specs.Judged.{judged}
-use Rattle.fc_registry.specs.declared.job.InitialVars.{InitialVars}
-use Rattle.fc_registry.specs.declared.job.Job.{Job}
+use Rattle.fc_ticket.specs.declared.job.InitialVars.{InitialVars}
+use Rattle.fc_ticket.specs.declared.job.Job.{Job}
 use Rattle.fc_registry.specs.declared.commit.CommitOutcome.{CommitOutcome}
 use Rattle.fc_registry.specs.declared.commit.CommitOutcome.TheVariants.{Writes, Keeps, Overtakes, Ends}
-use Rattle.fc_registry.specs.Slots.{Slot, Present, Ticket, last_serial}
-use Rattle.fc_registry.specs.Calls.{clear_by, outcome, put_by, receipt_of, snapshot, readings_if, initial_vars_of}
+use Rattle.fc_registry.specs.Slots.{Slot, last_serial}
+use Rattle.fc_ticket.specs.Tickets.{Present, Ticket}
+use Rattle.fc_registry.specs.Calls.{clear_by, outcome, put_by, snapshot, readings_if}
+use Rattle.fc_ticket.specs.Runs.{receipt_of, initial_vars_of}
 use Rattle.fc_core.specs.declared.event.Event.{Event}
 use Rattle.fc_core.specs.declared.event.Event.TheVariants.{Deliver, Due, Fire, ShardTick, Signal, Take, Tick}
 use Rattle.fc_core.specs.Stage.{Stage}
 use Rattle.fc_core.specs.Stage.{ToMatch, ToTake, ToCommit, ToInstall, ToRemove, ToList, ToRaise, ToAnswer, Gone, ToTell}
 use Rattle.fc_core.specs.TurnStage as turns
-use Rattle.fc_core.specs.Contents.{Content, Listed, Unavailable}
-use Rattle.fc_core.specs.Heads.{is_match, word_at}
+use Rattle.fc_front.specs.Contents.{Content, Listed, Unavailable}
+use Rattle.fc_front.specs.Heads.{is_match, word_at}
 use Rattle.fc_core.specs.History.{around, Entry, History, Then, Seen, seen, and_then, job, inputs, slot_at, stage}
 use Rattle.fc_core.specs.Laws.{HasCome, changes_by, is_named, is_job, is_noop, is_noop_at, own_of_named, slot_of, stage_named}
 use Rattle.fc_laws.specs.SlotLaws.{IsToRaise}

@@ -4,20 +4,22 @@ use Rattle.std.specs.Prelude.{nat_lt}
 use Rattle.fc_kinds.specs.Meaning.{Program}
 use Rattle.fc_verify.specs.Accepted.{Judgement, Accepts, Breaks, Untypable}
 use Rattle.fc_verify.specs.Judged.{judged}
-use Rattle.fc_registry.specs.declared.job.InitialVars.{InitialVars}
-use Rattle.fc_registry.specs.declared.job.Job.{Job}
+use Rattle.fc_ticket.specs.declared.job.InitialVars.{InitialVars}
+use Rattle.fc_ticket.specs.declared.job.Job.{Job}
 use Rattle.fc_registry.specs.declared.commit.CommitOutcome.{CommitOutcome}
 use Rattle.fc_registry.specs.declared.commit.CommitOutcome.TheVariants.{Writes, Keeps, Overtakes, Ends}
-use Rattle.fc_registry.specs.Slots.{Slot, Present, Ticket, last_serial}
+use Rattle.fc_registry.specs.Slots.{Slot, last_serial}
+use Rattle.fc_ticket.specs.Tickets.{Present, Ticket}
 use Rattle.fc_registry.specs.Changes.{after_changes}
-use Rattle.fc_registry.specs.Calls.{clear_by, outcome, put_by, receipt_at, receipt_of, snapshot, readings_if, initial_vars_of}
+use Rattle.fc_registry.specs.Calls.{clear_by, outcome, put_by, receipt_at, snapshot, readings_if}
+use Rattle.fc_ticket.specs.Runs.{receipt_of, initial_vars_of}
 use Rattle.fc_core.specs.declared.event.Event.{Event}
 use Rattle.fc_core.specs.Stage.{Stage}
 use Rattle.fc_core.specs.Stage.{ToTake, ToInstall, ToList, ToAnswer, ToTell}
 use Rattle.fc_core.specs.TurnStage as turns
 use Rattle.fc_core.specs.declared.stage.Task.{Task}
-use Rattle.fc_core.specs.Contents.{Content, Deleted, Listed, Unavailable}
-use Rattle.fc_core.specs.Heads.{is_match, word_at}
+use Rattle.fc_front.specs.Contents.{Content, Deleted, Listed, Unavailable}
+use Rattle.fc_front.specs.Heads.{is_match, word_at}
 use Rattle.fc_core.specs.History.{around, Entry, History, Then, Seen, seen, and_then, job, slot_at, stage, task_at}
 use Rattle.fc_core.specs.Laws.{HasCome, answer_at, slot_of}
 use Rattle.fc_core.specs.Stages.{image_of, made, matched_by, removed, receipt_content, took}

@@ -4,21 +4,23 @@ use Rattle.std.specs.Prelude.{nat_lt, is_some}
 use Rattle.fc_verify.specs.Accepted.{Judgement, Accepts, Breaks, Untypable}
 use Rattle.fc_verify.specs.Judged.{judged}
 use Rattle.fc_kinds.specs.Meaning.{Program}
-use Rattle.fc_registry.specs.declared.job.InitialVars.{InitialVars}
-use Rattle.fc_registry.specs.declared.job.Job.{Job}
+use Rattle.fc_ticket.specs.declared.job.InitialVars.{InitialVars}
+use Rattle.fc_ticket.specs.declared.job.Job.{Job}
 use Rattle.fc_registry.specs.declared.commit.CommitOutcome.{CommitOutcome}
 use Rattle.fc_registry.specs.declared.commit.CommitOutcome.TheVariants.{Writes, Keeps, Overtakes, Ends}
-use Rattle.fc_registry.specs.Slots.{Slot, Present, Ticket, last_serial}
+use Rattle.fc_registry.specs.Slots.{Slot, last_serial}
+use Rattle.fc_ticket.specs.Tickets.{Present, Ticket}
 use Rattle.fc_registry.specs.Changes.{after_changes, with_vars}
-use Rattle.fc_registry.specs.Calls.{clear_by, commit_of, outcome, put_by, receipt_of, snapshot, readings_if, initial_vars_of}
+use Rattle.fc_registry.specs.Calls.{clear_by, commit_of, outcome, put_by, snapshot, readings_if}
+use Rattle.fc_ticket.specs.Runs.{receipt_of, initial_vars_of}
 use Rattle.fc_core.specs.declared.event.Event.{Event}
 use Rattle.fc_core.specs.Stage.{Stage}
 use Rattle.fc_core.specs.Stage.{ToMatch, ToTake, ToCommit, ToInstall, ToRemove, ToList, ToRaise, ToAnswer, ToTell}
 use Rattle.fc_core.specs.TurnStage as turns
 use Rattle.fc_core.specs.declared.stage.Task.{Task}
-use Rattle.fc_core.specs.Contents.{Listed, Unavailable}
+use Rattle.fc_front.specs.Contents.{Listed, Unavailable}
 use Rattle.fc_core.specs.Fits.{FitsStage}
-use Rattle.fc_core.specs.Heads.{head_word, is_match, word_at}
+use Rattle.fc_front.specs.Heads.{head_word, is_match, word_at}
 use Rattle.fc_core.specs.History.{first_slot, around, Entry, History, Then, Seen, seen, and_then, job, inputs, slot_at, stage, task_at}
 use Rattle.fc_laws.specs.HeadLaws.{PublishesAt}
 use Rattle.fc_core.specs.Laws.{HasCome, slot_of}

@@ -3,13 +3,13 @@ use Rattle.std.proofs.Common.{◌≡◌, ℕ, Bool, true, Option, refl, ap, ◌�
 use Rattle.std.specs.Prelude.{◌⊎◌, not}
 use Rattle.coap_msg.specs.declared.types.Emission.{Emission}
 use Rattle.fc_help.specs.declared.request.Method.TheVariants.{Get, Post}
-use Rattle.fc_registry.specs.Calls.{meaning_at}
+use Rattle.fc_ticket.specs.Runs.{meaning_at}
 use Rattle.fc_registry.specs.Record.{code_class}
-use Rattle.fc_registry.specs.Slots.{Ticket}
+use Rattle.fc_ticket.specs.Tickets.{Ticket}
 use Rattle.fc_core.specs.declared.event.Event.TheVariants.{Refuse}
 use Rattle.fc_core.specs.Stage.{Stage}
 use Rattle.fc_core.specs.Stage.{ToCommit, ToInstall, ToRaise, ToRemove, ToAnswer}
-use Rattle.fc_core.specs.Contents.{Content, Unavailable}
+use Rattle.fc_front.specs.Contents.{Content, Unavailable}
 use Rattle.fc_core.specs.History.{around, Seen, and_then, did, job, slot_at, stage}
 use Rattle.fc_core.specs.Laws.{slot_of}
 use Rattle.fc_core.specs.Stages.{is_refusable}

@@ -7,9 +7,10 @@ use Rattle.coap_msg.specs.declared.types.Emission.{Emission}
 use Rattle.fc_kinds.specs.Meaning.{Program}
 use Rattle.fc_verify.specs.Accepted.{Judgement, Accepts, Breaks, Untypable}
 use Rattle.fc_verify.specs.Judged.{judged}
-use Rattle.fc_registry.specs.declared.job.InitialVars.{InitialVars}
-use Rattle.fc_registry.specs.declared.job.InitialVars.TheVariants.{Kept, Zeros}
-use Rattle.fc_registry.specs.Calls.{put_by, receipt_of, initial_vars_of}
+use Rattle.fc_ticket.specs.declared.job.InitialVars.{InitialVars}
+use Rattle.fc_ticket.specs.declared.job.InitialVars.TheVariants.{Kept, Zeros}
+use Rattle.fc_registry.specs.Calls.{put_by}
+use Rattle.fc_ticket.specs.Runs.{receipt_of, initial_vars_of}
 use Rattle.fc_registry.specs.declared.shard.Made.{Made}
 use Rattle.fc_registry.specs.Changes.{Change, Installed, after_changes, vars_installed}
 use Rattle.fc_registry.specs.Slots.{Slot, last_serial, vars_in}

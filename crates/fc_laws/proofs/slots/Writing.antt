@@ -8,13 +8,15 @@ use Rattle.std.proofs.lemmas.List.{nil_from_length}
 use Rattle.coap_msg.specs.declared.types.Emission.{Emission}
 use Rattle.fc_help.specs.declared.request.Method.{Method}
 use Rattle.fc_help.specs.declared.request.Method.TheVariants.{Get, Post}
-use Rattle.fc_registry.specs.declared.job.Job.{Job}
+use Rattle.fc_ticket.specs.declared.job.Job.{Job}
 use Rattle.fc_registry.specs.declared.commit.CommitOutcome.{CommitOutcome}
 use Rattle.fc_registry.specs.declared.commit.CommitOutcome.TheVariants.{Writes, Keeps, Overtakes, Ends}
-use Rattle.fc_registry.specs.Slots.{Slot, Present, Ticket, last_serial}
+use Rattle.fc_registry.specs.Slots.{Slot, last_serial}
+use Rattle.fc_ticket.specs.Tickets.{Present, Ticket}
 use Rattle.fc_registry.specs.Changes.{Change, Committed, after_changes}
 use Rattle.fc_registry.specs.Record.{IsChain, code_class}
-use Rattle.fc_registry.specs.Calls.{commit_of, is_out_at, is_post, meaning_at, outcome, outcome_by, wants}
+use Rattle.fc_registry.specs.Calls.{commit_of, is_out_at, is_post, outcome, outcome_by, wants}
+use Rattle.fc_ticket.specs.Runs.{meaning_at}
 use Rattle.fc_registry.proofs.Installs.{serials_from}
 use Rattle.fc_store.specs.Stored.{StoredSlots}
 use Rattle.fc_core.specs.declared.event.Event.{Event}
@@ -22,7 +24,7 @@ use Rattle.fc_core.specs.declared.event.Event.TheVariants.{Take, Commit}
 use Rattle.fc_core.specs.Stage.{Stage}
 use Rattle.fc_core.specs.Stage.{ToTake, ToCommit, ToTell}
 use Rattle.fc_core.specs.TurnStage as turns
-use Rattle.fc_core.specs.declared.policy.Policy.{Policy}
+use Rattle.fc_front.specs.declared.policy.Policy.{Policy}
 use Rattle.fc_core.specs.History.{first_slot, around, Entry, History, BeginsWith, Then, Seen, seen, and_then, begun, did, job, inputs, slot_at, stage, watch}
 use Rattle.fc_core.specs.Laws.{HasCome, Snapshot, finds, finds_if, gives_at, is_named, slot_of, snapshots_of}
 use Rattle.fc_laws.specs.SlotLaws.{IsUnchanged, IsWritten}

@@ -8,29 +8,31 @@ use Rattle.fc_kinds.specs.Runnable.{IsRunnable}
 use Rattle.fc_verify.specs.Accepted.{Judgement, Judges, Accepts, Breaks, Untypable, IsAccepted}
 use Rattle.fc_verify.specs.Judged.{judged}
 use Rattle.fc_store.specs.Stored.{StoredProgram, StoredSlot, StoredSlots}
-use Rattle.fc_registry.specs.declared.job.InitialVars.{InitialVars}
-use Rattle.fc_registry.specs.declared.job.Job.{Job}
+use Rattle.fc_ticket.specs.declared.job.InitialVars.{InitialVars}
+use Rattle.fc_ticket.specs.declared.job.Job.{Job}
 use Rattle.fc_registry.specs.declared.commit.CommitOutcome.{CommitOutcome}
 use Rattle.fc_registry.specs.declared.commit.CommitOutcome.TheVariants as outcomes
-use Rattle.fc_registry.specs.Calls.{clear_by, input_of, meaning_at, outcome, outcome_by, put_by, wants, initial_vars_of}
+use Rattle.fc_registry.specs.Calls.{clear_by, outcome, outcome_by, put_by, wants}
+use Rattle.fc_ticket.specs.Runs.{input_of, meaning_at, initial_vars_of}
 use Rattle.fc_registry.specs.Changes.{Change, after_changes, with_vars}
 use Rattle.fc_registry.specs.Plans.{IsStoredOf, IsStoredProgram}
 use Rattle.fc_registry.specs.Restored.{at_least, present_if, restored_present, restored_slot}
-use Rattle.fc_registry.specs.Slots.{Present, Slot, Ticket, last_serial, vars_in}
+use Rattle.fc_ticket.specs.Tickets.{Present, Ticket}
+use Rattle.fc_registry.specs.Slots.{Slot, last_serial, vars_in}
 use Rattle.fc_registry.specs.Starts.{CanRestore, CanRestoreProgram}
 use Rattle.fc_registry.proofs.Installs.{installed_size}
 use Rattle.fc_registry.proofs.Restoring.{present_is}
 use Rattle.fc_core.specs.Fits.{FitsPresent, FitsStage, IsSafe, IsTicketOf}
 use Rattle.fc_core.specs.History.{Entry, History, BeginsWith, Then, Seen, around, first_slot, and_then, job, seen, slot_at, stage}
 use Rattle.fc_core.specs.Laws.{slot_of}
-use Rattle.fc_core.specs.Receiving.{AskWithin}
+use Rattle.fc_front.specs.Receiving.{AskWithin}
 use Rattle.fc_core.specs.Sound.{IsSoundlySeen}
 use Rattle.fc_core.specs.Stage.{Stage}
 use Rattle.fc_core.specs.Stages.{image_of}
 use Rattle.fc_core.specs.Steps.{Installs, Removes, changes_of_call}
 use Rattle.fc_core.specs.Transitions.{Around, Inputs, install_call, install_if, names, transition}
 use Rattle.fc_core.specs.declared.event.Event.{Event}
-use Rattle.fc_core.specs.declared.policy.Policy.{Policy}
+use Rattle.fc_front.specs.declared.policy.Policy.{Policy}
 use Rattle.fc_core.proofs.ByStep.{Step, by_effect, committed, effect_by, stage_by}
 use Rattle.fc_core.proofs.ByStep as steps
 use Rattle.fc_core.proofs.Fitting.{is_input, writes_found}

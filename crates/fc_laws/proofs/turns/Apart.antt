@@ -2,11 +2,12 @@
 use Rattle.std.proofs.Common.{◌≡◌, ℕ, List, Option, Some, None, refl, sym, ap, ◌∙◌, subst, ◌⊎◌, inl, inr}
 use Rattle.coap_msg.specs.declared.types.Emission.{Emission}
 use Rattle.fc_observe.specs.declared.entry.Turn.{Turn}
-use Rattle.fc_registry.specs.declared.job.Job.{Job}
-use Rattle.fc_registry.specs.Taken.{Taken}
-use Rattle.fc_registry.specs.Taken.{Given, Missing, Stale, Refused}
+use Rattle.fc_ticket.specs.declared.job.Job.{Job}
+use Rattle.fc_ticket.specs.Taken.{Taken}
+use Rattle.fc_ticket.specs.Taken.{Given, Missing, Stale, Refused}
 use Rattle.fc_registry.specs.Calls.{turn_of}
-use Rattle.fc_registry.specs.Slots.{Slot, Ticket}
+use Rattle.fc_registry.specs.Slots.{Slot}
+use Rattle.fc_ticket.specs.Tickets.{Ticket}
 use Rattle.fc_core.specs.declared.event.Event.{Event}
 use Rattle.fc_core.specs.declared.event.Event.TheVariants.{Note, GiveUp, Lose}
 use Rattle.fc_core.specs.Stage.{Stage}

@@ -13,9 +13,10 @@ use Rattle.fc_observe.specs.Laws.{RegistersNone, noticed_for}
 use Rattle.fc_observe.specs.Observers.{ObserverList, list_at_time, entry_out, is_out}
 use Rattle.fc_observe.proofs.Rising.{Above, AreAbove, SentFrom, calls_from, ended_from, notified_from}
 use Rattle.fc_observe.proofs.Serials.{sent_above}
-use Rattle.fc_registry.specs.Calls.{is_cancellation, is_out_at, is_registration, mark_missing_calls, observe_calls_by}
-use Rattle.fc_registry.specs.Notes.{keeps_observer, note_at, note_calls, told_call}
-use Rattle.fc_registry.specs.Slots.{Present, Ticket}
+use Rattle.fc_ticket.specs.Registrations.{is_cancellation, is_registration, observe_calls_by}
+use Rattle.fc_registry.specs.Calls.{is_out_at, mark_missing_calls}
+use Rattle.fc_ticket.specs.Notes.{keeps_observer, note_at, note_calls, told_call}
+use Rattle.fc_ticket.specs.Tickets.{Present, Ticket}
 use Rattle.fc_registry.specs.Watches.{signal_call}
 use Rattle.fc_core.specs.declared.event.Event.{Event}
 use Rattle.fc_core.specs.declared.event.Event.TheVariants.{Due, Note, ShardTick, Signal}

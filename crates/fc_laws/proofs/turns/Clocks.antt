@@ -11,10 +11,12 @@ use Rattle.fc_observe.specs.Calls.{Advance, GiveUp as GiveUpTurn, NextDue, Notif
 use Rattle.fc_observe.specs.Observers.{ObserverList, list_at_time, gives_turn, turn_given_by}
 use Rattle.fc_registry.specs.declared.commit.CommitOutcome.{CommitOutcome}
 use Rattle.fc_registry.specs.declared.commit.CommitOutcome.TheVariants.{Writes, Keeps, Overtakes, Ends}
-use Rattle.fc_registry.specs.declared.job.Job.{Job}
-use Rattle.fc_registry.specs.Calls.{is_cancellation, is_out_at, is_registration, mark_missing_calls, observe_calls_by, outcome}
-use Rattle.fc_registry.specs.Notes.{keeps_observer, note_at, note_calls, serial_told, told_call}
-use Rattle.fc_registry.specs.Slots.{Present, Slot, Ticket}
+use Rattle.fc_ticket.specs.declared.job.Job.{Job}
+use Rattle.fc_ticket.specs.Registrations.{is_cancellation, is_registration, observe_calls_by}
+use Rattle.fc_registry.specs.Calls.{is_out_at, mark_missing_calls, outcome}
+use Rattle.fc_ticket.specs.Notes.{keeps_observer, note_at, note_calls, serial_told, told_call}
+use Rattle.fc_ticket.specs.Tickets.{Present, Ticket}
+use Rattle.fc_registry.specs.Slots.{Slot}
 use Rattle.fc_registry.specs.Watches.{place_from, signal_call}
 use Rattle.fc_core.specs.declared.event.Event.{Event}
 use Rattle.fc_core.specs.declared.event.Event.TheVariants.{Due, ShardTick, Signal}

@@ -11,9 +11,10 @@ use Rattle.fc_observe.specs.Calls.{Advance, ObserverCall, NextDue, Tick as TickO
 use Rattle.fc_observe.specs.Laws.{RegistersNone}
 use Rattle.fc_observe.proofs.Hearing.{stays_gone}
 use Rattle.fc_observe.specs.declared.entry.Turn.{Turn}
-use Rattle.fc_registry.specs.Calls.{is_cancellation, observe_calls, observe_calls_by, is_registration, is_out_at, mark_missing_calls}
-use Rattle.fc_registry.specs.Notes.{keeps_observer, note_at, note_calls, serial_told, told_call}
-use Rattle.fc_registry.specs.Slots.{Present, Ticket}
+use Rattle.fc_ticket.specs.Registrations.{is_cancellation, observe_calls, observe_calls_by, is_registration}
+use Rattle.fc_registry.specs.Calls.{is_out_at, mark_missing_calls}
+use Rattle.fc_ticket.specs.Notes.{keeps_observer, note_at, note_calls, serial_told, told_call}
+use Rattle.fc_ticket.specs.Tickets.{Present, Ticket}
 use Rattle.fc_registry.specs.Watches.{signal_call}
 use Rattle.fc_core.specs.declared.event.Event.{Event}
 use Rattle.fc_core.specs.declared.event.Event.TheVariants.{Commit, Signal, ShardTick, Due}

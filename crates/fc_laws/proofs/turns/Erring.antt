@@ -8,9 +8,9 @@ use Rattle.fc_observe.specs.declared.entry.Turn.{Turn}
 use Rattle.fc_observe.specs.Calls.{ObserverCall, Advance, End, observers}
 use Rattle.fc_observe.specs.Observers.{ObserverList, list_at_time, entry_out}
 use Rattle.fc_observe.proofs.Leaving.{observer_gone}
-use Rattle.fc_registry.specs.Notes.{note_calls}
-use Rattle.fc_registry.proofs.Endings.{error_ends}
-use Rattle.fc_registry.specs.Slots.{Ticket}
+use Rattle.fc_ticket.specs.Notes.{note_calls}
+use Rattle.fc_ticket.proofs.Endings.{error_ends}
+use Rattle.fc_ticket.specs.Tickets.{Ticket}
 use Rattle.fc_core.specs.declared.event.Event.TheVariants.{Note}
 use Rattle.fc_core.specs.Stage.{Stage}
 use Rattle.fc_core.specs.Stage.{ToTell}

@@ -25,8 +25,8 @@ use Rattle.fc_observe.specs.declared.entry.Phase.TheVariants.{Outstanding, TurnO
 use Rattle.fc_observe.specs.declared.observers.Ticked.{Ticked}
 use Rattle.fc_observe.specs.declared.observers.Ticked.TheVariants.{Resend}
 use Rattle.fc_registry.specs.Calls.{is_out_at}
-use Rattle.fc_registry.specs.Notes.{note_at, note_kind, note_response, note_to}
-use Rattle.fc_registry.specs.Slots.{Ticket}
+use Rattle.fc_ticket.specs.Notes.{note_at, note_kind, note_response, note_to}
+use Rattle.fc_ticket.specs.Tickets.{Ticket}
 use Rattle.fc_core.specs.declared.event.Event.TheVariants.{GiveUp, Note, ShardTick}
 use Rattle.fc_core.specs.Stage.{Stage}
 use Rattle.fc_core.specs.Stage.{Gone, ToTell}

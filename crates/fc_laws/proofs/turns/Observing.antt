@@ -15,8 +15,10 @@ use Rattle.fc_observe.specs.Entries.{is_entry_of, new_entry}
 use Rattle.fc_observe.specs.Observers.{ObserverList, list_at_time, cancelled, entered_by, registered, registration, registration_by, without_those}
 use Rattle.fc_registry.specs.declared.commit.CommitOutcome.{CommitOutcome}
 use Rattle.fc_registry.specs.declared.commit.CommitOutcome.TheVariants.{Writes, Keeps, Overtakes, Ends}
-use Rattle.fc_registry.specs.Calls.{is_cancellation, is_entered, is_first_block, is_observed, meaning_at, observe_calls_by, outcome, is_registration, szx_of, wants}
-use Rattle.fc_registry.specs.Slots.{Ticket}
+use Rattle.fc_ticket.specs.Registrations.{is_cancellation, is_entered, is_first_block, is_observed, observe_calls_by, is_registration, szx_of}
+use Rattle.fc_ticket.specs.Runs.{meaning_at}
+use Rattle.fc_registry.specs.Calls.{outcome, wants}
+use Rattle.fc_ticket.specs.Tickets.{Ticket}
 use Rattle.fc_core.specs.declared.event.Event.TheVariants.{Commit}
 use Rattle.fc_core.specs.Stage.{Stage}
 use Rattle.fc_core.specs.Stage.{ToAnswer, ToCommit}

@@ -16,9 +16,11 @@ use Rattle.fc_observe.specs.Entries.{is_entry_of, is_overdue, is_overdue_in, ret
 use Rattle.fc_observe.specs.Observers.{ObserverList, list_at_time, entry_out}
 use Rattle.fc_observe.proofs.Resets.{so_is}
 use Rattle.fc_observe.proofs.Staying.{TakesAway, stays_or_goes}
-use Rattle.fc_registry.specs.Calls.{is_cancellation, is_out_at, is_registration, meaning_at, mark_missing_calls, observe_calls, observe_calls_by, szx_of}
-use Rattle.fc_registry.specs.Notes.{keeps_observer, note_at, note_calls, serial_told, told_call}
-use Rattle.fc_registry.specs.Slots.{Present, Ticket}
+use Rattle.fc_ticket.specs.Registrations.{is_cancellation, is_registration, observe_calls, observe_calls_by, szx_of}
+use Rattle.fc_registry.specs.Calls.{is_out_at, mark_missing_calls}
+use Rattle.fc_ticket.specs.Runs.{meaning_at}
+use Rattle.fc_ticket.specs.Notes.{keeps_observer, note_at, note_calls, serial_told, told_call}
+use Rattle.fc_ticket.specs.Tickets.{Present, Ticket}
 use Rattle.fc_core.specs.declared.event.Event.{Event}
 use Rattle.fc_core.specs.declared.event.Event.TheVariants.{Commit, Due, Note, ShardTick, Signal}
 use Rattle.fc_core.specs.History.{Entry, Seen, and_then, around, calls_by, calls_named, due_in, is_place_of, job, overdue_in, inputs, slot_at, stage, watch, at_shard}

@@ -1,8 +1,8 @@
 -- The stage of a lease's job after its snapshot: it is still to notify, or has ended.
 use Rattle.std.proofs.Common.{ℕ, List, Option}
 use Rattle.fc_observe.specs.declared.entry.Turn.{Turn}
-use Rattle.fc_registry.specs.Taken.{Taken}
-use Rattle.fc_registry.specs.Taken.{Given, Missing, Stale, Refused}
+use Rattle.fc_ticket.specs.Taken.{Taken}
+use Rattle.fc_ticket.specs.Taken.{Given, Missing, Stale, Refused}
 use Rattle.fc_core.specs.Stage.{Stage}
 use Rattle.fc_core.specs.Stage.{ToTell, Gone}
 use Rattle.fc_core.specs.TurnStage.{TurnStage}

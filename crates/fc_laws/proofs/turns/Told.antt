@@ -13,10 +13,11 @@ use Rattle.fc_observe.specs.Observers.{ObserverList, list_at_time, entry_out, gi
 use Rattle.fc_observe.specs.Views.{Interest, interest_of}
 use Rattle.fc_observe.proofs.Hearing.{more_turns}
 use Rattle.fc_observe.proofs.Lasting.{HasMissed, missed_begin, missed_last}
-use Rattle.fc_registry.specs.declared.job.Job.{Job}
-use Rattle.fc_registry.specs.declared.job.Opening.{Opening}
+use Rattle.fc_ticket.specs.declared.job.Job.{Job}
+use Rattle.fc_ticket.specs.declared.job.Opening.{Opening}
 use Rattle.fc_registry.specs.Calls.{is_out_at, mark_missing_calls, turn_of, turn_snapshot, readings_if}
-use Rattle.fc_registry.specs.Slots.{Present, Slot, Ticket}
+use Rattle.fc_ticket.specs.Tickets.{Present, Ticket}
+use Rattle.fc_registry.specs.Slots.{Slot}
 use Rattle.fc_registry.specs.Turns.{job_of_turn, turn_job}
 use Rattle.fc_registry.proofs.Noticed.{noticed_from}
 use Rattle.fc_core.specs.declared.event.Event.{Event}
@@ -29,10 +30,10 @@ use Rattle.fc_core.specs.TurnStage as turns
 use Rattle.fc_core.specs.Fits.{FitsStage}
 use Rattle.fc_core.specs.History.{first_slot, Entry, History, BeginsWith, Then, Seen, seen, and_then, around, calls_by, calls_named, common, due_in, front_at, is_place_of, job, no_task, received_at, inputs, slot_at, stage, task_at, tasks_brought, tasks_moved, turn_at, watch, at_shard}
 use Rattle.fc_core.specs.Laws.{slot_of}
-use Rattle.fc_core.specs.Receiving.{Received, Opened, brought, job_of, next_opening}
+use Rattle.fc_front.specs.Receiving.{Received, Opened, brought, job_of, next_opening}
 use Rattle.fc_core.specs.Sound.{IsSoundlySeen}
 use Rattle.fc_core.specs.Stages.{first_stage, new_task, turn_took, with_id}
-use Rattle.fc_core.specs.Timers.{timer_job}
+use Rattle.fc_front.specs.Timers.{timer_job}
 use Rattle.fc_core.specs.Transitions.{Common, Around, Inputs, names, transition, task_moved}
 use Rattle.fc_core.proofs.ByStep.{Step, by_effect, effect_by, stage_by}
 use Rattle.fc_core.proofs.ByStep as steps

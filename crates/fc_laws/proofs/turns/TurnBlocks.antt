@@ -14,10 +14,12 @@ use Rattle.fc_observe.specs.declared.entry.Turn.{Turn}
 use Rattle.fc_observe.specs.Calls.{NextDue, observers_after}
 use Rattle.fc_observe.specs.Observers.{ObserverList, list_at_time, entry_out, next_turn}
 use Rattle.fc_observe.specs.Views.{Interest, interest_of}
-use Rattle.fc_registry.specs.declared.job.Job.{Job}
-use Rattle.fc_registry.specs.declared.job.Opening.{Opening}
-use Rattle.fc_registry.specs.Calls.{is_out_at, meaning_at, turn_of, turn_snapshot, readings_if}
-use Rattle.fc_registry.specs.Slots.{Present, Slot, Ticket}
+use Rattle.fc_ticket.specs.declared.job.Job.{Job}
+use Rattle.fc_ticket.specs.declared.job.Opening.{Opening}
+use Rattle.fc_registry.specs.Calls.{is_out_at, turn_of, turn_snapshot, readings_if}
+use Rattle.fc_ticket.specs.Runs.{meaning_at}
+use Rattle.fc_ticket.specs.Tickets.{Present, Ticket}
+use Rattle.fc_registry.specs.Slots.{Slot}
 use Rattle.fc_registry.specs.Turns.{first_block, job_of_turn, turn_job}
 use Rattle.fc_core.specs.declared.event.Event.{Event}
 use Rattle.fc_core.specs.declared.event.Event.TheVariants.{Deliver, Due, Fire}
@@ -29,7 +31,7 @@ use Rattle.fc_core.specs.Fits.{FitsStage}
 use Rattle.fc_core.specs.History.{History, BeginsWith, Then, Seen, seen, due_in, front_at, job, no_task, received_at, inputs, slot_at, stage, task_at, tasks_brought, tasks_moved, turn_at, watch}
 use Rattle.fc_core.specs.Laws.{slot_of}
 use Rattle.fc_laws.specs.ObserveLaws.{IsFirst}
-use Rattle.fc_core.specs.Receiving.{Received, Opened, brought, next_opening}
+use Rattle.fc_front.specs.Receiving.{Received, Opened, brought, next_opening}
 use Rattle.fc_core.specs.Stages.{first_or_turn, new_task, turn_took, with_id}
 use Rattle.fc_core.specs.Transitions.{Around, Inputs, names, transition, task_moved}
 use Rattle.fc_laws.specs.TurnLaws.{response_of}

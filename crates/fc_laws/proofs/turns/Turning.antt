@@ -14,7 +14,7 @@ use Rattle.fc_observe.specs.Entries.{has_turn, is_due, is_out_in, with_turn}
 use Rattle.fc_observe.specs.Observers.{ObserverList, at_first, list_at_time, entry_out, gives_turn, next_turn, next_turn_by, turn_given, turn_given_by, turn_given_up}
 use Rattle.fc_observe.specs.Views.{interest_of}
 use Rattle.fc_observe.proofs.Serials.{OutBelow, all_below, out_phase}
-use Rattle.fc_registry.specs.declared.job.Job.{Job}
+use Rattle.fc_ticket.specs.declared.job.Job.{Job}
 use Rattle.fc_registry.specs.Turns.{job_of_turn, turn_given_to, turn_job}
 use Rattle.fc_registry.specs.Watches.{place_from}
 use Rattle.fc_core.specs.declared.event.Event.TheVariants.{Due, Fresh, GiveUp, Lose}
@@ -22,8 +22,8 @@ use Rattle.fc_core.specs.Stage.{Stage}
 use Rattle.fc_core.specs.Stage.{ToTell, Gone}
 use Rattle.fc_core.specs.TurnStage.{TurnStage}
 use Rattle.fc_core.specs.TurnStage as turns
-use Rattle.fc_core.specs.Ids.{free_id}
-use Rattle.fc_registry.specs.Slots.{Ticket}
+use Rattle.fc_front.specs.Ids.{free_id}
+use Rattle.fc_ticket.specs.Tickets.{Ticket}
 use Rattle.fc_core.specs.History.{Seen, and_then, around, did, due_in, is_due_at, is_overdue_at, is_place_of, job, overdue_in, inputs, slot_at, stage, turn_at, watch}
 use Rattle.fc_core.specs.Laws.{slot_of}
 use Rattle.fc_laws.specs.ObserveLaws.{BringsTurn}

@@ -6,7 +6,7 @@ use Rattle.fc_verify.specs.declared.refusal.Refusal.TheVariants.{Broken}
 use Rattle.fc_isa.specs.declared.rule.Fault.{Fault}
 use Rattle.fc_core.specs.declared.event.Event.TheVariants.{Install}
 use Rattle.fc_core.specs.Stage.{ToAnswer}
-use Rattle.fc_core.specs.Ends.{refused}
+use Rattle.fc_front.specs.Ends.{refused}
 use Rattle.fc_verify.specs.Judged.{judged}
 use Rattle.fc_verify.specs.Refusals.{IsFaultOf, IsRefusal}
 use Rattle.fc_registry.specs.Slots.{slot_in}

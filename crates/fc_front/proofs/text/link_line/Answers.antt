@@ -1,7 +1,7 @@
 use Rattle.std.proofs.Common.{◌≡◌, ◌+◌, ◌≤◌, length, ap, ◌∙◌, arith, length-append}
 use Rattle.std.specs.Fmt.{decimal}
 use Rattle.std.proofs.lemmas.Fmt.{length-decimal-le}
-use Rattle.fc_core.proofs.text.link_line.Goals as goal
+use Rattle.fc_front.proofs.text.link_line.Goals as goal
 
 pub returns-clause-short : goal.returns-clause-short
 returns-clause-short c =

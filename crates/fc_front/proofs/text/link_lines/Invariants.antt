@@ -1,6 +1,6 @@
 use Rattle.std.proofs.Common.{◌≡◌, ◌≤◌, ◌*◌, ◌++◌, length, drop}
-use Rattle.fc_core.specs.Links.{links_from}
-use Rattle.fc_core.proofs.text.link_lines.Given as goal
+use Rattle.fc_front.specs.Links.{links_from}
+use Rattle.fc_front.proofs.text.link_lines.Given as goal
 
 -- the links that are written and those that remain are all links, and each link has at most 12
 -- bytes.

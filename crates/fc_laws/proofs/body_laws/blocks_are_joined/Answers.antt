@@ -2,7 +2,7 @@ use Rattle.std.proofs.Common.{sym, ◌∙◌, max}
 use Rattle.coap_block.specs.Transfers.{transfers}
 use Rattle.fc_laws.specs.BodyLaws.{addition_at}
 use Rattle.fc_core.specs.History.{seen}
-use Rattle.fc_core.specs.Receiving.{slot_asked}
+use Rattle.fc_front.specs.Receiving.{slot_asked}
 use Rattle.fc_laws.proofs.front.Bodies.{added_block, goes_on, is_continued, is_opened, is_whole, rises, rises_at}
 use Rattle.fc_laws.proofs.body_laws.blocks_are_joined.Goals as goal
 

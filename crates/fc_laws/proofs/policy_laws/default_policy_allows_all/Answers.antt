@@ -1,7 +1,7 @@
 use Rattle.std.proofs.Common.{◌/◌, Bool, false, ◌||◌, ap, refl, arith}
 use Rattle.std.proofs.lemmas.Bool.{eq-eqb}
 use Rattle.coap_dedup.specs.Keys.{address_number}
-use Rattle.fc_core.specs.Policies.{any_address, is_in}
+use Rattle.fc_front.specs.Policies.{any_address, is_in}
 use Rattle.fc_laws.proofs.front.Shares.{none_above}
 use Rattle.fc_laws.proofs.policy_laws.default_policy_allows_all.Goals as goal
 

@@ -1,5 +1,5 @@
 use Rattle.std.proofs.Common.{◌≡◌, ◌∙◌, Bool, true, false, not, ◌||◌, ap, refl}
-use Rattle.fc_core.specs.Policies.{changes_program}
+use Rattle.fc_front.specs.Policies.{changes_program}
 use Rattle.fc_laws.proofs.policy_laws.managers_are_wanted_for_changes_alone.Goals as goal
 
 or_true : (b : Bool) → (b || true) ≡ true

@@ -1,6 +1,6 @@
 use Rattle.std.proofs.Common.{◌≡◌, ◌∙◌, ◌∷◌, [], ℕ, Some, ap, refl}
 use Rattle.fc_core.specs.AnswerLaws.{greatest}
-use Rattle.fc_core.specs.Heads.{first_word, word_at_start}
+use Rattle.fc_front.specs.Heads.{first_word, word_at_start}
 use Rattle.fc_core.specs.History.{BeginsWith}
 use Rattle.fc_kinds.specs.Meaning.{Program}
 use Rattle.fc_laws.specs.StartLaws.{restored_at}

@@ -1,5 +1,5 @@
 use Rattle.std.proofs.Common.{ap, refl}
-use Rattle.fc_core.specs.Heads.{word_at_start}
+use Rattle.fc_front.specs.Heads.{word_at_start}
 use Rattle.fc_registry.specs.Restored.{present_if}
 use Rattle.fc_verify.specs.Accepted.{Judgement}
 use Rattle.fc_laws.proofs.start_laws.raised_serials_keep_programs.Goals as goal

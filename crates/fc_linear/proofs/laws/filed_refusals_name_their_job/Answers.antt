@@ -3,7 +3,7 @@ use Rattle.std.specs.Prelude.{◌%◌}
 use Rattle.fc_verify.specs.Accepted.{Accepts}
 use Rattle.fc_verify.specs.Judged.{judged}
 use Rattle.fc_registry.specs.Changes.{installed}
-use Rattle.fc_registry.specs.declared.job.InitialVars.{InitialVars}
+use Rattle.fc_ticket.specs.declared.job.InitialVars.{InitialVars}
 use Rattle.fc_linear.specs.Operations.{ShardPart}
 use Rattle.fc_linear.proofs.laws.filed_refusals_name_their_job.Goals as goal
 

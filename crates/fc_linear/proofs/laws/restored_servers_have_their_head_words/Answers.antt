@@ -1,7 +1,7 @@
 use Rattle.std.proofs.Common.{refl, ap, ◌∙◌}
 use Rattle.fc_verify.specs.Accepted.{Judgement}
 use Rattle.fc_registry.specs.Restored.{present_if, restored_slot}
-use Rattle.fc_core.specs.Heads.{first_word, word_at_start}
+use Rattle.fc_front.specs.Heads.{first_word, word_at_start}
 use Rattle.fc_store.specs.Stored.{StoredSlot}
 use Rattle.fc_linear.proofs.laws.restored_servers_have_their_head_words.Goals as goal
 

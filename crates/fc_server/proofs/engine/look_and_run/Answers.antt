@@ -1,6 +1,6 @@
 use Rattle.std.proofs.Common.{ℕ, length, subst, ◌∙◌}
 use Rattle.fc_core.specs.Stage.{ToMatch}
-use Rattle.fc_core.specs.Receiving.{emission_if}
+use Rattle.fc_front.specs.Receiving.{emission_if}
 use Rattle.fc_server.specs.Serving.{Serves, worked}
 use Rattle.fc_server.proofs.Served.{at_work, begun_on, kept_by, peeked_on}
 use Rattle.fc_server.proofs.engine.look_and_run.Goals as goal

@@ -1,9 +1,9 @@
 use Rattle.std.proofs.Common.{◌≡◌, length, ◌++◌, ◌∷◌, [], ◌∙◌, Bool, true, false, None, refl, ap}
 use Rattle.coap_msg.specs.declared.types.Emission.{Emission}
-use Rattle.fc_core.specs.Exchanges.{has_exchange}
-use Rattle.fc_core.specs.Receiving.{emission_if}
+use Rattle.fc_front.specs.Exchanges.{has_exchange}
+use Rattle.fc_front.specs.Receiving.{emission_if}
 use Rattle.fc_core.proofs.Unsent.{unsent}
-use Rattle.fc_registry.specs.declared.job.Job.{Job}
+use Rattle.fc_ticket.specs.declared.job.Job.{Job}
 use Rattle.fc_server.proofs.Served.{answered_on, at_work, committed_on, kept_by, kept_by_answer, raised_on, took_on}
 use Rattle.fc_server.proofs.engine.run.Goals as goal
 

@@ -4,9 +4,9 @@ use Rattle.coap_msg.specs.declared.types.Emission.{Emission}
 use Rattle.fc_core.specs.Stage.{Stage, ToTell}
 use Rattle.fc_core.specs.declared.stage.Task.{Task}
 use Rattle.fc_core.specs.TurnStage as turns
-use Rattle.fc_core.specs.Exchanges.{FrontState}
-use Rattle.fc_core.specs.Ids.{free_id}
-use Rattle.fc_core.specs.Receiving.{emission_if}
+use Rattle.fc_front.specs.Exchanges.{FrontState}
+use Rattle.fc_front.specs.Ids.{free_id}
+use Rattle.fc_front.specs.Receiving.{emission_if}
 use Rattle.fc_core.specs.Stages.{drew, needs_id}
 use Rattle.fc_registry.specs.Shards.{slot_in_shards}
 use Rattle.fc_server.specs.Serving.{Turned}

@@ -3,7 +3,7 @@ use Rattle.fc_core.specs.History.{History}
 use Rattle.fc_core.specs.Room.{stage_of}
 use Rattle.fc_core.specs.Stage.{Stage, ToDescribe, ToInstall, ToList, ToMatch, ToRemove, ToTake}
 use Rattle.fc_core.specs.declared.stage.Step.{Step}
-use Rattle.fc_core.specs.Receiving.{emission_if}
+use Rattle.fc_front.specs.Receiving.{emission_if}
 use Rattle.fc_server.specs.Serving.{Serves, Worked, next, worked}
 use Rattle.fc_core.specs.declared.event.Event.TheVariants.{Answer}
 use Rattle.fc_server.proofs.Served.{answered_on, at_work, kept_by_answer, worked_at_once}

@@ -1,12 +1,12 @@
 use Rattle.std.proofs.Common.{◌≡◌, ◌∙◌, ℕ, Option, None, false, refl}
-use Rattle.fc_core.specs.Answering.{Answers, emission_of}
-use Rattle.fc_core.specs.Contents.{Content}
-use Rattle.fc_core.specs.Exchanges.{advanced}
-use Rattle.fc_core.specs.Receiving.{id_in}
-use Rattle.fc_core.specs.Timers.{timer_job}
-use Rattle.fc_core.specs.declared.by_value.Answered.{Answered}
-use Rattle.fc_core.specs.declared.by_value.Answered.TheVariants.{Late, NoId, Sent}
-use Rattle.fc_registry.specs.declared.job.Job.{Job}
+use Rattle.fc_front.specs.Answering.{Answers, emission_of}
+use Rattle.fc_front.specs.Contents.{Content}
+use Rattle.fc_front.specs.Exchanges.{advanced}
+use Rattle.fc_front.specs.Receiving.{id_in}
+use Rattle.fc_front.specs.Timers.{timer_job}
+use Rattle.fc_front.specs.declared.by_value.Answered.{Answered}
+use Rattle.fc_front.specs.declared.by_value.Answered.TheVariants.{Late, NoId, Sent}
+use Rattle.fc_ticket.specs.declared.job.Job.{Job}
 use Rattle.fc_service.proofs.laws.workers_send_no_answer_of_a_timer.Goals as goal
 
 -- an answer without a live exchange isn't sent.

@@ -1,7 +1,7 @@
 use Rattle.std.proofs.Common.{◌∷◌, Result, Ok, Err, OnOk, IsErr}
 use Rattle.std.specs.Io.KnownBytes.{Appends}
 use Rattle.std.specs.Prelude.{flat_map}
-use Rattle.fc_core.specs.Receiving.{emission_if}
+use Rattle.fc_front.specs.Receiving.{emission_if}
 use Rattle.fc_lines.specs.Emissions.{printed}
 use Rattle.fc_server.proofs.FlushingSteps.{done_at_bound, done_at_end}
 use Rattle.fc_service.proofs.Flushed.{none_printed, one_printed}

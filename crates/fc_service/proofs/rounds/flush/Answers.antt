@@ -1,4 +1,4 @@
-use Rattle.fc_core.specs.Receiving.{emission_if}
+use Rattle.fc_front.specs.Receiving.{emission_if}
 use Rattle.fc_server.proofs.FlushingSteps.{done_at_bound, done_at_end}
 use Rattle.fc_service.proofs.Flushed.{none_flushed, one_flushed}
 use Rattle.fc_service.specs.Traffic.{Sends}

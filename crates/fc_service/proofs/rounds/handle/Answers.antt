@@ -1,5 +1,5 @@
 use Rattle.std.proofs.Common.{◌≡◌, ◌∙◌, Bool, true, false, Some, None, ap, refl, sym}
-use Rattle.fc_core.specs.Receiving.{emission_if}
+use Rattle.fc_front.specs.Receiving.{emission_if}
 use Rattle.fc_server.specs.Ingresses.{is_reply}
 use Rattle.fc_service.proofs.Traffic.{none_sent}
 use Rattle.fc_service.proofs.rounds.handle.Goals as goal

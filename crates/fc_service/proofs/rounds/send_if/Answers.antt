@@ -1,6 +1,6 @@
 use Rattle.std.proofs.Common.{Bool, subst, sym}
 use Rattle.std.specs.Option.{option_to_list}
-use Rattle.fc_core.specs.Receiving.{emission_if}
+use Rattle.fc_front.specs.Receiving.{emission_if}
 use Rattle.fc_service.proofs.Traffic.{none_sent}
 use Rattle.fc_service.specs.Traffic.{Sends}
 use Rattle.fc_service.proofs.rounds.send_if.Goals as goal

@@ -1,5 +1,5 @@
-use Rattle.fc_registry.proofs.Endings.{content_ends, error_ends}
-use Rattle.fc_registry.proofs.laws.notifications_end_their_turns.Goals as goal
+use Rattle.fc_ticket.proofs.Endings.{content_ends, error_ends}
+use Rattle.fc_ticket.proofs.laws.notifications_end_their_turns.Goals as goal
 
 pub returns-clause-content : goal.returns-clause-content
 returns-clause-content c = content_ends

@@ -1,9 +1,9 @@
 use Rattle.std.proofs.Common.{◌∙◌, None, ap, sym}
 use Rattle.fc_observe.specs.Calls.{after_calls}
-use Rattle.fc_registry.specs.declared.note.Notification.{Notification}
-use Rattle.fc_registry.specs.Notes.{note_calls, noted_as, sent_of, ticket_told, told_calls}
-use Rattle.fc_registry.proofs.Telling.{after_advance}
-use Rattle.fc_registry.proofs.note.note.Goals as goal
+use Rattle.fc_ticket.specs.declared.note.Notification.{Notification}
+use Rattle.fc_ticket.specs.Notes.{note_calls, noted_as, sent_of, ticket_told, told_calls}
+use Rattle.fc_ticket.proofs.Telling.{after_advance}
+use Rattle.fc_ticket.proofs.note.note.Goals as goal
 
 pub returns-in-Gone-clause-watch : goal.returns-in-Gone-clause-watch
 returns-in-Gone-clause-watch c =

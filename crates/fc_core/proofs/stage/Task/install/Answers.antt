@@ -1,5 +1,5 @@
 use Rattle.std.proofs.Common.{◌≡◌, true, ap, sym, ◌∙◌}
-use Rattle.fc_registry.specs.Calls.{initial_vars_of}
+use Rattle.fc_ticket.specs.Runs.{initial_vars_of}
 use Rattle.fc_registry.specs.Slots.{slot_in}
 use Rattle.fc_verify.specs.Judged.{judged}
 use Rattle.fc_core.specs.declared.event.Event.TheVariants.{Install}

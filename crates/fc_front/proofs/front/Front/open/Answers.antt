@@ -1,7 +1,7 @@
 use Rattle.std.proofs.Common.{◌∙◌, ap, refl, sym}
-use Rattle.fc_core.specs.Receiving.{Received, after_received, handed_on}
-use Rattle.fc_core.proofs.Authorizing.{is_refused}
-use Rattle.fc_core.proofs.front.Front.open.Goals as goal
+use Rattle.fc_front.specs.Receiving.{Received, after_received, handed_on}
+use Rattle.fc_front.proofs.Authorizing.{is_refused}
+use Rattle.fc_front.proofs.front.Front.open.Goals as goal
 
 pub returns-in-Refuse-clause-delivered : goal.returns-in-Refuse-clause-delivered
 returns-in-Refuse-clause-delivered c =

@@ -6,8 +6,8 @@ use Rattle.coap_opts.specs.Verdict.{Asked, Verdict, IsAsked, IsRefused}
 use Rattle.coap_opts.specs.declared.request.Asking.{Asking}
 use Rattle.coap_opts.specs.declared.request.Asking.TheVariants.{Serve, Refuse, Silent}
 use Rattle.coap_opts.specs.declared.request.Request.{Request}
-use Rattle.fc_core.specs.Askings.{IsAsking}
-use Rattle.fc_core.proofs.front.Front.receive.Goals as goal
+use Rattle.fc_front.specs.Askings.{IsAsking}
+use Rattle.fc_front.proofs.front.Front.receive.Goals as goal
 
 -- a request is as its verdict says: served within the limits, or refused by the code of a response.
 within : (m : Message) (verdict : Verdict) → ((r : Asked) → verdict ≡ IsAsked r → IsAskedWithin m r)

@@ -1,5 +1,5 @@
-use Rattle.fc_core.proofs.Words.{all_first, none_first}
-use Rattle.fc_core.proofs.heads.Heads.over.Goals as goal
+use Rattle.fc_front.proofs.Words.{all_first, none_first}
+use Rattle.fc_front.proofs.heads.Heads.over.Goals as goal
 
 pub loop-number-init : goal.loop-number-init
 loop-number-init c = none_first _ c.new-heads.result c.new-heads.ensures

@@ -1,7 +1,7 @@
 use Rattle.std.proofs.Common.{◌≡◌, ◌++◌, ◌∷◌, ◌∙◌, [], ap, None, ℕ, Option, List, replicate, arith}
-use Rattle.fc_core.proofs.Draws.{none_drawn}
+use Rattle.fc_front.proofs.Draws.{none_drawn}
 use Rattle.std.proofs.lemmas.List.{replicate-append-replicate}
-use Rattle.fc_core.proofs.ids.MessageIds.new.Goals as goal
+use Rattle.fc_front.proofs.ids.MessageIds.new.Goals as goal
 
 pub loop-id-preserved : goal.loop-id-preserved
 loop-id-preserved c = c.in_ok-push.ensures.items ∙ (ap (λ (xs : List (Option ℕ)). xs ++ (None ∷ [])) c.loop-id.invariant ∙ replicate-append-replicate c.loop-id._id 1 None)

@@ -2,7 +2,7 @@ use Rattle.std.proofs.Common.{◌≡◌, ℕ, ◌/◌, ◌<◌, ◌∙◌, ap, s
 use Rattle.std.proofs.lemmas.List.{get_or_default}
 use Rattle.fc_observe.specs.Calls.{after_calls}
 use Rattle.fc_observe.specs.Observers.{ObserverList, no_observers}
-use Rattle.fc_registry.specs.declared.job.Origin.{Origin}
+use Rattle.fc_ticket.specs.declared.job.Origin.{Origin}
 use Rattle.fc_registry.specs.Slots.{Shard, Slot}
 use Rattle.fc_registry.specs.Calls.{IsCommit, commit_calls}
 use Rattle.fc_registry.specs.Views.{as_seen}
@@ -20,8 +20,8 @@ returns c =
     let t = c.args.ticket.now in
     let ran = c.args.outcome.now in
     let k = c.place-place.result in
-    let answer = c.committed-answer.result in
-    let after = as_seen c.committed-answer.new.slot in
+    let answer = c.commit-answer.result in
+    let after = as_seen c.commit-answer.new.self in
     let place : k ≡ t.origin.slot / 8 = c.place-place.ensures.place ∙ ap (λ (o : Origin). o.slot / 8) c.origin.ensures in
     let lt : k < 8 = c.place-place.ensures.limit in
     let eight = c.self.invariant.2 in
@@ -37,32 +37,32 @@ returns c =
     record {
       after = after;
       commit = subst (λ (w : ObserverList). IsCommit ran t (slot_in_place shard (t.origin.slot / 8)) w answer after) watch (subst (λ
-          (s : Slot). IsCommit ran t s was answer after) found c.committed-answer.ensures.commit);
+          (s : Slot). IsCommit ran t s was answer after) found c.commit-answer.ensures.commit);
       shard = slot_and_watch_write in_.index in_.now in_.slots.items in_.watches.items shard c.self.view_is c.self.invariant.0 k c.max-self-inside.result
-          (max shard.now c.args.now) c.committed-answer.new.slot after calls was c.committed-answer.new.watch
-          at refl held (c.committed-answer.ensures.watch ∙ ap (λ (m : ℕ). after_calls (commit_calls answer m t) was) at)
+          (max shard.now c.args.now) c.commit-answer.new.self after calls was c.commit-answer.new.watch
+          at refl held (c.commit-answer.ensures.watch ∙ ap (λ (m : ℕ). after_calls (commit_calls answer m t) was) at)
           ∙ ap (λ (j : ℕ). record shard { now = max shard.now c.args.now; slots = set shard.slots j after; watches = watches_called calls j shard.watches }) place;
     }
 
 pub invariant_of-self : goal.invariant_of-self
 invariant_of-self c =
     let was = c.index_mut-watch.result.now in
-    let rings = written_rings c.self.inside.slots.items c.place-place.result c.index_mut-slot.result.now c.committed-answer.new.slot
+    let rings = written_rings c.self.inside.slots.items c.place-place.result c.index_mut-slot.result.now c.commit-answer.new.self
     (c.self.invariant.0, c.self.invariant.1) c.place-place.ensures.limit c.index_mut-slot.ensures.value
-    (ring_kept c.args.outcome.now c.args.ticket.now (as_seen c.index_mut-slot.result.now) was c.committed-answer.result
-    (as_seen c.committed-answer.new.slot) c.committed-answer.ensures.commit) in
-    let now = as_seen c.committed-answer.new.slot in
+    (ring_kept c.args.outcome.now c.args.ticket.now (as_seen c.index_mut-slot.result.now) was c.commit-answer.result
+    (as_seen c.commit-answer.new.self) c.commit-answer.ensures.commit) in
+    let now = as_seen c.commit-answer.new.self in
     let sent = both_sent c.self.inside.slots.items c.self.inside.watches.items c.place-place.result c.self.invariant.0 c.self.invariant.2 c.place-place.ensures.limit c.self.invariant.4
-    c.index_mut-slot.result.now c.committed-answer.new.slot was c.committed-answer.new.watch c.index_mut-slot.ensures.value c.index_mut-watch.ensures.value
-    (λ old. subst (IsSentUpTo now.serial) (sym c.committed-answer.ensures.watch) (sent_committed c.args.outcome.now c.args.ticket.now
-    (as_seen c.index_mut-slot.result.now) was c.committed-answer.result now c.max-self-inside.result c.committed-answer.ensures.commit old)) in
+    c.index_mut-slot.result.now c.commit-answer.new.self was c.commit-answer.new.watch c.index_mut-slot.ensures.value c.index_mut-watch.ensures.value
+    (λ old. subst (IsSentUpTo now.serial) (sym c.commit-answer.ensures.watch) (sent_committed c.args.outcome.now c.args.ticket.now
+    (as_seen c.index_mut-slot.result.now) was c.commit-answer.result now c.max-self-inside.result c.commit-answer.ensures.commit old)) in
     let eight = c.self.invariant.2 in
     let lt = c.place-place.ensures.limit in
-    let watched = watched_if c.self.inside.watched _ c.self.inside.watches.items c.place-place.result was c.committed-answer.new.watch (omega
+    let watched = watched_if c.self.inside.watched _ c.self.inside.watches.items c.place-place.result was c.commit-answer.new.watch (omega
     (arith, lt, eight)) c.index_mut-watch.ensures.value (λ seen. c.is_empty.ensures.0 (true_of_not c.is_empty.result seen)) c.self.invariant.5 in (
       rings.0,
       rings.1,
-      length-set c.self.inside.watches.items c.place-place.result c.committed-answer.new.watch
+      length-set c.self.inside.watches.items c.place-place.result c.commit-answer.new.watch
           ∙ c.self.invariant.2,
       c.self.invariant.3,
       sent,

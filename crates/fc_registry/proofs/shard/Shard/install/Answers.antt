@@ -21,7 +21,7 @@ returns-clause-answer c = c.install.ensures.answer ∙ ap (λ (s : Slot). (insta
 pub returns-clause-slots : goal.returns-clause-slots
 returns-clause-slots c =
     let in_ = c.self.inside in
-    slot_write in_.index in_.now in_.slots.items in_.watches.items c.args.self.now c.self.view_is c.self.invariant.0 c.place.result in_.now c.args.self.now.now c.install.new.slot _
+    slot_write in_.index in_.now in_.slots.items in_.watches.items c.args.self.now c.self.view_is c.self.invariant.0 c.place.result in_.now c.args.self.now.now c.install.new.self _
     (now_is in_.index in_.now in_.slots.items in_.watches.items c.args.self.now c.self.view_is c.self.invariant.0)
     (c.install.ensures.slot ∙ ap (λ (s : Slot). after_changes s (install_in s c.args.program.value c.args.initial).changes) (found c))
     ∙ ap (λ (j : ℕ). written c.args.self.now c.args.self.now.now j (after_changes (slot_in c.args.self.now c.args.slot) (install_in (slot_in c.args.self.now c.args.slot) c.args.program.value c.args.initial).changes)) c.place.ensures.place
@@ -29,8 +29,8 @@ returns-clause-slots c =
 pub invariant_of-self : goal.invariant_of-self
 invariant_of-self c =
     let was = c.index_mut-state.result.now in
-    let rings = written_rings c.self.inside.slots.items c.place.result was c.install.new.slot (c.self.invariant.0, c.self.invariant.1) c.place.ensures.limit c.index_mut-state.ensures.value
+    let rings = written_rings c.self.inside.slots.items c.place.result was c.install.new.self (c.self.invariant.0, c.self.invariant.1) c.place.ensures.limit c.index_mut-state.ensures.value
     (λ old. subst IsRecord (sym c.install.ensures.slot) (ring_put (as_seen was) c.args.program.value c.args.initial old)) in
     let sent = slot_sent c.self.inside.slots.items c.self.inside.watches.items c.place.result c.self.invariant.0 c.self.invariant.2 c.place.ensures.limit c.self.invariant.4
-    was c.install.new.slot c.index_mut-state.ensures.value (subst (λ (s : Slot). (as_seen was).serial ≤ s.serial) (sym c.install.ensures.slot) (install_rises (as_seen was) c.args.program.value c.args.initial)) in
+    was c.install.new.self c.index_mut-state.ensures.value (subst (λ (s : Slot). (as_seen was).serial ≤ s.serial) (sym c.install.ensures.slot) (install_rises (as_seen was) c.args.program.value c.args.initial)) in
     (rings.0, rings.1, c.self.invariant.2, c.self.invariant.3, sent, c.self.invariant.5)

@@ -11,7 +11,7 @@ pub loop-slot-preserved : goal.loop-slot-preserved
 loop-slot-preserved c =
     let first = new_slot c.args.first_serial in
     ap (map as_seen) c.in_ok-push.ensures.items ∙ (map-append as_seen c.loop-slot.slots.items _
-    ∙ ((λ i. c.loop-slot.invariant i ++ (c.in_ok-empty_slot.ensures i ∷ [])) ∙ replicate-append-replicate c.loop-slot._slot 1 first))
+    ∙ ((λ i. c.loop-slot.invariant i ++ (c.in_ok-empty.ensures i ∷ [])) ∙ replicate-append-replicate c.loop-slot._slot 1 first))
 
 pub invariant_of-result : goal.invariant_of-result
 invariant_of-result c =

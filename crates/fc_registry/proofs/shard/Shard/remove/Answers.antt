@@ -16,21 +16,21 @@ found c =
     ∙ ap (λ (j : ℕ). slot_in_place c.args.self.now j) c.place.ensures.place
 
 pub returns-clause-answer : goal.returns-clause-answer
-returns-clause-answer c = c.clear.ensures.answer ∙ ap (λ (s : Slot). (remove_from s).answer) (found c)
+returns-clause-answer c = c.remove.ensures.answer ∙ ap (λ (s : Slot). (remove_from s).answer) (found c)
 
 pub returns-clause-slots : goal.returns-clause-slots
 returns-clause-slots c =
     let in_ = c.self.inside in
-    slot_write in_.index in_.now in_.slots.items in_.watches.items c.args.self.now c.self.view_is c.self.invariant.0 c.place.result in_.now c.args.self.now.now c.clear.new.slot _
+    slot_write in_.index in_.now in_.slots.items in_.watches.items c.args.self.now c.self.view_is c.self.invariant.0 c.place.result in_.now c.args.self.now.now c.remove.new.self _
     (now_is in_.index in_.now in_.slots.items in_.watches.items c.args.self.now c.self.view_is c.self.invariant.0)
-    (c.clear.ensures.slot ∙ ap (λ (s : Slot). after_changes s (remove_from s).changes) (found c))
+    (c.remove.ensures.slot ∙ ap (λ (s : Slot). after_changes s (remove_from s).changes) (found c))
     ∙ ap (λ (j : ℕ). written c.args.self.now c.args.self.now.now j (after_changes (slot_in c.args.self.now c.args.slot) (remove_from (slot_in c.args.self.now c.args.slot)).changes)) c.place.ensures.place
 
 pub invariant_of-self : goal.invariant_of-self
 invariant_of-self c =
     let was = c.index_mut-state.result.now in
-    let rings = written_rings c.self.inside.slots.items c.place.result was c.clear.new.slot (c.self.invariant.0, c.self.invariant.1) c.place.ensures.limit c.index_mut-state.ensures.value
-    (λ old. subst IsRecord (sym c.clear.ensures.slot) (ring_clear (as_seen was) old)) in
+    let rings = written_rings c.self.inside.slots.items c.place.result was c.remove.new.self (c.self.invariant.0, c.self.invariant.1) c.place.ensures.limit c.index_mut-state.ensures.value
+    (λ old. subst IsRecord (sym c.remove.ensures.slot) (ring_clear (as_seen was) old)) in
     let sent = slot_sent c.self.inside.slots.items c.self.inside.watches.items c.place.result c.self.invariant.0 c.self.invariant.2 c.place.ensures.limit c.self.invariant.4
-    was c.clear.new.slot c.index_mut-state.ensures.value (subst (λ (s : Slot). (as_seen was).serial ≤ s.serial) (sym c.clear.ensures.slot) (remove_rises (as_seen was))) in
+    was c.remove.new.self c.index_mut-state.ensures.value (subst (λ (s : Slot). (as_seen was).serial ≤ s.serial) (sym c.remove.ensures.slot) (remove_rises (as_seen was))) in
     (rings.0, rings.1, c.self.invariant.2, c.self.invariant.3, sent, c.self.invariant.5)

@@ -28,7 +28,7 @@ returns-clause-restored c =
     let in_ = c.self.inside in
     let new = restored_slot c.args.stored.now in
     then_ok c.restore.result c.restore.ensures.restored (λ is.
-    slot_write in_.index in_.now in_.slots.items in_.watches.items c.args.self.now c.self.view_is c.self.invariant.0 c.place.result in_.now c.args.self.now.now c.restore.new.slot new
+    slot_write in_.index in_.now in_.slots.items in_.watches.items c.args.self.now c.self.view_is c.self.invariant.0 c.place.result in_.now c.args.self.now.now c.restore.new.self new
     (now_is in_.index in_.now in_.slots.items in_.watches.items c.args.self.now c.self.view_is c.self.invariant.0)
     is
     ∙ ap (λ (j : ℕ). written c.args.self.now c.args.self.now.now j new) c.place.ensures.place)
@@ -37,7 +37,7 @@ pub returns-clause-unchanged : goal.returns-clause-unchanged
 returns-clause-unchanged c =
     let in_ = c.self.inside in
     then_err c.restore.result c.restore.ensures.unchanged (λ same.
-    slot_write in_.index in_.now in_.slots.items in_.watches.items c.args.self.now c.self.view_is c.self.invariant.0 c.place.result in_.now c.args.self.now.now c.restore.new.slot (slot_in_place c.args.self.now c.place.result)
+    slot_write in_.index in_.now in_.slots.items in_.watches.items c.args.self.now c.self.view_is c.self.invariant.0 c.place.result in_.now c.args.self.now.now c.restore.new.self (slot_in_place c.args.self.now c.place.result)
     (now_is in_.index in_.now in_.slots.items in_.watches.items c.args.self.now c.self.view_is c.self.invariant.0)
     (ap as_seen same ∙ found c)
     ∙ ap (λ (xs : List Slot). record c.args.self.now { slots = xs }) (set-get_or c.args.self.now.slots c.place.result (new_slot 0)))
@@ -50,8 +50,8 @@ returns-clause-cause c =
 pub invariant_of-self : goal.invariant_of-self
 invariant_of-self c =
     let was = c.index_mut-state.result.now in
-    let rings = written_rings c.self.inside.slots.items c.place.result was c.restore.new.slot (c.self.invariant.0, c.self.invariant.1) c.place.ensures.limit c.index_mut-state.ensures.value
-    (record_either c.restore.result was c.restore.new.slot c.restore.ensures.record c.restore.ensures.unchanged) in
+    let rings = written_rings c.self.inside.slots.items c.place.result was c.restore.new.self (c.self.invariant.0, c.self.invariant.1) c.place.ensures.limit c.index_mut-state.ensures.value
+    (record_either c.restore.result was c.restore.new.self c.restore.ensures.record c.restore.ensures.unchanged) in
     let sent = slot_sent c.self.inside.slots.items c.self.inside.watches.items c.place.result c.self.invariant.0 c.self.invariant.2 c.place.ensures.limit c.self.invariant.4
-    was c.restore.new.slot c.index_mut-state.ensures.value c.restore.ensures.rises in
+    was c.restore.new.self c.index_mut-state.ensures.value c.restore.ensures.rises in
     (rings.0, rings.1, c.self.invariant.2, c.self.invariant.3, sent, c.self.invariant.5)

@@ -1,7 +1,7 @@
 use Rattle.std.proofs.Common.{◌≡◌, ℕ, ◌<◌, ◌∙◌, [], ap, arith, get_or, length-set, map, subst, sym}
 use Rattle.fc_observe.specs.Observers.{ObserverList, list_at_time}
 use Rattle.fc_observe.proofs.Nobody.{empty_after}
-use Rattle.fc_registry.specs.Notes.{IsNotedIn, note_calls, noted_as, sent_of, ticket_told}
+use Rattle.fc_ticket.specs.Notes.{IsNotedIn, note_calls, noted_as, sent_of, ticket_told}
 use Rattle.fc_registry.specs.Slots.{Slot, new_slot}
 use Rattle.fc_registry.specs.Views.{as_seen}
 use Rattle.fc_registry.specs.Watches.{IsSentUpTo}
@@ -20,7 +20,7 @@ invariant_of-self c =
     let was = c.index_mut-watch.result.now in
     let now = c.max-self-inside.result in
     let n = (get_or (map as_seen in_.slots.items) k (new_slot 0)).serial in
-    let serial : c.serial_of-serial.result ≡ n = c.serial_of-serial.ensures
+    let serial : c.serial-serial.result ≡ n = c.serial-serial.ensures
     ∙ ap (λ (s : Slot). s.serial) (slot_there in_.slots.items in_.watches.items k inv.0 inv.2 lt inv.4 c.index.result.now c.index.ensures) in
     let noted = noted_as c.note.result c.note.new.emission in
     let is = subst (λ (m : ℕ). IsNotedIn c.args.told.now c.args.turn c.args.id m (list_at_time now was) noted) serial c.note.ensures.noted in

@@ -2,10 +2,10 @@ use Rattle.std.proofs.Common.{◌≡◌, Bool, false, None, ◌++◌, ◌∷◌,
 use Rattle.coap_msg.specs.declared.types.Emission.{Emission}
 use Rattle.fc_core.specs.declared.event.Event.TheVariants.{Fire}
 use Rattle.fc_core.specs.declared.stage.Task.{Task}
-use Rattle.fc_core.specs.Exchanges.{has_exchange}
-use Rattle.fc_core.specs.Receiving.{emission_if}
+use Rattle.fc_front.specs.Exchanges.{has_exchange}
+use Rattle.fc_front.specs.Receiving.{emission_if}
 use Rattle.fc_core.specs.Stages.{new_task}
-use Rattle.fc_core.specs.Timers.{timer_job}
+use Rattle.fc_front.specs.Timers.{timer_job}
 use Rattle.fc_server.specs.Serving.{FiresTimer, IsBegun, Serves, next, run_through}
 use Rattle.fc_server.specs.States.{ServerState}
 use Rattle.fc_server.proofs.Served.{fired_begun, fired_on, fired_served}

@@ -1,8 +1,8 @@
 use Rattle.std.proofs.Common.{true, None, ap, sym, subst, ◌∙◌}
-use Rattle.fc_core.specs.declared.front.Handled.{Handled as Hearing}
+use Rattle.fc_front.specs.declared.front.Handled.{Handled as Hearing}
 use Rattle.fc_core.specs.declared.stage.Task.{Task}
-use Rattle.fc_core.specs.Exchanges.{advanced}
-use Rattle.fc_core.specs.Receiving.{delivered, emission_if, handled}
+use Rattle.fc_front.specs.Exchanges.{advanced}
+use Rattle.fc_front.specs.Receiving.{delivered, emission_if, handled}
 use Rattle.fc_server.specs.Serving.{Handles, IsBegun, WorksOff}
 use Rattle.fc_server.specs.States.{ServerState}
 use Rattle.fc_server.proofs.Served.{IsJobless, begun_by, handled_job, handled_on, handled_signal, reached_by, sent_by, still_served}

@@ -2,10 +2,10 @@ use Rattle.std.proofs.Common.{◌≡◌, Bool, true, false, [], ◌∷◌, ◌++
 use Rattle.std.specs.Prelude.{is_some}
 use Rattle.fc_core.specs.declared.event.Event.TheVariants.{Due}
 use Rattle.fc_core.specs.declared.stage.Task.{Task}
-use Rattle.fc_core.specs.Exchanges.{FrontState}
+use Rattle.fc_front.specs.Exchanges.{FrontState}
 use Rattle.fc_core.specs.History.{seen}
-use Rattle.fc_core.specs.Ids.{free_id}
-use Rattle.fc_registry.specs.declared.job.Job.{Job}
+use Rattle.fc_front.specs.Ids.{free_id}
+use Rattle.fc_ticket.specs.declared.job.Job.{Job}
 use Rattle.fc_registry.specs.Shards.{shard_at, slot_in_shards}
 use Rattle.fc_registry.specs.Slots.{Slot}
 use Rattle.fc_registry.specs.Turns.{written_if}

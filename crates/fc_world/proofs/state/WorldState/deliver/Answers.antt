@@ -1,9 +1,9 @@
 use Rattle.std.proofs.Common.{None, Some, List, [], ◌∷◌, ◌++◌, map, ap, sym, subst, ◌∙◌}
 use Rattle.std.proofs.lemmas.List.{append-nil}
-use Rattle.fc_core.specs.declared.by_value.Delivered.TheVariants.{Job as Brings}
-use Rattle.fc_core.specs.declared.front.Handled.{Handled as Hearing}
+use Rattle.fc_front.specs.declared.by_value.Delivered.TheVariants.{Job as Brings}
+use Rattle.fc_front.specs.declared.front.Handled.{Handled as Hearing}
 use Rattle.fc_core.specs.declared.stage.Task.{Task}
-use Rattle.fc_core.specs.Receiving.{handled}
+use Rattle.fc_front.specs.Receiving.{handled}
 use Rattle.fc_core.specs.Stages.{new_task}
 use Rattle.fc_server.specs.Serving.{with_tasks}
 use Rattle.fc_server.specs.Steps.{DeliveredTo}

@@ -1,7 +1,7 @@
 use Rattle.std.proofs.Common.{◌≡◌, Bool, true, false, List, [], ◌∷◌, ◌++◌, Option, ap, arith, inl, inr, refl, ◌∙◌}
 use Rattle.std.specs.Option.{option_to_list}
 use Rattle.coap_msg.specs.declared.types.Emission.{Emission}
-use Rattle.fc_core.specs.Receiving.{emission_if}
+use Rattle.fc_front.specs.Receiving.{emission_if}
 use Rattle.fc_server.proofs.FlushingSteps.{done_at_bound, done_at_end, next_step}
 use Rattle.fc_server.specs.SingleThread.{alone_calls}
 use Rattle.fc_server.specs.Flushing.{sent_in_step, sent_in_steps}

@@ -2,9 +2,9 @@ use Rattle.std.proofs.Common.{◌≡◌, ℕ, Bool, List, subst}
 use Rattle.std.specs.Borrow.{Bor}
 use Rattle.coap_msg.specs.declared.types.Emission.{Emission}
 use Rattle.coap_msg.specs.declared.types.Endpoint.{Endpoint}
-use Rattle.fc_core.specs.Exchanges.{advanced}
-use Rattle.fc_core.specs.Receiving.{delivered, emission_if}
-use Rattle.fc_core.specs.declared.front.Handled.{Handled}
+use Rattle.fc_front.specs.Exchanges.{advanced}
+use Rattle.fc_front.specs.Receiving.{delivered, emission_if}
+use Rattle.fc_front.specs.declared.front.Handled.{Handled}
 use Rattle.fc_server.specs.SingleThread.{HandlesAlone}
 use Rattle.fc_server.specs.Ingresses.{is_reply}
 use Rattle.fc_server.specs.Serving.{Handles}

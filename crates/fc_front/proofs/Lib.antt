@@ -1,0 +1,3 @@
+mod Draws
+mod Authorizing
+pub mod Words

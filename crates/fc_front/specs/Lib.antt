@@ -1,0 +1,13 @@
+pub mod Ids
+pub mod Contents
+pub mod Heads
+pub mod Links
+pub mod Ends
+pub mod Replies
+pub mod Policies
+pub mod Exchanges
+pub mod Gauges
+pub mod Receiving
+pub mod Askings
+pub mod Answering
+pub mod Timers

@@ -1,0 +1,5 @@
+pub mod Telling
+pub mod Endings
+pub mod OwnRuns
+pub mod Registering
+pub mod JobTickets
