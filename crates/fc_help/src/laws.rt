@@ -1,8 +1,8 @@
 //! Laws about helpers and the memory of programs, for the crates above.
 //!
 //! Each law is the contract of an empty function.
-ghost use Rattle.std.specs.Prelude.{List, None, Some, length, pos, slice_index, ℕ, ◌*◌, ◌+◌, ◌-◌, ◌<◌, ◌^◌, ◌≡◌, ◌≤◌};
-ghost use Rattle.fc_help.specs.Helpers.{helper_of, room_of, signature_of};
+ghost use Rattle.std.specs.Prelude.{List, None, Some, codes, length, pos, slice_index, ℕ, ◌*◌, ◌+◌, ◌-◌, ◌<◌, ◌^◌, ◌≡◌, ◌≤◌};
+ghost use Rattle.fc_help.specs.Helpers.{helper_name, helper_of, room_of, signature_of};
 ghost use Rattle.fc_help.specs.Region.{readings_region, region_of};
 ghost use Rattle.fc_help.specs.Layout.{FitsRegion};
 ghost use Rattle.fc_help.specs.Request.{Request};
@@ -25,6 +25,17 @@ pub fn helpers_have_their_numbers()
     ensures no_more { (n : ℕ) → 7 < n → helper_of (pos n) ≡ None }
     ensures get { room_of Get ≡ 4096 }
     ensures post { room_of Post ≡ 1024 }
+{}
+
+/// Each helper's name in a source.
+pub fn helpers_have_their_names()
+    ensures payload_len { helper_name PayloadLen ≡ codes "payload_len" }
+    ensures payload_byte { helper_name PayloadByte ≡ codes "payload_byte" }
+    ensures var_get { helper_name VarGet ≡ codes "var_get" }
+    ensures var_put { helper_name VarPut ≡ codes "var_put" }
+    ensures reply_put { helper_name ReplyPut ≡ codes "reply_put" }
+    ensures reply_byte { helper_name ReplyByte ≡ codes "reply_byte" }
+    ensures notify { helper_name Notify ≡ codes "notify" }
 {}
 
 /// Each helper's arguments, and the greatest number that it returns.
