@@ -7,7 +7,8 @@ ghost use Rattle.fc_alu.specs.Instructions.{is_computation};
 
 use fc_alu::{alu, truth};
 use fc_isa::{
-    AluOp, ByteOrder, Insn, Jump, Operand, Reg, Relation, SignExtension, SwapWidth, Target, Width,
+    AluOp, ByteOrder, Insn, Jump, Operand, Reg, Relation, SignExtension, SwapWidth, Target,
+    UnaryOp, Width,
 };
 
 const MANY: u64 = 0xfedc_ba98_7654_3210;
@@ -142,8 +143,8 @@ fn negation_is_zero_less_the_number(rt: HostRuntime) {
         (Width::W64, 1, 0xffff_ffff_ffff_ffff),
         (Width::W64, 0xffff_ffff_0000_0001, 0xffff_ffff),
     ] {
-        let insn = Insn::Neg {
-            width,
+        let insn = Insn::Unary {
+            op: UnaryOp::Neg(width),
             dst: Target::new(0),
         };
         assert_eq!(rt; alu(insn, dst, 0), want, "{width:?} {dst}");
@@ -194,9 +195,8 @@ fn byte_orders_reverse_the_low_bytes(rt: HostRuntime) {
         (ByteOrder::Swapped, SwapWidth::S32, 0x8877_6655),
         (ByteOrder::Swapped, SwapWidth::S64, 0x8877_6655_4433_2211),
     ] {
-        let insn = Insn::End {
-            order,
-            width,
+        let insn = Insn::Unary {
+            op: UnaryOp::End(order, width),
             dst: Target::new(0),
         };
         assert_eq!(rt;

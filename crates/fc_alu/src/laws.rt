@@ -14,7 +14,7 @@ ghost use Rattle.fc_isa.specs.declared.insn.AluOp.{AluOp};
 ghost use Rattle.fc_isa.specs.declared.insn.AluOp.TheVariants.{Add, Sub, Mul, Div, Sdiv, Mod, Smod, Or, And, Xor, Lsh, Rsh, Arsh, Mov};
 ghost use Rattle.fc_isa.specs.declared.insn.ByteOrder.{ByteOrder};
 ghost use Rattle.fc_isa.specs.declared.insn.ByteOrder.TheVariants.{Little, Big, Swapped};
-ghost use Rattle.fc_isa.specs.declared.insn.Insn.TheVariants.{Alu, Neg, SignExtend, End};
+ghost use Rattle.fc_isa.specs.declared.insn.Insn.TheVariants.{Alu, Unary, SignExtend};
 ghost use Rattle.fc_isa.specs.declared.insn.Jump.{Jump};
 ghost use Rattle.fc_isa.specs.declared.insn.Operand.{Operand};
 ghost use Rattle.fc_isa.specs.declared.insn.Relation.TheVariants.{Eq, Gt, Ge, Set, Ne, Sgt, Sge, Lt, Le, Slt, Sle};
@@ -22,6 +22,7 @@ ghost use Rattle.fc_isa.specs.declared.insn.SignExtension.{SignExtension};
 ghost use Rattle.fc_isa.specs.declared.insn.SignExtension.TheVariants.{Byte, HalfWord, Word};
 ghost use Rattle.fc_isa.specs.declared.insn.SwapWidth.{SwapWidth};
 ghost use Rattle.fc_isa.specs.declared.insn.SwapWidth.TheVariants.{S16, S32, S64};
+ghost use Rattle.fc_isa.specs.declared.insn.UnaryOp.TheVariants.{Neg, End};
 ghost use Rattle.fc_isa.specs.declared.insn.Width.{Width};
 ghost use Rattle.fc_isa.specs.declared.insn.Width.TheVariants.{W32, W64};
 
@@ -298,7 +299,7 @@ pub fn comparisons_of_halves_hold_at_these_numbers()
     ensures bit_31_alone { relations_of W32 0x8000_0000 0 ≡ Gt ∷ Ge ∷ Ne ∷ Slt ∷ Sle ∷ [] }
 {}
 
-#[tactic(auto, unfolding(crate::specs::Instructions::alu))]
+#[tactic(auto, unfolding(crate::specs::Instructions::alu, crate::specs::Arithmetic::unary_result))]
 /// The destination is the left operand, and the source is the right one.
 ///
 /// For example, the destination is on the left in `dst -= src`, and in the jump condition
@@ -307,9 +308,10 @@ pub fn comparisons_of_halves_hold_at_these_numbers()
 pub fn operands_have_their_places()
     ensures operation { (op : AluOp) (width : Width) (r dst src : ℕ) (operand : Operand)
         → alu (Alu op width r operand) dst src ≡ computed_at op width dst src }
-    ensures negation { (width : Width) (r dst src : ℕ) → alu (Neg width r) dst src ≡ negated width dst }
+    ensures negation { (width : Width) (r dst src : ℕ) → alu (Unary (Neg width) r) dst src ≡ negated width dst }
     ensures extension { (extension : SignExtension) (r s dst src : ℕ)
         → alu (SignExtend extension r s) dst src ≡ sign_extended extension src }
-    ensures swap { (order : ByteOrder) (width : SwapWidth) (r dst src : ℕ) → alu (End order width r) dst src ≡ ordered order width dst }
+    ensures swap { (order : ByteOrder) (width : SwapWidth) (r dst src : ℕ)
+        → alu (Unary (End order width) r) dst src ≡ ordered order width dst }
     ensures jump { (j : Jump) (dst src : ℕ) → truth j dst src ≡ compared j.relation j.width dst src }
 {}

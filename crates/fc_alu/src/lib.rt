@@ -31,9 +31,11 @@ pub mod instruction;
 pub mod laws;
 pub mod operation;
 pub mod sign_extension;
+pub mod unary_operation;
 
 pub use byte_order::reorder;
 pub use comparison::{compare, truth};
 pub use instruction::alu;
-pub use operation::{arithmetic, neg};
+pub use operation::arithmetic;
 pub use sign_extension::sign_extend;
+pub use unary_operation::{neg, unary};

@@ -1,6 +1,6 @@
-//! Operations with two operands, and negation.
+//! Operations with two operands.
 ghost use Rattle.std.specs.Prelude.{◌≡◌, ◌%◌, ◌^◌};
-ghost use Rattle.fc_alu.specs.Arithmetic.{computed, computed_at, negated};
+ghost use Rattle.fc_alu.specs.Arithmetic.{computed, computed_at};
 
 use fc_isa::{AluOp, Width};
 
@@ -136,18 +136,4 @@ fn smod64(a: u64, b: u64) -> u64
     a.cast_signed()
         .wrapping_rem(b.cast_signed())
         .cast_unsigned()
-}
-
-/// Negates a whole register, or its low half.
-///
-/// The negation of a low half has zeros in the upper half (RFC 9669, section 4.1).
-#[tactic(auto, unfolding(crate::specs::Arithmetic::negated))]
-#[inline(always)]
-pub fn neg(width: Width, dst: u64) -> u64
-    ensures { result ≡ negated width dst }
-{
-    match width {
-        Width::W32 => low_half(dst).wrapping_neg() as u64,
-        Width::W64 => dst.wrapping_neg(),
-    }
 }

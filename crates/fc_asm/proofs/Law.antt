@@ -6,7 +6,7 @@ use Rattle.std.specs.List.{flat_map, list_all, prefix_len, position_or_len, slic
 use Rattle.std.proofs.lemmas.Bool.{and_parts, and_from, cond-true}
 use Rattle.std.proofs.lemmas.List.{take_all}
 use Rattle.fc_isa.specs.declared.insn.Insn.{Insn}
-use Rattle.fc_isa.specs.declared.insn.Insn.TheVariants.{Alu, Neg, SignExtend, End, LoadWide, WideSecond, Load, StoreImm, Store, JumpAlways, JumpAlwaysLong, JumpIf, CallHelper, CallLocal, Exit}
+use Rattle.fc_isa.specs.declared.insn.Insn.TheVariants.{Alu, Unary, SignExtend, LoadWide, WideSecond, Load, StoreImm, Store, JumpAlways, JumpAlwaysLong, JumpIf, CallHelper, CallLocal, Exit}
 use Rattle.fc_isa.specs.declared.insn.SignExtension.{SignExtension}
 use Rattle.fc_isa.specs.declared.insn.SignExtension.TheVariants.{Byte, HalfWord, Word}
 use Rattle.fc_isa.specs.Encoding.{extended_bits, extended_width}
@@ -76,7 +76,7 @@ spelled (Alu op w d o) h n = (
     words = words_two _ _ (register_word d h.0) (operand_means o h.1).1;
   },
 )
-spelled (Neg w d) h n = (mnemonic.Neg w, record { line_is = refl; means = one_means _ _ d (target_means d h); words = words_one _ (register_word d h) })
+spelled (Unary op d) h n = (mnemonic.Unary op, record { line_is = refl; means = one_means _ _ d (target_means d h); words = words_one _ (register_word d h) })
 spelled (SignExtend x d s) h n = (
   mnemonic.SignExtend (extended_width x),
   record {
@@ -85,7 +85,6 @@ spelled (SignExtend x d s) h n = (
     words = words_three _ _ _ (register_word d h.0) (register_means s h.1).1 (extension_means x).1;
   },
 )
-spelled (End o w d) h n = (mnemonic.End o w, record { line_is = refl; means = one_means _ _ d (target_means d h); words = words_one _ (register_word d h) })
 spelled (LoadWide d v) h n = (
   mnemonic.LoadWide,
   record {

@@ -6,6 +6,7 @@ use Rattle.fc_isa.specs.declared.insn.LoadType.TheVariants.{Unsigned, SignedByte
 use Rattle.fc_isa.specs.declared.insn.Relation.TheVariants.{Eq, Gt, Ge, Set, Ne, Sgt, Sge, Lt, Le, Slt, Sle}
 use Rattle.fc_isa.specs.declared.insn.Size.TheVariants.{Byte, HalfWord, Word, DoubleWord}
 use Rattle.fc_isa.specs.declared.insn.SwapWidth.TheVariants.{S16, S32, S64}
+use Rattle.fc_isa.specs.declared.insn.UnaryOp.TheVariants.{Neg, End}
 use Rattle.fc_isa.specs.declared.insn.Width.TheVariants.{W32, W64}
 use Rattle.fc_asm.specs.declared.mnemonic.Mnemonic.{Mnemonic}
 use Rattle.fc_asm.specs.declared.mnemonic.Mnemonic.TheVariants as mnemonic
@@ -42,19 +43,19 @@ named_name (mnemonic.Alu Sdiv W64) = (refl, refl)
 named_name (mnemonic.Alu Sdiv W32) = (refl, refl)
 named_name (mnemonic.Alu Smod W64) = (refl, refl)
 named_name (mnemonic.Alu Smod W32) = (refl, refl)
-named_name (mnemonic.Neg W64) = (refl, refl)
-named_name (mnemonic.Neg W32) = (refl, refl)
+named_name (mnemonic.Unary (Neg W64)) = (refl, refl)
+named_name (mnemonic.Unary (Neg W32)) = (refl, refl)
 named_name (mnemonic.SignExtend W64) = (refl, refl)
 named_name (mnemonic.SignExtend W32) = (refl, refl)
-named_name (mnemonic.End Little S16) = (refl, refl)
-named_name (mnemonic.End Little S32) = (refl, refl)
-named_name (mnemonic.End Little S64) = (refl, refl)
-named_name (mnemonic.End Big S16) = (refl, refl)
-named_name (mnemonic.End Big S32) = (refl, refl)
-named_name (mnemonic.End Big S64) = (refl, refl)
-named_name (mnemonic.End Swapped S16) = (refl, refl)
-named_name (mnemonic.End Swapped S32) = (refl, refl)
-named_name (mnemonic.End Swapped S64) = (refl, refl)
+named_name (mnemonic.Unary (End Little S16)) = (refl, refl)
+named_name (mnemonic.Unary (End Little S32)) = (refl, refl)
+named_name (mnemonic.Unary (End Little S64)) = (refl, refl)
+named_name (mnemonic.Unary (End Big S16)) = (refl, refl)
+named_name (mnemonic.Unary (End Big S32)) = (refl, refl)
+named_name (mnemonic.Unary (End Big S64)) = (refl, refl)
+named_name (mnemonic.Unary (End Swapped S16)) = (refl, refl)
+named_name (mnemonic.Unary (End Swapped S32)) = (refl, refl)
+named_name (mnemonic.Unary (End Swapped S64)) = (refl, refl)
 named_name mnemonic.LoadWide = (refl, refl)
 named_name (mnemonic.Load (Unsigned Byte)) = (refl, refl)
 named_name (mnemonic.Load (Unsigned HalfWord)) = (refl, refl)

@@ -30,9 +30,8 @@ none_leads (a ∷ more) i e = absurd (cc e)
 
 insn_leads : (m : Mnemonic) (operands : List Text) (i : Insn) → insn_from m operands ≡ Ok i → leads i ≡ true
 insn_leads (mnemonic.Alu op width) ops i e = read_then (two_of ops) _ i (λ ws. made _ _ i (λ a. refl)) e
-insn_leads (mnemonic.Neg width) ops i e = read_then (one_of ops) _ i (λ ws. made _ _ i (λ a. refl)) e
+insn_leads (mnemonic.Unary op) ops i e = read_then (one_of ops) _ i (λ ws. made _ _ i (λ a. refl)) e
 insn_leads (mnemonic.SignExtend width) ops i e = read_then (three_of ops) _ i (λ ws. made _ _ i (λ a. refl)) e
-insn_leads (mnemonic.End order width) ops i e = read_then (one_of ops) _ i (λ ws. made _ _ i (λ a. refl)) e
 insn_leads mnemonic.LoadWide ops i e = read_then (two_of ops) _ i (λ ws. made _ _ i (λ a. refl)) e
 insn_leads (mnemonic.Load loaded) ops i e = read_then (three_of ops) _ i (λ ws. made _ _ i (λ a. refl)) e
 insn_leads (mnemonic.StoreImm size) ops i e = read_then (three_of ops) _ i (λ ws. made _ _ i (λ a. refl)) e

@@ -4,7 +4,7 @@ use Rattle.std.specs.Prelude.{ℕ, pos, List, [], ◌∷◌, ◌++◌, Option, S
 use Rattle.std.specs.Fmt.{decimal, signed_decimal}
 use Rattle.std.specs.List.{flat_map}
 use Rattle.fc_isa.specs.declared.insn.Insn.{Insn}
-use Rattle.fc_isa.specs.declared.insn.Insn.TheVariants.{Alu, Neg, SignExtend, End, LoadWide, WideSecond, Load, StoreImm, Store, JumpAlways, JumpAlwaysLong, JumpIf, CallHelper, CallLocal, Exit}
+use Rattle.fc_isa.specs.declared.insn.Insn.TheVariants.{Alu, Unary, SignExtend, LoadWide, WideSecond, Load, StoreImm, Store, JumpAlways, JumpAlwaysLong, JumpIf, CallHelper, CallLocal, Exit}
 use Rattle.fc_isa.specs.declared.insn.Operand.{Operand}
 use Rattle.fc_isa.specs.declared.insn.Operand.TheVariants.{Imm, Reg}
 use Rattle.fc_isa.specs.Encoding.{extended_bits, extended_width}
@@ -23,9 +23,8 @@ operand_text (Reg r) = register r
 -- the mnemonic of an instruction. The second half of a wide load has none, and no line.
 abbrev pub mnemonic_of : Insn → Option Mnemonic
 mnemonic_of (Alu op width dst operand) = Some (mnemonic.Alu op width)
-mnemonic_of (Neg width dst) = Some (mnemonic.Neg width)
+mnemonic_of (Unary op dst) = Some (mnemonic.Unary op)
 mnemonic_of (SignExtend extension dst src) = Some (mnemonic.SignExtend (extended_width extension))
-mnemonic_of (End order width dst) = Some (mnemonic.End order width)
 mnemonic_of (LoadWide dst value) = Some mnemonic.LoadWide
 mnemonic_of WideSecond = None
 mnemonic_of (Load loaded dst base offset) = Some (mnemonic.Load loaded)
@@ -41,9 +40,8 @@ mnemonic_of Exit = Some mnemonic.Exit
 -- an instruction's operands, in the order of the line.
 abbrev pub operands_of : Insn → List Text
 operands_of (Alu op width dst operand) = register dst ∷ operand_text operand ∷ []
-operands_of (Neg width dst) = register dst ∷ []
+operands_of (Unary op dst) = register dst ∷ []
 operands_of (SignExtend extension dst src) = register dst ∷ register src ∷ signed_decimal (pos (extended_bits extension)) ∷ []
-operands_of (End order width dst) = register dst ∷ []
 operands_of (LoadWide dst value) = register dst ∷ decimal value ∷ []
 operands_of WideSecond = []
 operands_of (Load loaded dst base offset) = register dst ∷ register base ∷ signed_decimal offset ∷ []

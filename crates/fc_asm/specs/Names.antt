@@ -13,6 +13,8 @@ use Rattle.fc_isa.specs.declared.insn.Size.{Size}
 use Rattle.fc_isa.specs.declared.insn.Size.TheVariants.{Byte, HalfWord, Word, DoubleWord}
 use Rattle.fc_isa.specs.declared.insn.SwapWidth.{SwapWidth}
 use Rattle.fc_isa.specs.declared.insn.SwapWidth.TheVariants.{S16, S32, S64}
+use Rattle.fc_isa.specs.declared.insn.UnaryOp.{UnaryOp}
+use Rattle.fc_isa.specs.declared.insn.UnaryOp.TheVariants.{Neg, End}
 use Rattle.fc_isa.specs.declared.insn.Width.{Width}
 use Rattle.fc_isa.specs.declared.insn.Width.TheVariants.{W32, W64}
 use Rattle.fc_isa.specs.Shapes.{relations, sizes}
@@ -77,12 +79,15 @@ relation_name Le = codes "jle"
 relation_name Slt = codes "jslt"
 relation_name Sle = codes "jsle"
 
+abbrev pub unary_name : UnaryOp → Text
+unary_name (Neg width) = codes "neg" ++ width_digits width
+unary_name (End order width) = order_name order ++ swap_digits width
+
 -- the first word of an instruction's line.
 abbrev pub name_of : Mnemonic → Text
 name_of (mnemonic.Alu op width) = alu_name op ++ width_digits width
-name_of (mnemonic.Neg width) = codes "neg" ++ width_digits width
+name_of (mnemonic.Unary op) = unary_name op
 name_of (mnemonic.SignExtend width) = codes "movsx" ++ width_digits width
-name_of (mnemonic.End order width) = order_name order ++ swap_digits width
 name_of mnemonic.LoadWide = codes "lddw"
 name_of (mnemonic.Load loaded) = load_name loaded
 name_of (mnemonic.StoreImm size) = codes "st" ++ size_name size
@@ -100,13 +105,13 @@ abbrev pub alu_ops : List AluOp
 alu_ops = Add ∷ Sub ∷ Mul ∷ Div ∷ Or ∷ And ∷ Lsh ∷ Rsh ∷ Mod ∷ Xor ∷ Mov ∷ Arsh ∷ Sdiv ∷ Smod ∷ []
 
 abbrev pub swaps : ByteOrder → List Mnemonic
-swaps order = mnemonic.End order S16 ∷ mnemonic.End order S32 ∷ mnemonic.End order S64 ∷ []
+swaps order = mnemonic.Unary (End order S16) ∷ mnemonic.Unary (End order S32) ∷ mnemonic.Unary (End order S64) ∷ []
 
 -- all mnemonics.
 abbrev pub mnemonics : List Mnemonic
 mnemonics =
     map (λ op. mnemonic.Alu op W64) alu_ops ++ (map (λ op. mnemonic.Alu op W32) alu_ops
-    ++ (mnemonic.Neg W64 ∷ mnemonic.Neg W32 ∷ mnemonic.SignExtend W64 ∷ mnemonic.SignExtend W32 ∷ [] ++ (swaps Little ++ (swaps Big ++ (swaps Swapped
+    ++ (mnemonic.Unary (Neg W64) ∷ mnemonic.Unary (Neg W32) ∷ mnemonic.SignExtend W64 ∷ mnemonic.SignExtend W32 ∷ [] ++ (swaps Little ++ (swaps Big ++ (swaps Swapped
     ++ (mnemonic.LoadWide ∷ [] ++ (map (λ size. mnemonic.Load (Unsigned size)) sizes ++ (mnemonic.Load SignedByte ∷ mnemonic.Load SignedHalfWord ∷ mnemonic.Load SignedWord ∷ []
     ++ (map mnemonic.StoreImm sizes ++ (map mnemonic.Store sizes ++ (mnemonic.JumpAlways ∷ mnemonic.JumpAlwaysLong ∷ [] ++ (map (λ relation. mnemonic.JumpIf relation W64) relations
     ++ (map (λ relation. mnemonic.JumpIf relation W32) relations ++ (mnemonic.CallHelper ∷ mnemonic.CallLocal ∷ mnemonic.Exit ∷ []))))))))))))))

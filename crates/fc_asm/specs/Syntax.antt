@@ -2,7 +2,7 @@
 use Rattle.std.specs.Prelude.{◌==◌, nat_lt, List, [], ◌∷◌, length, filter, Option, Some, None, Ok, Err}
 use Rattle.std.specs.List.{slice_split, before_first, flat_map}
 use Rattle.fc_isa.specs.declared.insn.Insn.{Insn}
-use Rattle.fc_isa.specs.declared.insn.Insn.TheVariants.{Alu, Neg, SignExtend, End, LoadWide, Load, StoreImm, Store, JumpAlways, JumpAlwaysLong, JumpIf, CallHelper, CallLocal, Exit}
+use Rattle.fc_isa.specs.declared.insn.Insn.TheVariants.{Alu, Unary, SignExtend, LoadWide, Load, StoreImm, Store, JumpAlways, JumpAlwaysLong, JumpIf, CallHelper, CallLocal, Exit}
 use Rattle.fc_asm.specs.declared.error.Mistake.TheVariants.{UnknownWord, Operand}
 use Rattle.fc_asm.specs.declared.mnemonic.Mnemonic.{Mnemonic}
 use Rattle.fc_asm.specs.declared.mnemonic.Mnemonic.TheVariants as mnemonic
@@ -60,9 +60,8 @@ of_none insn other = Err Operand
 -- the instruction with a mnemonic and its operands.
 abbrev pub insn_from : Mnemonic → List Text → Reading Insn
 insn_from (mnemonic.Alu op width) = of_two (λ dst operand. Alu op width dst operand) target_from operand_from
-insn_from (mnemonic.Neg width) = of_one (λ dst. Neg width dst) target_from
+insn_from (mnemonic.Unary op) = of_one (λ dst. Unary op dst) target_from
 insn_from (mnemonic.SignExtend width) = of_three (λ dst src extension. SignExtend extension dst src) target_from register_from (extension_from width)
-insn_from (mnemonic.End order width) = of_one (λ dst. End order width dst) target_from
 insn_from mnemonic.LoadWide = of_two (λ dst value. LoadWide dst value) target_from wide_from
 insn_from (mnemonic.Load loaded) = of_three (λ dst base offset. Load loaded dst base offset) target_from register_from offset_from
 insn_from (mnemonic.StoreImm size) = of_three (λ base offset imm. StoreImm size base offset imm) register_from offset_from imm_from

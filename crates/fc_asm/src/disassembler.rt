@@ -154,9 +154,8 @@ fn mnemonic(insn: Insn) -> Option<Mnemonic>
 {
     Some(match insn {
         Insn::Alu { op, width, .. } => Mnemonic::Alu(op, width),
-        Insn::Neg { width, .. } => Mnemonic::Neg(width),
+        Insn::Unary { op, .. } => Mnemonic::Unary(op),
         Insn::SignExtend { extension, .. } => extend(extension),
-        Insn::End { order, width, .. } => Mnemonic::End(order, width),
         Insn::LoadWide { .. } => Mnemonic::LoadWide,
         Insn::WideSecond => return None,
         Insn::Load { loaded, .. } => Mnemonic::Load(loaded),
@@ -200,13 +199,12 @@ fn shown_operands(insn: Insn) -> Operands
 {
     match insn {
         Insn::Alu { dst, operand, .. } => Operands::Two(dst.into(), operand.into()),
-        Insn::Neg { dst, .. } => Operands::One(dst.into()),
+        Insn::Unary { dst, .. } => Operands::One(dst.into()),
         Insn::SignExtend {
             extension,
             dst,
             src,
         } => { Operands::Three(dst.into(), src.into(), bits(extension).into()) }
-        Insn::End { dst, .. } => Operands::One(dst.into()),
         Insn::LoadWide { dst, value } => Operands::Two(dst.into(), ShownOperand::Wide(value)),
         Insn::Load {
             dst,

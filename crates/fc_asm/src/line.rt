@@ -74,16 +74,11 @@ fn insn(mnemonic: Mnemonic, operands: &[&str]) -> Result<Insn, Mistake>
 {
     match mnemonic {
         Mnemonic::Alu(op, width) => arithmetic(op, width, operands),
-        Mnemonic::Neg(width) => Ok(Insn::Neg {
-            width,
+        Mnemonic::Unary(op) => Ok(Insn::Unary {
+            op,
             dst: only_target(operands)?,
         }),
         Mnemonic::SignExtend(width) => extend(width, operands),
-        Mnemonic::End(order, width) => Ok(Insn::End {
-            order,
-            width,
-            dst: only_target(operands)?,
-        }),
         Mnemonic::LoadWide => load_wide(operands),
         Mnemonic::Load(loaded) => load(loaded, operands),
         Mnemonic::StoreImm(size) => store_imm(size, operands),

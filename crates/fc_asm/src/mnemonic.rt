@@ -2,7 +2,7 @@
 ghost use Rattle.std.specs.Prelude.{◌++◌, ◌≡◌};
 ghost use Rattle.fc_asm.specs.Names.{alu_name, load_name, name_of, order_name, relation_name, size_name, swap_digits, width_digits};
 
-use fc_isa::{AluOp, ByteOrder, LoadType, Relation, Size, SwapWidth, Width};
+use fc_isa::{AluOp, ByteOrder, LoadType, Relation, Size, SwapWidth, UnaryOp, Width};
 use std::fmt;
 
 /// A mnemonic, the first word of a line: an instruction without its operands.
@@ -12,12 +12,10 @@ use std::fmt;
 pub enum Mnemonic {
     /// `add64` and similar mnemonics.
     Alu(AluOp, Width),
-    /// `neg64`, `neg32`.
-    Neg(Width),
+    /// `neg64`, `be32` and similar mnemonics.
+    Unary(UnaryOp),
     /// `movsx64`, `movsx32`.
     SignExtend(Width),
-    /// `le16`, `be32`, `swap64` and similar mnemonics.
-    End(ByteOrder, SwapWidth),
     /// `lddw`.
     LoadWide,
     /// `ldxw`, `ldsxw` and similar mnemonics.
@@ -58,9 +56,9 @@ fn parts(mnemonic: Mnemonic) -> (&'static str, &'static str)
 {
     match mnemonic {
         Mnemonic::Alu(op, width) => (alu_name(op), width_digits(width)),
-        Mnemonic::Neg(width) => ("neg", width_digits(width)),
+        Mnemonic::Unary(UnaryOp::Neg(width)) => ("neg", width_digits(width)),
+        Mnemonic::Unary(UnaryOp::End(order, width)) => (order_name(order), swap_digits(width)),
         Mnemonic::SignExtend(width) => ("movsx", width_digits(width)),
-        Mnemonic::End(order, width) => (order_name(order), swap_digits(width)),
         Mnemonic::LoadWide => ("lddw", ""),
         Mnemonic::Load(loaded) => (load_name(loaded), ""),
         Mnemonic::StoreImm(size) => ("st", size_name(size)),

@@ -5,7 +5,7 @@ ghost use Rattle.indexmap.specs.IndexMap.{get_by};
 ghost use Rattle.fc_asm.specs.Names.{mnemonic_named};
 
 use crate::mnemonic::Mnemonic;
-use fc_isa::{AluOp, ByteOrder, LoadType, Relation, Size, SwapWidth, Width};
+use fc_isa::{AluOp, ByteOrder, LoadType, Relation, Size, SwapWidth, UnaryOp, Width};
 use indexmap::IndexMap;
 use std::alloc::{AllocError, Global};
 
@@ -66,19 +66,46 @@ static NAMES: [(&'static str, Mnemonic); 84] = [
     ("arsh32", Mnemonic::Alu(AluOp::Arsh, Width::W32)),
     ("sdiv32", Mnemonic::Alu(AluOp::Sdiv, Width::W32)),
     ("smod32", Mnemonic::Alu(AluOp::Smod, Width::W32)),
-    ("neg64", Mnemonic::Neg(Width::W64)),
-    ("neg32", Mnemonic::Neg(Width::W32)),
+    ("neg64", Mnemonic::Unary(UnaryOp::Neg(Width::W64))),
+    ("neg32", Mnemonic::Unary(UnaryOp::Neg(Width::W32))),
     ("movsx64", Mnemonic::SignExtend(Width::W64)),
     ("movsx32", Mnemonic::SignExtend(Width::W32)),
-    ("le16", Mnemonic::End(ByteOrder::Little, SwapWidth::S16)),
-    ("le32", Mnemonic::End(ByteOrder::Little, SwapWidth::S32)),
-    ("le64", Mnemonic::End(ByteOrder::Little, SwapWidth::S64)),
-    ("be16", Mnemonic::End(ByteOrder::Big, SwapWidth::S16)),
-    ("be32", Mnemonic::End(ByteOrder::Big, SwapWidth::S32)),
-    ("be64", Mnemonic::End(ByteOrder::Big, SwapWidth::S64)),
-    ("swap16", Mnemonic::End(ByteOrder::Swapped, SwapWidth::S16)),
-    ("swap32", Mnemonic::End(ByteOrder::Swapped, SwapWidth::S32)),
-    ("swap64", Mnemonic::End(ByteOrder::Swapped, SwapWidth::S64)),
+    (
+        "le16",
+        Mnemonic::Unary(UnaryOp::End(ByteOrder::Little, SwapWidth::S16)),
+    ),
+    (
+        "le32",
+        Mnemonic::Unary(UnaryOp::End(ByteOrder::Little, SwapWidth::S32)),
+    ),
+    (
+        "le64",
+        Mnemonic::Unary(UnaryOp::End(ByteOrder::Little, SwapWidth::S64)),
+    ),
+    (
+        "be16",
+        Mnemonic::Unary(UnaryOp::End(ByteOrder::Big, SwapWidth::S16)),
+    ),
+    (
+        "be32",
+        Mnemonic::Unary(UnaryOp::End(ByteOrder::Big, SwapWidth::S32)),
+    ),
+    (
+        "be64",
+        Mnemonic::Unary(UnaryOp::End(ByteOrder::Big, SwapWidth::S64)),
+    ),
+    (
+        "swap16",
+        Mnemonic::Unary(UnaryOp::End(ByteOrder::Swapped, SwapWidth::S16)),
+    ),
+    (
+        "swap32",
+        Mnemonic::Unary(UnaryOp::End(ByteOrder::Swapped, SwapWidth::S32)),
+    ),
+    (
+        "swap64",
+        Mnemonic::Unary(UnaryOp::End(ByteOrder::Swapped, SwapWidth::S64)),
+    ),
     ("lddw", Mnemonic::LoadWide),
     ("ldxb", Mnemonic::Load(LoadType::Unsigned(Size::Byte))),
     ("ldxh", Mnemonic::Load(LoadType::Unsigned(Size::HalfWord))),

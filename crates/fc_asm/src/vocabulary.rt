@@ -29,7 +29,7 @@ pub fn operands_of(alloc: Global, word: &str) -> Result<Option<&'static str>, Al
 fn operands(mnemonic: Mnemonic) -> &'static str {
     match mnemonic {
         Mnemonic::Alu(_, _) => "DST, SRC|NUMBER",
-        Mnemonic::Neg(_) | Mnemonic::End(_, _) => "DST",
+        Mnemonic::Unary(_) => "DST",
         Mnemonic::SignExtend(_) => "DST, SRC, BITS",
         Mnemonic::LoadWide => "DST, NUMBER",
         Mnemonic::Load(_) => "DST, BASE, OFFSET",

@@ -6,7 +6,7 @@ use Rattle.std.proofs.lemmas.Bool.{cases_lt}
 use Rattle.std.proofs.lemmas.Bool.Decides.{nat_tests}
 use Rattle.std.proofs.lemmas.List.{get_or-drop, get_or_past}
 use Rattle.fc_isa.specs.declared.insn.Insn.{Insn}
-use Rattle.fc_isa.specs.declared.insn.Insn.TheVariants.{Alu, Neg, SignExtend, End, LoadWide, WideSecond, Load, StoreImm, Store, JumpAlways, JumpAlwaysLong, JumpIf, CallHelper, CallLocal, Exit}
+use Rattle.fc_isa.specs.declared.insn.Insn.TheVariants.{Alu, Unary, SignExtend, LoadWide, WideSecond, Load, StoreImm, Store, JumpAlways, JumpAlwaysLong, JumpIf, CallHelper, CallLocal, Exit}
 use Rattle.fc_isa.specs.declared.rule.Rule.TheVariants.{JumpTarget}
 use Rattle.fc_isa.specs.Program.{is_program}
 use Rattle.fc_isa.specs.Flow.{target, landing}
@@ -104,9 +104,8 @@ call_there slot (JumpAlwaysLong offset) place e = absurd (cc e)
 call_there slot (JumpIf j) place e = absurd (cc e)
 call_there slot (LoadWide dst value) place e = absurd (cc e)
 call_there slot (Alu op width dst operand) place e = absurd (cc e)
-call_there slot (Neg width dst) place e = absurd (cc e)
+call_there slot (Unary op dst) place e = absurd (cc e)
 call_there slot (SignExtend extension dst src) place e = absurd (cc e)
-call_there slot (End order width dst) place e = absurd (cc e)
 call_there slot (Load loaded dst base offset) place e = absurd (cc e)
 call_there slot (StoreImm size base offset imm) place e = absurd (cc e)
 call_there slot (Store size base offset src) place e = absurd (cc e)

@@ -5,7 +5,7 @@ use Rattle.std.proofs.lemmas.Bool.{cases_lt}
 use Rattle.std.proofs.lemmas.Bool.Decides.{nat_tests}
 use Rattle.std.proofs.lemmas.List.{get_or-drop}
 use Rattle.fc_isa.specs.declared.insn.Insn.{Insn}
-use Rattle.fc_isa.specs.declared.insn.Insn.TheVariants.{Alu, Neg, SignExtend, End, LoadWide, WideSecond, Load, StoreImm, Store, JumpAlways, JumpAlwaysLong, JumpIf, CallHelper, CallLocal, Exit}
+use Rattle.fc_isa.specs.declared.insn.Insn.TheVariants.{Alu, Unary, SignExtend, LoadWide, WideSecond, Load, StoreImm, Store, JumpAlways, JumpAlwaysLong, JumpIf, CallHelper, CallLocal, Exit}
 use Rattle.fc_image.specs.Functions.{calls, is_called, is_start, starts_within, frames_called, depth_and, depths}
 use Rattle.fc_image.specs.Tables.{starts_below}
 use Rattle.fc_image.proofs.CostTable.{AreCapped, at_capped, drop_at, first_of, one_more, past_end, rest_capped}
@@ -88,9 +88,8 @@ called_capped cap (JumpAlwaysLong offset) xs ys h = refl
 called_capped cap (JumpIf j) xs ys h = refl
 called_capped cap (LoadWide dst value) xs ys h = refl
 called_capped cap (Alu op width dst operand) xs ys h = refl
-called_capped cap (Neg width dst) xs ys h = refl
+called_capped cap (Unary op dst) xs ys h = refl
 called_capped cap (SignExtend extension dst src) xs ys h = refl
-called_capped cap (End order width dst) xs ys h = refl
 called_capped cap (Load loaded dst base offset) xs ys h = refl
 called_capped cap (StoreImm size base offset imm) xs ys h = refl
 called_capped cap (Store size base offset src) xs ys h = refl

@@ -68,8 +68,7 @@ fn steps_along(costs: &[u32; MOST_SLOTS], slot: usize, insn: &Insn) -> u32
         Insn::JumpIf(jump) => 1 + at(costs, slot, landing(slot, jump.offset as i32)).max(next),
         Insn::CallLocal { offset } => 1 + (at(costs, slot, landing(slot, *offset)) + next),
         Insn::LoadWide { .. } => 1 + at(costs, slot, slot + 2),
-        Insn::Alu { .. } | Insn::Neg { .. } | Insn::SignExtend { .. } | Insn::End { .. } => 1
-            + next,
+        Insn::Alu { .. } | Insn::Unary { .. } | Insn::SignExtend { .. } => 1 + next,
         Insn::Load { .. } | Insn::StoreImm { .. } | Insn::Store { .. } => 1 + next,
         Insn::CallHelper { .. } => 1 + next,
     }

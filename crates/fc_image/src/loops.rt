@@ -199,8 +199,10 @@ pub fn computes(insn: &Insn) -> Option<Target>
     ensures { result ≡ computes insn.now }
 {
     match insn {
-        Insn::Alu { dst, .. } | Insn::Neg { dst, .. } | Insn::SignExtend { dst, .. } => Some(*dst),
-        Insn::End { dst, .. } | Insn::LoadWide { dst, .. } | Insn::Load { dst, .. } => Some(*dst),
+        Insn::Alu { dst, .. } | Insn::Unary { dst, .. } | Insn::SignExtend { dst, .. } => Some(
+            *dst,
+        ),
+        Insn::LoadWide { dst, .. } | Insn::Load { dst, .. } => Some(*dst),
         _ => None,
     }
 }

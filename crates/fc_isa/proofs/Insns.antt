@@ -11,20 +11,22 @@ use Rattle.fc_isa.specs.declared.insn.AluOp.TheVariants.{Add, Mov, Sdiv, Smod}
 use Rattle.fc_isa.specs.declared.insn.Operand.{Operand}
 use Rattle.fc_isa.specs.declared.insn.Operand.TheVariants.{Imm, Reg}
 use Rattle.fc_isa.specs.declared.insn.Relation.{Relation}
+use Rattle.fc_isa.specs.declared.insn.UnaryOp.{UnaryOp}
+use Rattle.fc_isa.specs.declared.insn.UnaryOp.TheVariants.{Neg, End}
 use Rattle.fc_isa.specs.declared.insn.SignExtension.{SignExtension}
 use Rattle.fc_isa.specs.declared.insn.SignExtension.TheVariants.{Byte, HalfWord, Word}
 use Rattle.fc_isa.specs.declared.insn.SwapWidth.{SwapWidth}
 use Rattle.fc_isa.specs.declared.insn.SwapWidth.TheVariants.{S16, S32, S64}
 use Rattle.fc_isa.specs.declared.insn.ByteOrder.{ByteOrder}
 use Rattle.fc_isa.specs.declared.insn.Insn.{Insn}
-use Rattle.fc_isa.specs.declared.insn.Insn.TheVariants.{Alu, Neg, SignExtend, End, LoadWide, WideSecond, Load, StoreImm, Store, JumpAlways, JumpAlwaysLong, JumpIf, CallHelper, CallLocal, Exit}
+use Rattle.fc_isa.specs.declared.insn.Insn.TheVariants.{Alu, Unary, SignExtend, LoadWide, WideSecond, Load, StoreImm, Store, JumpAlways, JumpAlwaysLong, JumpIf, CallHelper, CallLocal, Exit}
 use Rattle.fc_isa.specs.declared.shape.SourceOperand.TheVariants.{X}
 use Rattle.fc_isa.specs.declared.shape.Shape.{Shape}
 use Rattle.fc_isa.specs.declared.shape.Shape.TheVariants.{Alu as AluShape, Neg as NegShape, End as EndShape, LoadWide as LoadWideShape, Load as LoadShape, StoreImm as StoreImmShape, Store as StoreShape, JumpAlways as JumpAlwaysShape, JumpAlwaysLong as JumpAlwaysLongShape, JumpIf as JumpIfShape, Call as CallShape, Exit as ExitShape}
 use Rattle.fc_isa.specs.declared.rule.Rule.TheVariants.{Opcode}
 use Rattle.fc_isa.specs.Shapes.{shape_of, is_known, is_wide, writes_dst}
 use Rattle.fc_isa.specs.Program.{IsOperand, IsInsn}
-use Rattle.fc_isa.specs.Encoding.{Fields, fields_of, source_of, src_of, imm_of, sign_offset, extended_bits, extended_width, swap_bits, swap_width, unused_are_zero, values_allowed, is_second_half, slot_fault, insn_with, insn_of, operand_of, imm_after}
+use Rattle.fc_isa.specs.Encoding.{Fields, fields_of, source_of, src_of, imm_of, sign_offset, extended_bits, extended_width, swap_bits, unary_imm, swap_width, unused_are_zero, values_allowed, is_second_half, slot_fault, insn_with, insn_of, operand_of, imm_after}
 use Rattle.fc_isa.proofs.Forms.{unsigned, alu_form, jump_form, load_form, store_imm_form, store_form, neg_form, end_form, wide_form, always_form, always_long_form, call_form, exit_form}
 
 -- ---- the fields of an instruction
@@ -56,6 +58,10 @@ swap_small S16 = lit< tt
 swap_small S32 = lit< tt
 swap_small S64 = lit< tt
 
+unary_small : (op : UnaryOp) → unary_imm op < 2 ^ 32
+unary_small (End order width) = swap_small width
+unary_small (Neg width) = lit< tt
+
 imm_small : (o : Operand) → IsOperand o → imm_of o < 2 ^ 32
 imm_small (Imm k) h = bits32 k h
 imm_small (Reg r) h = lit< tt
@@ -66,9 +72,8 @@ src_small (Reg r) h = h
 
 pub fields_fit : (i : Insn) → IsInsn i → Fit (fields_of i)
 fields_fit (Alu op width dst operand) h = record { dst = omega (arith, h.0); offset = sign_offset_small op; imm = imm_small operand h.1 }
-fields_fit (Neg width dst) h = record { dst = omega (arith, h); offset = lit< tt; imm = lit< tt }
+fields_fit (Unary op dst) h = record { dst = omega (arith, h); offset = lit< tt; imm = unary_small op }
 fields_fit (SignExtend extension dst src) h = record { dst = omega (arith, h.0); offset = extended_small extension; imm = lit< tt }
-fields_fit (End order width dst) h = record { dst = omega (arith, h); offset = lit< tt; imm = swap_small width }
 fields_fit (LoadWide dst value) h = record { dst = omega (arith, h.0); offset = lit< tt; imm = omega arith }
 fields_fit WideSecond h = record { dst = lit< tt; offset = lit< tt; imm = lit< tt }
 fields_fit (Load loaded dst base offset) h = record { dst = omega (arith, h.0); offset = bits16 offset h.2; imm = lit< tt }
@@ -119,7 +124,7 @@ extend_fine (HalfWord W64) dst src = refl
 extend_fine Word dst src = refl
 
 end_fine : (order : ByteOrder) (w : SwapWidth) (dst : ℕ) →
-    (unused_are_zero (EndShape order) (fields_of (End order w dst)) && values_allowed (EndShape order) (fields_of (End order w dst))) ≡ true
+    (unused_are_zero (EndShape order) (fields_of (Unary (End order w) dst)) && values_allowed (EndShape order) (fields_of (Unary (End order w) dst))) ≡ true
 end_fine order S16 dst = refl
 end_fine order S32 dst = refl
 end_fine order S64 dst = refl
@@ -132,12 +137,12 @@ jump_fine width relation left (Reg r) offset = refl
 pub own_faultless : (i : Insn) (next : Option Fields) → IsInsn i → IsOwn i next → slot_fault (fields_of i) next ≡ None
 own_faultless (Alu op width dst operand) next h o =
     no_fault (fields_of (Alu op width dst operand)) next (AluShape (unsigned op) width (source_of operand)) (alu_form op width (source_of operand)) refl (omega (arith, h.0)) (src_small operand h.1) (not_ten dst h.0) (alu_fine op width dst operand) refl
-own_faultless (Neg width dst) next h o =
-    no_fault (fields_of (Neg width dst)) next (NegShape width) (neg_form width) refl (omega (arith, h)) (lit< tt) (not_ten dst h) refl refl
+own_faultless (Unary (Neg width) dst) next h o =
+    no_fault (fields_of (Unary (Neg width) dst)) next (NegShape width) (neg_form width) refl (omega (arith, h)) (lit< tt) (not_ten dst h) refl refl
 own_faultless (SignExtend extension dst src) next h o =
     no_fault (fields_of (SignExtend extension dst src)) next (AluShape Mov (extended_width extension) X) (alu_form Mov (extended_width extension) X) refl (omega (arith, h.0)) h.1 (not_ten dst h.0) (extend_fine extension dst src) refl
-own_faultless (End order width dst) next h o =
-    no_fault (fields_of (End order width dst)) next (EndShape order) (end_form order) refl (omega (arith, h)) (lit< tt) (not_ten dst h) (end_fine order width dst) refl
+own_faultless (Unary (End order width) dst) next h o =
+    no_fault (fields_of (Unary (End order width) dst)) next (EndShape order) (end_form order) refl (omega (arith, h)) (lit< tt) (not_ten dst h) (end_fine order width dst) refl
 own_faultless (LoadWide dst value) next h o =
     no_fault (fields_of (LoadWide dst value)) next LoadWideShape wide_form.form refl (omega (arith, h.0)) (lit< tt) (not_ten dst h.0) refl (rw o.0 refl)
 own_faultless WideSecond next h o = absurd o
@@ -189,10 +194,10 @@ by_shape i next s e h = ap (λ s. insn_with s (fields_of i) (imm_after next)) e 
 pub own_insn : (i : Insn) (next : Option Fields) → IsInsn i → IsOwn i next → insn_of (fields_of i) next ≡ i
 own_insn (Alu op width dst operand) next h o =
     by_shape (Alu op width dst operand) next (AluShape (unsigned op) width (source_of operand)) (alu_form op width (source_of operand)) (alu_back op width dst operand (imm_after next) h.1)
-own_insn (Neg width dst) next h o = by_shape (Neg width dst) next (NegShape width) (neg_form width) refl
+own_insn (Unary (Neg width) dst) next h o = by_shape (Unary (Neg width) dst) next (NegShape width) (neg_form width) refl
 own_insn (SignExtend extension dst src) next h o =
     by_shape (SignExtend extension dst src) next (AluShape Mov (extended_width extension) X) (alu_form Mov (extended_width extension) X) (extend_back extension dst src (imm_after next))
-own_insn (End order width dst) next h o = by_shape (End order width dst) next (EndShape order) (end_form order) (ap (λ w. End order w dst) (swap_back width))
+own_insn (Unary (End order width) dst) next h o = by_shape (Unary (End order width) dst) next (EndShape order) (end_form order) (ap (λ w. Unary (End order w) dst) (swap_back width))
 own_insn (LoadWide dst value) next h o = by_shape (LoadWide dst value) next LoadWideShape wide_form.form (ap (LoadWide dst) (omega (arith, o.1)))
 own_insn WideSecond next h o = absurd o
 own_insn (Load loaded dst base offset) next h o =

@@ -9,12 +9,14 @@ use Rattle.fc_isa.specs.declared.insn.AluOp.{AluOp}
 use Rattle.fc_isa.specs.declared.insn.AluOp.TheVariants.{Div, Mod, Mov, Sdiv, Smod}
 use Rattle.fc_isa.specs.declared.insn.Operand.{Operand}
 use Rattle.fc_isa.specs.declared.insn.Operand.TheVariants.{Imm, Reg}
+use Rattle.fc_isa.specs.declared.insn.UnaryOp.{UnaryOp}
+use Rattle.fc_isa.specs.declared.insn.UnaryOp.TheVariants.{Neg, End}
 use Rattle.fc_isa.specs.declared.insn.SignExtension.{SignExtension}
 use Rattle.fc_isa.specs.declared.insn.SignExtension.TheVariants.{Byte, HalfWord, Word}
 use Rattle.fc_isa.specs.declared.insn.SwapWidth.{SwapWidth}
 use Rattle.fc_isa.specs.declared.insn.SwapWidth.TheVariants.{S16, S32, S64}
 use Rattle.fc_isa.specs.declared.insn.Insn.{Insn}
-use Rattle.fc_isa.specs.declared.insn.Insn.TheVariants.{Alu, Neg, SignExtend, End, LoadWide, WideSecond, Load, StoreImm, Store, JumpAlways, JumpAlwaysLong, JumpIf, CallHelper, CallLocal, Exit}
+use Rattle.fc_isa.specs.declared.insn.Insn.TheVariants.{Alu, Unary, SignExtend, LoadWide, WideSecond, Load, StoreImm, Store, JumpAlways, JumpAlwaysLong, JumpIf, CallHelper, CallLocal, Exit}
 use Rattle.fc_isa.specs.declared.shape.SourceOperand.{SourceOperand}
 use Rattle.fc_isa.specs.declared.shape.SourceOperand.TheVariants.{K, X}
 use Rattle.fc_isa.specs.declared.shape.Shape.{Shape}
@@ -77,6 +79,16 @@ swap_bits S16 = 16
 swap_bits S32 = 32
 swap_bits S64 = 64
 
+-- the form of an operation on one register.
+abbrev pub unary_shape : UnaryOp → Shape
+unary_shape (Neg width) = shapes.Neg width
+unary_shape (End order width) = shapes.End order
+
+-- the imm of an operation on one register; only a byte-order change uses it.
+abbrev pub unary_imm : UnaryOp → ℕ
+unary_imm (End order width) = swap_bits width
+unary_imm op = 0
+
 abbrev pub fields : Shape → ℕ → ℕ → ℕ → ℕ → Fields
 fields shape dst src offset imm = record { opcode = opcode_of shape; dst = dst; src = src; offset = offset; imm = imm }
 
@@ -84,9 +96,8 @@ fields shape dst src offset imm = record { opcode = opcode_of shape; dst = dst; 
 -- half has zeros here: `second_half` has its fields.
 abbrev pub fields_of : Insn → Fields
 fields_of (Alu op width dst operand) = fields (shapes.Alu op width (source_of operand)) dst (src_of operand) (sign_offset op) (imm_of operand)
-fields_of (Neg width dst) = fields (shapes.Neg width) dst 0 0 0
+fields_of (Unary op dst) = fields (unary_shape op) dst 0 0 (unary_imm op)
 fields_of (SignExtend extension dst src) = fields (shapes.Alu Mov (extended_width extension) X) dst src (extended_bits extension) 0
-fields_of (End order width dst) = fields (shapes.End order) dst 0 0 (swap_bits width)
 fields_of (LoadWide dst value) = fields shapes.LoadWide dst 0 0 (value % 2 ^ 32)
 fields_of WideSecond = record { opcode = 0; dst = 0; src = 0; offset = 0; imm = 0 }
 fields_of (Load loaded dst base offset) = fields (shapes.Load loaded) dst base (cast_unsigned w16 offset) 0
@@ -265,8 +276,8 @@ called f = if f.src == 0 then CallHelper (cast_signed w32 f.imm) else CallLocal 
 -- the instruction of a form with these fields; `high` is the imm of the slot after them.
 abbrev pub insn_with : Shape → Fields → ℕ → Insn
 insn_with (shapes.Alu op width source) f high = arithmetic op width source f
-insn_with (shapes.Neg width) f high = Neg width f.dst
-insn_with (shapes.End order) f high = End order (swap_width f.imm) f.dst
+insn_with (shapes.Neg width) f high = Unary (Neg width) f.dst
+insn_with (shapes.End order) f high = Unary (End order (swap_width f.imm)) f.dst
 insn_with shapes.LoadWide f high = LoadWide f.dst (high * 2 ^ 32 + f.imm)
 insn_with (shapes.Load loaded) f high = Load loaded f.dst f.src (cast_signed w16 f.offset)
 insn_with (shapes.StoreImm size) f high = StoreImm size f.dst (cast_signed w16 f.offset) (cast_signed w32 f.imm)

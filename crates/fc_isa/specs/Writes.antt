@@ -1,14 +1,13 @@
 -- The registers that an instruction writes.
 use Rattle.std.specs.Prelude.{ℕ, ◌==◌, ◌||◌, ◌&&◌, Bool, true, false, nat_le, Option, Some, None}
 use Rattle.fc_isa.specs.declared.insn.Insn.{Insn}
-use Rattle.fc_isa.specs.declared.insn.Insn.TheVariants.{Alu, Neg, SignExtend, End, LoadWide, Load, CallHelper, CallLocal}
+use Rattle.fc_isa.specs.declared.insn.Insn.TheVariants.{Alu, Unary, SignExtend, LoadWide, Load, CallHelper, CallLocal}
 
 -- the register that an instruction computes.
 abbrev pub computes : Insn → Option ℕ
 computes (Alu op width dst operand) = Some dst
-computes (Neg width dst) = Some dst
+computes (Unary op dst) = Some dst
 computes (SignExtend extension dst src) = Some dst
-computes (End order width dst) = Some dst
 computes (LoadWide dst value) = Some dst
 computes (Load loaded dst base offset) = Some dst
 computes other = None

@@ -4,12 +4,12 @@
 //! that the fields break.
 ghost use Rattle.std.specs.Prelude.{◌≡◌, ◌<◌, ◌+◌, ◌*◌, ◌/◌, ◌%◌, ◌^◌, None, true, length};
 ghost use Rattle.std.specs.Int.{w16, w32, cast_signed, cast_unsigned};
-ghost use Rattle.fc_isa.specs.Encoding.{bytes_of_fields, fields, fields_of, insn_of, insn_with, read_fields, second_half, slot_fault, unused_are_zero, values_allowed, is_second_half, alu_values_allowed, arithmetic, move_insn, operand_of, called, sign_offset, signed_by, extended_bits, extended_width, swap_width, swap_bits, source_of, src_of, imm_of};
+ghost use Rattle.fc_isa.specs.Encoding.{bytes_of_fields, fields, fields_of, insn_of, insn_with, read_fields, second_half, slot_fault, unused_are_zero, values_allowed, is_second_half, alu_values_allowed, arithmetic, move_insn, operand_of, called, sign_offset, signed_by, extended_bits, extended_width, swap_width, swap_bits, source_of, src_of, imm_of, unary_shape, unary_imm};
 ghost use Rattle.fc_isa.specs.Shapes.{writes_dst};
 
 use crate::insn::{
-    AluOp, ByteOrder, Insn, Jump, LoadType, Operand, Reg, Relation, SignExtension, Size, SwapWidth,
-    Target, Width,
+    AluOp, Insn, Jump, LoadType, Operand, Reg, Relation, SignExtension, Size, SwapWidth, Target,
+    UnaryOp, Width,
 };
 use crate::rule::Rule;
 use crate::shape::{Shape, SourceOperand};
@@ -74,13 +74,12 @@ impl Fields {
                 dst,
                 operand,
             } => Fields::computed(op, width, dst, &operand),
-            Insn::Neg { width, dst } => Fields::form(Shape::Neg { width }).dst(dst.number()),
+            Insn::Unary { op, dst } => Fields::changed(op, dst),
             Insn::SignExtend {
                 extension,
                 dst,
                 src,
             } => Fields::extended(extension, dst, src),
-            Insn::End { order, width, dst } => Fields::swapped(order, width, dst),
             Insn::LoadWide { dst, value } => Fields::loaded_wide(dst, value),
             Insn::WideSecond => Fields::zeros(),
             Insn::Load {
@@ -136,13 +135,13 @@ impl Fields {
             .offset(extended_bits(extension))
     }
 
-    /// Returns the fields of a byte-order change.
-    fn swapped(order: ByteOrder, width: SwapWidth, dst: Target) -> Self
-        ensures { result ≡ fields_of (Insn.End order width dst) }
+    /// Returns the fields of an operation on one register.
+    fn changed(op: UnaryOp, dst: Target) -> Self
+        ensures { result ≡ fields_of (Insn.Unary op dst) }
     {
-        Fields::form(Shape::End { order })
+        Fields::form(unary_shape(op))
             .dst(dst.number())
-            .imm(swap_bits(width))
+            .imm(unary_imm(op))
     }
 
     /// Returns the fields of a wide load's first slot.
@@ -301,8 +300,8 @@ impl Fields {
     {
         match shape {
             Shape::Alu { op, width, source } => self.arithmetic(op, width, source),
-            Shape::Neg { width } => self.neg(width),
-            Shape::End { order } => self.end(order),
+            Shape::Neg { width } => self.unary(UnaryOp::Neg(width)),
+            Shape::End { order } => self.unary(UnaryOp::End(order, swap_width(self.imm))),
             Shape::LoadWide => self.load_wide(high),
             Shape::Load { loaded } => self.load(loaded),
             Shape::StoreImm { size } => self.store_imm(size),
@@ -378,22 +377,13 @@ impl Fields {
         }
     }
 
-    /// Returns the negation of the destination.
-    fn neg(self, width: Width) -> Insn
+    /// Returns the operation `op` on the destination.
+    fn unary(self, op: UnaryOp) -> Insn
         requires { self.dst < 10 }
-        ensures { result ≡ Insn.Neg width self.dst }
+        ensures { result ≡ Insn.Unary op self.dst }
     {
         let dst = Target::new(self.dst);
-        Insn::Neg { width, dst }
-    }
-
-    /// Returns the byte-order change; the immediate is the number of bits.
-    fn end(self, order: ByteOrder) -> Insn
-        requires { self.dst < 10 }
-        ensures { result ≡ Insn.End order (swap_width self.imm) self.dst }
-    {
-        let (width, dst) = (swap_width(self.imm), Target::new(self.dst));
-        Insn::End { order, width, dst }
+        Insn::Unary { op, dst }
     }
 
     /// Returns the wide load.
@@ -642,6 +632,26 @@ fn swap_bits(width: SwapWidth) -> u32
         SwapWidth::S16 => 16,
         SwapWidth::S32 => 32,
         SwapWidth::S64 => 64,
+    }
+}
+
+/// Returns the form of an operation on one register.
+fn unary_shape(op: UnaryOp) -> Shape
+    ensures { result ≡ unary_shape op }
+{
+    match op {
+        UnaryOp::Neg(width) => Shape::Neg { width },
+        UnaryOp::End(order, _) => Shape::End { order },
+    }
+}
+
+/// Returns the immediate of an operation on one register: 0, or the bits of a byte-order change.
+fn unary_imm(op: UnaryOp) -> u32
+    ensures { result ≡ unary_imm op }
+{
+    match op {
+        UnaryOp::End(_, width) => swap_bits(width),
+        UnaryOp::Neg(_) => 0,
     }
 }
 

@@ -126,6 +126,17 @@ pub enum AluOp {
     Smod,
 }
 
+/// An operation on one register (RFC 9669, sections 4.1 and 4.2).
+///
+/// The destination register is the only operand.
+#[derive(Clone, Copy, Debug, PartialEq, Eq)]
+pub enum UnaryOp {
+    /// `neg64` and `neg32`.
+    Neg(Width),
+    /// `le16`, `be32`, `swap64` and similar instructions.
+    End(ByteOrder, SwapWidth),
+}
+
 /// The source width of `movsx`, and the width to which the source is extended.
 ///
 /// A word is extended to 64 bits only.
@@ -219,9 +230,9 @@ pub enum Insn {
         dst: Target,
         operand: Operand,
     },
-    /// `neg64 dst`.
-    Neg {
-        width: Width,
+    /// `neg64 dst`, `be32 dst` and similar instructions.
+    Unary {
+        op: UnaryOp,
         dst: Target,
     },
     /// `movsx64 dst, src, 8`.
@@ -229,12 +240,6 @@ pub enum Insn {
         extension: SignExtension,
         dst: Target,
         src: Reg,
-    },
-    /// `le16 dst`, `be32 dst`, `swap64 dst`.
-    End {
-        order: ByteOrder,
-        width: SwapWidth,
-        dst: Target,
     },
     /// `lddw dst, value`, which occupies two slots.
     LoadWide {

@@ -37,7 +37,7 @@ pub use decoder::{DecodeError, decode};
 pub use encoder::encode;
 pub use insn::{
     AluOp, ByteOrder, Insn, Jump, LoadType, Operand, Reg, Relation, SignExtension, Size, SwapWidth,
-    Target, Width,
+    Target, UnaryOp, Width,
 };
 pub use program::is_program;
 pub use rule::{Fault, Rule};

@@ -10,9 +10,8 @@ use Rattle.fc_isa.specs.declared.insn.Operand.{Operand}
 use Rattle.fc_isa.specs.declared.insn.Operand.TheVariants.{Imm, Reg}
 use Rattle.fc_isa.specs.declared.insn.Jump.{Jump}
 use Rattle.fc_isa.specs.declared.insn.Insn.{Insn}
-use Rattle.fc_isa.specs.declared.insn.Insn.TheVariants.{Alu, Neg, SignExtend, End, LoadWide, WideSecond, Load, StoreImm, Store, JumpAlways, JumpAlwaysLong, JumpIf, CallHelper, CallLocal, Exit}
+use Rattle.fc_isa.specs.declared.insn.Insn.TheVariants.{Alu, Unary, SignExtend, LoadWide, WideSecond, Load, StoreImm, Store, JumpAlways, JumpAlwaysLong, JumpIf, CallHelper, CallLocal, Exit}
 use Rattle.fc_isa.specs.Flow.{Flow, Halts, Goes, Forks, Enters, flow}
-use Rattle.fc_alu.specs.Words.{bits_of}
 use Rattle.fc_help.specs.declared.helper.Helper.{Helper}
 use Rattle.fc_help.specs.Helpers.{helper_of, signature_of}
 use Rattle.fc_kinds.specs.declared.interval.Interval.{Interval}
@@ -22,7 +21,7 @@ use Rattle.fc_kinds.specs.declared.kind.Kind.TheVariants.{Unset, Num, Stack, Req
 use Rattle.fc_kinds.specs.Values.{with_some}
 use Rattle.fc_kinds.specs.Kinds.{kind_at}
 use Rattle.fc_kinds.specs.Lattice.{join_kind, joined}
-use Rattle.fc_kinds.specs.Transfer.{num, by_form, where_number, operand_kind, distance, near, numbers, forth, back, moved, alu_kind, ordered_interval, bytes_loaded, loaded_interval, may_read, put_kind, where_met, after_call, returned, are_arguments, helped_kinds, raised, enter, transfer}
+use Rattle.fc_kinds.specs.Transfer.{num, by_form, where_number, operand_kind, distance, near, numbers, forth, back, moved, alu_kind, unary_interval, bytes_loaded, loaded_interval, may_read, put_kind, where_met, after_call, returned, are_arguments, helped_kinds, raised, enter, transfer}
 use Rattle.fc_kinds.specs.Containing.{IsShallow, AreShallow, AllShallow}
 use Rattle.fc_kinds.specs.Refinement.{put_right, put_both, relation_of, refines, both_numbers, when}
 use Rattle.fc_kinds.specs.Ways.{Way, way_where, kinds_when, ways_along, ways_after}
@@ -183,9 +182,8 @@ transfer_shallow : (top vars : ℕ) (insn : Insn) (ks after : List Kind) → Are
 unfolding transfer
 transfer_shallow top vars (Alu op width dst operand) ks after h e =
     kind_put top ks after dst _ h (alu_low top op width operand (kind_at ks dst) (operand_kind width operand ks) (h.each dst) (operand_shallow top width operand ks h)) e
-transfer_shallow top vars (Neg width dst) ks after h e = kind_put top ks after dst _ h (number_low top (kind_at ks dst) (λ s. all (bits_of width))) e
+transfer_shallow top vars (Unary op dst) ks after h e = kind_put top ks after dst _ h (number_low top (kind_at ks dst) (unary_interval op)) e
 transfer_shallow top vars (SignExtend extension dst src) ks after h e = kind_put top ks after dst _ h (number_low top (kind_at ks src) (extended_values extension)) e
-transfer_shallow top vars (End order width dst) ks after h e = kind_put top ks after dst _ h (number_low top (kind_at ks dst) (ordered_interval order width)) e
 transfer_shallow top vars (LoadWide dst value) ks after h e = kind_put top ks after dst (Some (Num value value)) h tt e
 transfer_shallow top vars WideSecond ks after h e = absurd (cc e)
 transfer_shallow top vars (Load loaded dst base offset) ks after h e = kind_put top ks after dst _ h (loaded_low top (may_read vars (bytes_loaded loaded) offset (kind_at ks base)) (loaded_interval loaded)) e

@@ -15,8 +15,9 @@ use Rattle.fc_isa.specs.declared.insn.LoadType.{LoadType}
 use Rattle.fc_isa.specs.declared.insn.LoadType.TheVariants.{Unsigned, SignedByte, SignedHalfWord, SignedWord}
 use Rattle.fc_isa.specs.declared.insn.Relation.{Relation}
 use Rattle.fc_isa.specs.declared.insn.Relation.TheVariants.{Eq, Gt, Ne, Sgt, Slt}
+use Rattle.fc_isa.specs.declared.insn.UnaryOp.TheVariants.{Neg, End}
 use Rattle.fc_isa.specs.declared.insn.Insn.{Insn}
-use Rattle.fc_isa.specs.declared.insn.Insn.TheVariants.{Alu, Neg, SignExtend, End, LoadWide, WideSecond, Load, StoreImm, Store, JumpAlways, JumpAlwaysLong, JumpIf, CallHelper, CallLocal, Exit}
+use Rattle.fc_isa.specs.declared.insn.Insn.TheVariants.{Alu, Unary, SignExtend, LoadWide, WideSecond, Load, StoreImm, Store, JumpAlways, JumpAlwaysLong, JumpIf, CallHelper, CallLocal, Exit}
 use Rattle.fc_alu.specs.Arithmetic.{computed, computed_at}
 use Rattle.fc_alu.specs.Comparison.{compared, holds}
 use Rattle.fc_help.specs.declared.request.Method.{Method}
@@ -266,19 +267,19 @@ operations_on_pointers = (refl, refl, refl, refl, refl, refl, refl, refl, refl, 
 abbrev asks : Relation → Width → Operand → Insn
 asks relation width right = JumpIf (record { width = width; relation = relation; left = 1; right = right; offset = pos 0 })
 
-other_steps_on_pointers : (goes (Neg W64 1) (Number 3) Unset ≡ true) × (goes (Neg W32 1) (Number 3) Unset ≡ true) × (goes (SignExtend (extension.Byte W64) 6 1) (Number 3) Unset ≡ true) × (goes (SignExtend extension.Word 6 1) (Number 3) Unset ≡ true)
-    × (goes (End Little S64 1) (Number 3) Unset ≡ true) × (goes (End Swapped S64 1) (Number 3) Unset ≡ true) × (goes (asks Eq W64 (Reg 2)) (Number 3) (Number 3) ≡ true) × (goes (asks Eq W32 (Reg 2)) (Number 3) (Number 3) ≡ true)
+other_steps_on_pointers : (goes (Unary (Neg W64) 1) (Number 3) Unset ≡ true) × (goes (Unary (Neg W32) 1) (Number 3) Unset ≡ true) × (goes (SignExtend (extension.Byte W64) 6 1) (Number 3) Unset ≡ true) × (goes (SignExtend extension.Word 6 1) (Number 3) Unset ≡ true)
+    × (goes (Unary (End Little S64) 1) (Number 3) Unset ≡ true) × (goes (Unary (End Swapped S64) 1) (Number 3) Unset ≡ true) × (goes (asks Eq W64 (Reg 2)) (Number 3) (Number 3) ≡ true) × (goes (asks Eq W32 (Reg 2)) (Number 3) (Number 3) ≡ true)
     × (goes (asks Sgt W64 (Reg 2)) (Number 3) (Number 3) ≡ true) × (goes (asks Sgt W32 (Reg 2)) (Number 3) (Number 3) ≡ true) × (goes (asks Ne W64 (Reg 2)) (Number 3) (Number 3) ≡ true)
     × (goes (asks Ne W64 (Imm (pos 0))) (Number 3) (Number 3) ≡ true) × (goes (Store DoubleWord 2 (pos 0) 1) (Number 3) (Pointer Variables (pos 0)) ≡ true) × (goes (Load (Unsigned Byte) 6 1 (pos 0)) (Number 3) (Number 3) ≡ false)
-    × (goes (StoreImm Byte 1 (pos 0) (pos 0)) (Number 3) (Number 3) ≡ false) × (goes (Neg W64 1) (Pointer Variables (pos 0)) Unset ≡ false) × (goes (Neg W32 1) (Pointer Variables (pos 0)) Unset ≡ false)
+    × (goes (StoreImm Byte 1 (pos 0) (pos 0)) (Number 3) (Number 3) ≡ false) × (goes (Unary (Neg W64) 1) (Pointer Variables (pos 0)) Unset ≡ false) × (goes (Unary (Neg W32) 1) (Pointer Variables (pos 0)) Unset ≡ false)
     × (goes (SignExtend (extension.Byte W64) 6 1) (Pointer Variables (pos 0)) Unset ≡ false) × (goes (SignExtend extension.Word 6 1) (Pointer Variables (pos 0)) Unset ≡ false)
-    × (goes (End Little S64 1) (Pointer Variables (pos 0)) Unset ≡ false) × (goes (End Swapped S64 1) (Pointer Variables (pos 0)) Unset ≡ false) × (goes (asks Eq W64 (Reg 2)) (Pointer Variables (pos 0)) (Number 3) ≡ false)
+    × (goes (Unary (End Little S64) 1) (Pointer Variables (pos 0)) Unset ≡ false) × (goes (Unary (End Swapped S64) 1) (Pointer Variables (pos 0)) Unset ≡ false) × (goes (asks Eq W64 (Reg 2)) (Pointer Variables (pos 0)) (Number 3) ≡ false)
     × (goes (asks Eq W32 (Reg 2)) (Pointer Variables (pos 0)) (Number 3) ≡ false) × (goes (asks Sgt W64 (Reg 2)) (Pointer Variables (pos 0)) (Number 3) ≡ false)
     × (goes (asks Sgt W32 (Reg 2)) (Pointer Variables (pos 0)) (Number 3) ≡ false) × (goes (asks Ne W64 (Reg 2)) (Number 3) (Pointer Variables (pos 0)) ≡ false)
     × (goes (asks Ne W64 (Imm (pos 0))) (Pointer Variables (pos 0)) (Number 3) ≡ false) × (goes (Store DoubleWord 2 (pos 0) 1) (Pointer Variables (pos 0)) (Pointer Variables (pos 0)) ≡ false)
-    × (goes (Load (Unsigned Byte) 6 1 (pos 0)) (Pointer Variables (pos 0)) (Number 3) ≡ true) × (goes (StoreImm Byte 1 (pos 0) (pos 0)) (Pointer Variables (pos 0)) (Number 3) ≡ true) × (goes (Neg W64 1) Unset Unset ≡ false)
-    × (goes (Neg W32 1) Unset Unset ≡ false) × (goes (SignExtend (extension.Byte W64) 6 1) Unset Unset ≡ false) × (goes (SignExtend extension.Word 6 1) Unset Unset ≡ false) × (goes (End Little S64 1) Unset Unset ≡ false)
-    × (goes (End Swapped S64 1) Unset Unset ≡ false) × (goes (asks Eq W64 (Reg 2)) Unset (Number 3) ≡ false) × (goes (asks Eq W32 (Reg 2)) Unset (Number 3) ≡ false) × (goes (asks Sgt W64 (Reg 2)) Unset (Number 3) ≡ false)
+    × (goes (Load (Unsigned Byte) 6 1 (pos 0)) (Pointer Variables (pos 0)) (Number 3) ≡ true) × (goes (StoreImm Byte 1 (pos 0) (pos 0)) (Pointer Variables (pos 0)) (Number 3) ≡ true) × (goes (Unary (Neg W64) 1) Unset Unset ≡ false)
+    × (goes (Unary (Neg W32) 1) Unset Unset ≡ false) × (goes (SignExtend (extension.Byte W64) 6 1) Unset Unset ≡ false) × (goes (SignExtend extension.Word 6 1) Unset Unset ≡ false) × (goes (Unary (End Little S64) 1) Unset Unset ≡ false)
+    × (goes (Unary (End Swapped S64) 1) Unset Unset ≡ false) × (goes (asks Eq W64 (Reg 2)) Unset (Number 3) ≡ false) × (goes (asks Eq W32 (Reg 2)) Unset (Number 3) ≡ false) × (goes (asks Sgt W64 (Reg 2)) Unset (Number 3) ≡ false)
     × (goes (asks Sgt W32 (Reg 2)) Unset (Number 3) ≡ false) × (goes (asks Ne W64 (Reg 2)) (Number 3) Unset ≡ false) × (goes (asks Ne W64 (Imm (pos 0))) Unset (Number 3) ≡ false)
     × (goes (Store DoubleWord 2 (pos 0) 1) Unset (Pointer Variables (pos 0)) ≡ false) × (goes (Load (Unsigned Byte) 6 1 (pos 0)) Unset (Number 3) ≡ false) × (goes (StoreImm Byte 1 (pos 0) (pos 0)) Unset (Number 3) ≡ false)
 unfolding act region_of

@@ -3,6 +3,8 @@
 use Rattle.std.proofs.Common.{◌≡◌, ℕ, ◌≤◌, ◌&&◌, Bool, true, false, nat_le, if◌then◌else◌, ℤ, pos, negsuc, ◌+ℤ◌, ◌-ℤ◌, ◌≤ℤ◌, int_le, Option, Some, None, List, refl, subst, arith}
 use Rattle.std.proofs.lemmas.Int.{ints}
 use Rattle.std.proofs.lemmas.Bool.Decides.{nat_tests}
+use Rattle.fc_isa.specs.declared.insn.UnaryOp.{UnaryOp}
+use Rattle.fc_isa.specs.declared.insn.UnaryOp.TheVariants.{Neg, End}
 use Rattle.fc_isa.specs.declared.insn.Width.{Width}
 use Rattle.fc_isa.specs.declared.insn.Width.TheVariants.{W32, W64}
 use Rattle.fc_isa.specs.declared.insn.AluOp.{AluOp}
@@ -24,7 +26,7 @@ use Rattle.fc_kinds.proofs.IntervalsProper.{all_proper, alu_interval_proper}
 use Rattle.fc_kinds.specs.declared.kind.Kind.{Kind}
 use Rattle.fc_kinds.specs.declared.kind.Kind.TheVariants.{Unset, Num, Stack, Req, Vars, Dev}
 use Rattle.fc_kinds.specs.Kinds.{KindWithin, Within}
-use Rattle.fc_kinds.specs.Transfer.{num, by_form, no_pointer, where_number, is_number, operand_kind, small, distance, near, numbers, forth, back, set, alu_kind, ordered_interval, inside, may_read, may_write}
+use Rattle.fc_kinds.specs.Transfer.{num, by_form, no_pointer, where_number, is_number, operand_kind, small, distance, near, numbers, forth, back, set, alu_kind, ordered_interval, unary_interval, inside, may_read, may_write}
 
 -- if the wider operands have an abstract value as a result, the narrower have one too, which is
 -- narrower
@@ -218,9 +220,6 @@ where_follows false true k p f w = absurd (cc (f refl))
 
 -- ---- the other forms of arithmetic
 
-pub neg_follows : (width : Width) (a a' : Kind) → IsKind a → KindWithin a a' → KindFollows (where_number a (λ s. Some (num (all (bits_of width))))) (where_number a' (λ s. Some (num (all (bits_of width)))))
-neg_follows width a a' p w = on_number_follows a a' (λ s. Some (num (all (bits_of width)))) (λ s. Some (num (all (bits_of width)))) p w (λ s s' q v. ((omega arith, omega arith), low width (all (bits_of width)) (all_proper (bits_of width))))
-
 extended_low : (e : SignExtension) (s : Interval) → IsInterval 64 s → IsKind (num (extended_values e s))
 unfolding extended_values
 extended_low (Byte W32) s l = grind (arith, nat_tests, l)
@@ -243,8 +242,13 @@ ordered_grows Swapped S16 s s' p w = ((omega arith, omega arith), omega arith)
 ordered_grows Swapped S32 s s' p w = ((omega arith, omega arith), omega arith)
 ordered_grows Swapped S64 s s' p w = ((omega arith, omega arith), omega arith)
 
-pub ordered_follows : (order : ByteOrder) (width : SwapWidth) (a a' : Kind) → IsKind a → KindWithin a a' → KindFollows (where_number a (λ s. Some (num (ordered_interval order width s)))) (where_number a' (λ s. Some (num (ordered_interval order width s))))
-ordered_follows order width a a' p w = on_number_follows a a' (λ s. Some (num (ordered_interval order width s))) (λ s. Some (num (ordered_interval order width s))) p w (λ s s' q v. ordered_grows order width s s' q v)
+unary_grows : (op : UnaryOp) (s s' : Interval) → IsInterval 64 s → IntervalWithin s s' → KindWithin (num (unary_interval op s)) (num (unary_interval op s')) × IsKind (num (unary_interval op s))
+unfolding unary_interval
+unary_grows (Neg width) s s' p w = ((omega arith, omega arith), low width (all (bits_of width)) (all_proper (bits_of width)))
+unary_grows (End order width) s s' p w = ordered_grows order width s s' p w
+
+pub unary_follows : (op : UnaryOp) (a a' : Kind) → IsKind a → KindWithin a a' → KindFollows (where_number a (λ s. Some (num (unary_interval op s)))) (where_number a' (λ s. Some (num (unary_interval op s))))
+unary_follows op a a' p w = on_number_follows a a' (λ s. Some (num (unary_interval op s))) (λ s. Some (num (unary_interval op s))) p w (λ s s' q v. unary_grows op s s' q v)
 
 pub operand_within : (width : Width) (o : Operand) (ks ks' : List Kind) → Within ks ks' → KindWithin (operand_kind width o ks) (operand_kind width o ks')
 operand_within width (Imm k) ks ks' w = (omega arith, omega arith)

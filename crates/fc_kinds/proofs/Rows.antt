@@ -16,14 +16,15 @@ use Rattle.fc_isa.specs.declared.insn.LoadType.{LoadType}
 use Rattle.fc_isa.specs.declared.insn.LoadType.TheVariants.{Unsigned, SignedByte, SignedHalfWord, SignedWord}
 use Rattle.fc_isa.specs.declared.insn.Relation.{Relation}
 use Rattle.fc_isa.specs.declared.insn.Relation.TheVariants.{Eq, Gt, Ge, Set, Ne, Sgt, Sge, Lt, Le, Slt, Sle}
+use Rattle.fc_isa.specs.declared.insn.UnaryOp.TheVariants.{Neg, End}
 use Rattle.fc_isa.specs.declared.insn.Insn.{Insn}
-use Rattle.fc_isa.specs.declared.insn.Insn.TheVariants.{Alu, Neg, SignExtend, End, LoadWide, Load, StoreImm, Store, WideSecond, JumpAlways, JumpAlwaysLong, JumpIf, CallHelper, CallLocal, Exit}
+use Rattle.fc_isa.specs.declared.insn.Insn.TheVariants.{Alu, Unary, SignExtend, LoadWide, Load, StoreImm, Store, WideSecond, JumpAlways, JumpAlwaysLong, JumpIf, CallHelper, CallLocal, Exit}
 use Rattle.fc_kinds.specs.declared.kind.Kind.{Kind}
 use Rattle.fc_kinds.specs.declared.kind.Kind.TheVariants.{Unset, Num, Stack, Req, Vars, Dev}
 use Rattle.fc_kinds.specs.Kinds.{kind_at}
 use Rattle.fc_kinds.specs.Intervals.{interval_of, alu_interval, extended_values, refined}
 use Rattle.fc_kinds.specs.Lattice.{join_kind}
-use Rattle.fc_kinds.specs.Transfer.{alu_kind, enter, transfer}
+use Rattle.fc_kinds.specs.Transfer.{alu_kind, enter, transfer, unary_interval}
 use Rattle.fc_kinds.specs.Refinement.{when}
 
 -- the abstract value of R0 after an instruction, from those of R0 and R1 before it, in a program
@@ -76,10 +77,10 @@ rows_narrow : (both Rsh W32 (Num 8 64) (Num 4294967297 4294967297) ≡ Some (Num
 unfolding transfer alu_kind alu_interval interval_of
 rows_narrow = (refl, refl, refl, refl)
 
-rows_other : (both Sdiv W64 (Num 1 1) (Num 1 1) ≡ Some all64) × (both Smod W32 (Num 1 1) (Num 1 1) ≡ Some all32) × (leaves (Neg W32 0) (Num 1 1) Unset ≡ Some all32)
+rows_other : (both Sdiv W64 (Num 1 1) (Num 1 1) ≡ Some all64) × (both Smod W32 (Num 1 1) (Num 1 1) ≡ Some all32) × (leaves (Unary (Neg W32) 0) (Num 1 1) Unset ≡ Some all32)
     × (leaves (SignExtend (extension.Byte W32) 0 1) Unset (Num 1 127) ≡ Some (Num 1 127)) × (leaves (SignExtend (extension.Byte W32) 0 1) Unset (Num 1 128) ≡ Some all32) × (leaves (SignExtend extension.Word 0 1) Unset (Num 1 2147483648) ≡ Some all64)
-    × (leaves (End Little S16 0) (Num 1 65535) Unset ≡ Some (Num 1 65535)) × (leaves (End Little S16 0) (Num 1 65536) Unset ≡ Some (Num 0 65535)) × (leaves (End Big S16 0) (Num 1 1) Unset ≡ Some (Num 0 65535)) × (leaves (LoadWide 0 7) Unset Unset ≡ Some (Num 7 7))
-unfolding transfer alu_kind alu_interval interval_of extended_values
+    × (leaves (Unary (End Little S16) 0) (Num 1 65535) Unset ≡ Some (Num 1 65535)) × (leaves (Unary (End Little S16) 0) (Num 1 65536) Unset ≡ Some (Num 0 65535)) × (leaves (Unary (End Big S16) 0) (Num 1 1) Unset ≡ Some (Num 0 65535)) × (leaves (LoadWide 0 7) Unset Unset ≡ Some (Num 7 7))
+unfolding transfer alu_kind alu_interval interval_of extended_values unary_interval
 rows_other = (refl, refl, refl, refl, refl, refl, refl, refl, refl, refl)
 
 rows_pointers : (both Mov W64 Unset (Req (pos 1) (pos 2)) ≡ Some (Req (pos 1) (pos 2))) × (both Mov W32 Unset (Req (pos 1) (pos 2)) ≡ None) × (both Add W64 (Req (pos 0) (pos 0)) (Num 0 1024) ≡ Some (Req (pos 0) (pos 1024)))
@@ -249,13 +250,13 @@ ends_of_extensions : (leaves (SignExtend (extension.Byte W64) 0 1) Unset (Num 1 
 unfolding transfer alu_kind alu_interval interval_of extended_values
 ends_of_extensions = (refl, refl, refl, refl, refl, refl, refl, refl, refl, refl)
 
-ends_of_byte_orders : (leaves (End Little S16 0) (Num 1 65535) Unset ≡ Some (Num 1 65535)) × (leaves (End Little S16 0) (Num 1 65536) Unset ≡ Some (Num 0 65535)) × (leaves (End Big S16 0) (Num 0 0) Unset ≡ Some (Num 0 65535))
-    × (leaves (End Swapped S16 0) (Num 0 0) Unset ≡ Some (Num 0 65535)) × (leaves (End Little S32 0) (Num 1 4294967295) Unset ≡ Some (Num 1 4294967295)) × (leaves (End Little S32 0) (Num 1 4294967296) Unset ≡ Some (Num 0 4294967295))
-    × (leaves (End Big S32 0) (Num 0 0) Unset ≡ Some (Num 0 4294967295)) × (leaves (End Swapped S32 0) (Num 0 0) Unset ≡ Some (Num 0 4294967295))
-    × (leaves (End Little S64 0) (Num 1 18446744073709551615) Unset ≡ Some (Num 1 18446744073709551615)) × (leaves (End Big S64 0) (Num 0 0) Unset ≡ Some (Num 0 18446744073709551615))
-    × (leaves (End Swapped S64 0) (Num 0 0) Unset ≡ Some (Num 0 18446744073709551615)) × (leaves (Neg W64 0) (Num 0 0) Unset ≡ Some all64) × (leaves (Neg W32 0) (Num 0 0) Unset ≡ Some all32)
+ends_of_byte_orders : (leaves (Unary (End Little S16) 0) (Num 1 65535) Unset ≡ Some (Num 1 65535)) × (leaves (Unary (End Little S16) 0) (Num 1 65536) Unset ≡ Some (Num 0 65535)) × (leaves (Unary (End Big S16) 0) (Num 0 0) Unset ≡ Some (Num 0 65535))
+    × (leaves (Unary (End Swapped S16) 0) (Num 0 0) Unset ≡ Some (Num 0 65535)) × (leaves (Unary (End Little S32) 0) (Num 1 4294967295) Unset ≡ Some (Num 1 4294967295)) × (leaves (Unary (End Little S32) 0) (Num 1 4294967296) Unset ≡ Some (Num 0 4294967295))
+    × (leaves (Unary (End Big S32) 0) (Num 0 0) Unset ≡ Some (Num 0 4294967295)) × (leaves (Unary (End Swapped S32) 0) (Num 0 0) Unset ≡ Some (Num 0 4294967295))
+    × (leaves (Unary (End Little S64) 0) (Num 1 18446744073709551615) Unset ≡ Some (Num 1 18446744073709551615)) × (leaves (Unary (End Big S64) 0) (Num 0 0) Unset ≡ Some (Num 0 18446744073709551615))
+    × (leaves (Unary (End Swapped S64) 0) (Num 0 0) Unset ≡ Some (Num 0 18446744073709551615)) × (leaves (Unary (Neg W64) 0) (Num 0 0) Unset ≡ Some all64) × (leaves (Unary (Neg W32) 0) (Num 0 0) Unset ≡ Some all32)
     × (leaves (LoadWide 0 18446744073709551615) Unset Unset ≡ Some (Num 18446744073709551615 18446744073709551615))
-unfolding transfer alu_kind alu_interval interval_of
+unfolding transfer unary_interval
 ends_of_byte_orders = (refl, refl, refl, refl, refl, refl, refl, refl, refl, refl, refl, refl, refl, refl)
 
 pointers_move : (both Mov W64 Unset (Req (pos 1) (pos 2)) ≡ Some (Req (pos 1) (pos 2))) × (leaves (Alu Add W64 0 (Imm (negsuc 7))) (Req (pos 1) (pos 2)) Unset ≡ Some (Req (negsuc 6) (negsuc 5)))

@@ -11,7 +11,7 @@ use Rattle.fc_isa.specs.declared.insn.Operand.TheVariants.{Imm, Reg}
 use Rattle.fc_isa.specs.declared.insn.LoadType.TheVariants.{Unsigned, SignedByte, SignedHalfWord, SignedWord}
 use Rattle.fc_isa.specs.declared.insn.Size.TheVariants.{Byte, HalfWord, Word, DoubleWord}
 use Rattle.fc_isa.specs.declared.insn.Insn.{Insn}
-use Rattle.fc_isa.specs.declared.insn.Insn.TheVariants.{Alu, Neg, SignExtend, End, LoadWide, WideSecond, Load, StoreImm, Store, JumpAlways, JumpAlwaysLong, JumpIf, CallHelper, CallLocal, Exit}
+use Rattle.fc_isa.specs.declared.insn.Insn.TheVariants.{Alu, Unary, SignExtend, LoadWide, WideSecond, Load, StoreImm, Store, JumpAlways, JumpAlwaysLong, JumpIf, CallHelper, CallLocal, Exit}
 use Rattle.fc_isa.specs.Program.{IsOperand, IsInsn}
 use Rattle.fc_kinds.specs.declared.kind.Kind.{Kind}
 use Rattle.fc_kinds.specs.declared.kind.Kind.TheVariants.{Unset, Num, Stack, Req, Vars, Dev}
@@ -26,7 +26,7 @@ use Rattle.fc_help.specs.Helpers.{helper_of, signature_of}
 use Rattle.fc_help.proofs.Known.{most_low}
 use Rattle.fc_kinds.proofs.KindLaws.{kind_within_same, within_put}
 use Rattle.fc_kinds.specs.Containing.{IsKind, AreKinds}
-use Rattle.fc_kinds.proofs.Monotone.{KindFollows, alu_follows, neg_follows, extended_follows, ordered_follows, may_read_follows, may_write_follows, fewer_follow, is_number_follows, where_follows, operand_within}
+use Rattle.fc_kinds.proofs.Monotone.{KindFollows, alu_follows, unary_follows, extended_follows, may_read_follows, may_write_follows, fewer_follow, is_number_follows, where_follows, operand_within}
 
 pub kinds_put : (ks : List Kind) (r : ℕ) (k : Kind) → r < 11 → IsKind k → AreKinds ks → AreKinds (slice_set ks r k)
 kinds_put ks r k lt i h = record {
@@ -169,9 +169,8 @@ unfolding transfer
 transfer_meets vars (Alu op width dst operand) ks ks' after' i a w e =
     put_meets ks ks' after' dst (alu_kind op width operand (kind_at ks dst) (operand_kind width operand ks)) (alu_kind op width operand (kind_at ks' dst) (operand_kind width operand ks')) i.0 a w
     (alu_follows op width operand (kind_at ks dst) (operand_kind width operand ks) (kind_at ks' dst) (operand_kind width operand ks') (a.each dst) (operand_is width operand ks i.1 a) (w.each dst) (operand_within width operand ks ks' w)) e
-transfer_meets vars (Neg width dst) ks ks' after' i a w e = put_meets ks ks' after' dst _ _ i a w (neg_follows width (kind_at ks dst) (kind_at ks' dst) (a.each dst) (w.each dst)) e
+transfer_meets vars (Unary op dst) ks ks' after' i a w e = put_meets ks ks' after' dst _ _ i a w (unary_follows op (kind_at ks dst) (kind_at ks' dst) (a.each dst) (w.each dst)) e
 transfer_meets vars (SignExtend extension dst src) ks ks' after' i a w e = put_meets ks ks' after' dst _ _ i.0 a w (extended_follows extension (kind_at ks src) (kind_at ks' src) (a.each src) (w.each src)) e
-transfer_meets vars (End order width dst) ks ks' after' i a w e = put_meets ks ks' after' dst _ _ i a w (ordered_follows order width (kind_at ks dst) (kind_at ks' dst) (a.each dst) (w.each dst)) e
 transfer_meets vars (LoadWide dst value) ks ks' after' i a w e = put_meets ks ks' after' dst (Some (Num value value)) (Some (Num value value)) i.0 a w ((omega arith, omega arith), (omega arith, i.1)) e
 transfer_meets vars WideSecond ks ks' after' i a w e = absurd (cc e)
 transfer_meets vars (Load loaded dst base offset) ks ks' after' i a w e =

@@ -7,6 +7,8 @@ use Rattle.fc_isa.specs.declared.insn.AluOp.{AluOp}
 use Rattle.fc_isa.specs.declared.insn.AluOp.TheVariants.{Add, Sub, Mov}
 use Rattle.fc_isa.specs.declared.insn.Operand.{Operand}
 use Rattle.fc_isa.specs.declared.insn.Operand.TheVariants.{Imm, Reg}
+use Rattle.fc_isa.specs.declared.insn.UnaryOp.{UnaryOp}
+use Rattle.fc_isa.specs.declared.insn.UnaryOp.TheVariants.{Neg, End}
 use Rattle.fc_isa.specs.declared.insn.ByteOrder.{ByteOrder}
 use Rattle.fc_isa.specs.declared.insn.ByteOrder.TheVariants.{Little}
 use Rattle.fc_isa.specs.declared.insn.SwapWidth.{SwapWidth}
@@ -15,7 +17,7 @@ use Rattle.fc_isa.specs.declared.insn.Size.TheVariants.{Byte, HalfWord, Word, Do
 use Rattle.fc_isa.specs.declared.insn.LoadType.{LoadType}
 use Rattle.fc_isa.specs.declared.insn.LoadType.TheVariants.{Unsigned, SignedByte, SignedHalfWord, SignedWord}
 use Rattle.fc_isa.specs.declared.insn.Insn.{Insn}
-use Rattle.fc_isa.specs.declared.insn.Insn.TheVariants.{Alu, Neg, SignExtend, End, LoadWide, WideSecond, Load, StoreImm, Store, JumpAlways, JumpAlwaysLong, JumpIf, CallHelper, CallLocal, Exit}
+use Rattle.fc_isa.specs.declared.insn.Insn.TheVariants.{Alu, Unary, SignExtend, LoadWide, WideSecond, Load, StoreImm, Store, JumpAlways, JumpAlwaysLong, JumpIf, CallHelper, CallLocal, Exit}
 use Rattle.fc_help.specs.declared.helper.Helper.{Helper}
 use Rattle.fc_help.specs.declared.helper.Arguments.{Arguments}
 use Rattle.fc_help.specs.declared.helper.Arguments.TheVariants.{NoArgument, OneNumber, TwoNumbers, Bytes}
@@ -110,6 +112,11 @@ abbrev pub ordered_interval : ByteOrder → SwapWidth → Interval → Interval
 ordered_interval Little width s = if nat_lt s.hi (256 ^ bytes_in width) then s else interval 0 (256 ^ bytes_in width - 1)
 ordered_interval order width s = interval 0 (256 ^ bytes_in width - 1)
 
+-- an interval of the results of an operation on one register.
+unfoldable pub unary_interval : UnaryOp → Interval → Interval
+unary_interval (Neg width) s = all (bits_of width)
+unary_interval (End order width) s = ordered_interval order width s
+
 abbrev pub size_of : Size → ℕ
 size_of Byte = 1
 size_of HalfWord = 2
@@ -202,11 +209,9 @@ is_access other = false
 unfoldable pub transfer : ℕ → Insn → List Kind → Option (List Kind)
 transfer vars (Alu op width dst operand) kinds =
     put_kind kinds dst (alu_kind op width operand (kind_at kinds dst) (operand_kind width operand kinds))
-transfer vars (Neg width dst) kinds = put_kind kinds dst (where_number (kind_at kinds dst) (λ s. Some (num (all (bits_of width)))))
+transfer vars (Unary op dst) kinds = put_kind kinds dst (where_number (kind_at kinds dst) (λ s. Some (num (unary_interval op s))))
 transfer vars (SignExtend extension dst src) kinds =
     put_kind kinds dst (where_number (kind_at kinds src) (λ s. Some (num (extended_values extension s))))
-transfer vars (End order width dst) kinds =
-    put_kind kinds dst (where_number (kind_at kinds dst) (λ s. Some (num (ordered_interval order width s))))
 transfer vars (LoadWide dst value) kinds = put_kind kinds dst (Some (Num value value))
 transfer vars WideSecond kinds = None
 transfer vars (Load loaded dst base offset) kinds =

@@ -2,13 +2,13 @@
 ghost use Rattle.std.specs.Prelude.{IfErr, IfOk, None, Some, ◌≡◌, ◌≤◌};
 ghost use Rattle.fc_isa.specs.Rules.{number_of};
 ghost use Rattle.fc_kinds.specs.Containing.{AreKinds, IsKind};
-ghost use Rattle.fc_kinds.specs.Transfer.{kind_added, alu_kind, moved, numbers, operand_kind, ordered_interval, kind_subtracted};
+ghost use Rattle.fc_kinds.specs.Transfer.{kind_added, alu_kind, moved, numbers, operand_kind, ordered_interval, kind_subtracted, unary_interval};
 
-use crate::interval::{Interval, alu_interval};
+use crate::interval::{Interval, all, alu_interval};
 use crate::kind::{Kind, Regs};
 use crate::operands::{num, operand_fault, operand_kind};
 use crate::pointers::{distance, is_near, minus, plus};
-use fc_isa::{AluOp, ByteOrder, Operand, Rule, SwapWidth, Width};
+use fc_isa::{AluOp, ByteOrder, Operand, Rule, SwapWidth, UnaryOp, Width};
 
 /// Returns the abstract value after an operation on two numbers.
 ///
@@ -216,8 +216,19 @@ pub(crate) fn alu_after(
     alu_kind(op, width, *operand, a, operand_kind(width, *operand, regs))
 }
 
+/// Returns an interval of the results of an operation on one register, with a number in `s`.
+#[tactic(auto, unfolding(crate::specs::Transfer::unary_interval))]
+pub(crate) fn unary_interval(op: UnaryOp, s: Interval) -> Interval
+    ensures { result ≡ unary_interval op s }
+{
+    match op {
+        UnaryOp::Neg(width) => all(width),
+        UnaryOp::End(order, width) => ordered_interval(order, width, s),
+    }
+}
+
 /// Returns an interval of the results of a byte-order change of numbers in `s`.
-pub(crate) fn ordered_interval(order: ByteOrder, width: SwapWidth, s: Interval) -> Interval
+fn ordered_interval(order: ByteOrder, width: SwapWidth, s: Interval) -> Interval
     ensures { result ≡ ordered_interval order width s }
 {
     let hi = match width {

@@ -5,9 +5,9 @@ ghost use Rattle.fc_kinds.specs.Containing.{AreKinds};
 ghost use Rattle.fc_kinds.specs.Transfer.{is_access, transfer};
 ghost use Rattle.fc_kinds.specs.declared.kind.Kind.TheVariants.{Num};
 
-use crate::arithmetic::{alu_after, ordered_interval};
+use crate::arithmetic::{alu_after, unary_interval};
 use crate::calls::{call_helper, returned};
-use crate::interval::{all, extended_values};
+use crate::interval::extended_values;
 use crate::kind::{Kind, Regs};
 use crate::memory::{load, store, store_imm};
 use crate::operands::{is_number, num, number, operand_fault, operand_kind, put};
@@ -40,9 +40,9 @@ pub fn after(insn: Insn, regs: &mut Regs, vars_size: u16) -> Result<(), Rule>
             put(regs, dst, kind);
             Ok(())
         }
-        Insn::Neg { width, dst } => {
-            number(regs[dst.index()])?;
-            put(regs, dst, num(all(width)));
+        Insn::Unary { op, dst } => {
+            let s = number(regs[dst.index()])?;
+            put(regs, dst, num(unary_interval(op, s)));
             Ok(())
         }
         Insn::SignExtend {
@@ -52,11 +52,6 @@ pub fn after(insn: Insn, regs: &mut Regs, vars_size: u16) -> Result<(), Rule>
         } => {
             let s = number(regs[src.index()])?;
             put(regs, dst, num(extended_values(extension, s)));
-            Ok(())
-        }
-        Insn::End { order, width, dst } => {
-            let s = number(regs[dst.index()])?;
-            put(regs, dst, num(ordered_interval(order, width, s)));
             Ok(())
         }
         Insn::LoadWide { dst, value } => {

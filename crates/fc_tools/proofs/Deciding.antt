@@ -2,7 +2,7 @@
 -- preconditions hold.
 use Rattle.std.proofs.Common.{◌≡◌, ℕ, ◌&&◌, Bool, true, false, List, Option, Some, None, refl, sym, ap, ◌∙◌}
 use Rattle.std.specs.Prelude.{is_some, if◌then◌else◌}
-use Rattle.fc_isa.specs.declared.insn.Insn.TheVariants.{Alu, Neg, SignExtend, End, LoadWide, WideSecond, Load, StoreImm, Store, JumpAlways, JumpAlwaysLong, JumpIf, CallHelper, CallLocal, Exit}
+use Rattle.fc_isa.specs.declared.insn.Insn.TheVariants.{Alu, Unary, SignExtend, LoadWide, WideSecond, Load, StoreImm, Store, JumpAlways, JumpAlwaysLong, JumpIf, CallHelper, CallLocal, Exit}
 use Rattle.fc_isa.specs.declared.insn.AluOp.{AluOp}
 use Rattle.fc_isa.specs.declared.insn.AluOp.TheVariants.{Mov}
 use Rattle.fc_isa.specs.declared.insn.Operand.{Operand}
@@ -57,9 +57,8 @@ helper_same vars (Some helper) ks other h = met_some _ _ ∙ arguments_same vars
 pub reads_decide : ReadsDecide
 unfolding transfer
 reads_decide vars (Alu op width dst operand) ks other h = put_some ks dst _ ∙ ap is_some (alu_same op width dst operand ks other h) ∙ sym (put_some other dst _)
-reads_decide vars (Neg width dst) ks other h = put_some ks dst _ ∙ number_same (kind_at ks dst) (kind_at other dst) _ h.0 ∙ sym (put_some other dst _)
+reads_decide vars (Unary op dst) ks other h = put_some ks dst _ ∙ number_same (kind_at ks dst) (kind_at other dst) _ h.0 ∙ sym (put_some other dst _)
 reads_decide vars (SignExtend extension dst src) ks other h = put_some ks dst _ ∙ number_same (kind_at ks src) (kind_at other src) _ h.0 ∙ sym (put_some other dst _)
-reads_decide vars (End order width dst) ks other h = put_some ks dst _ ∙ number_same (kind_at ks dst) (kind_at other dst) _ h.0 ∙ sym (put_some other dst _)
 reads_decide vars (LoadWide dst value) ks other h = refl
 reads_decide vars WideSecond ks other h = refl
 reads_decide vars (Load loaded dst base offset) ks other h =

@@ -1,7 +1,7 @@
 -- The registers that an instruction reads: their abstract values decide its preconditions.
 use Rattle.std.specs.Prelude.{◌≡◌, ℕ, ℤ, List, [], ◌∷◌, Option, Some, None, is_some}
 use Rattle.fc_isa.specs.declared.insn.Insn.{Insn}
-use Rattle.fc_isa.specs.declared.insn.Insn.TheVariants.{Alu, Neg, SignExtend, End, Load, StoreImm, Store, JumpIf, CallHelper, Exit}
+use Rattle.fc_isa.specs.declared.insn.Insn.TheVariants.{Alu, Unary, SignExtend, Load, StoreImm, Store, JumpIf, CallHelper, Exit}
 use Rattle.fc_isa.specs.declared.insn.AluOp.{AluOp}
 use Rattle.fc_isa.specs.declared.insn.AluOp.TheVariants.{Mov}
 use Rattle.fc_isa.specs.declared.insn.Operand.{Operand}
@@ -50,9 +50,8 @@ arithmetic_reads op dst operand = read_with dst operand
 -- the registers that an instruction reads.
 abbrev pub read_by : Insn → List ℕ
 read_by (Alu op width dst operand) = arithmetic_reads op dst operand
-read_by (Neg width dst) = dst ∷ []
+read_by (Unary op dst) = dst ∷ []
 read_by (SignExtend extension dst src) = src ∷ []
-read_by (End order width dst) = dst ∷ []
 read_by (Load loaded dst base offset) = base ∷ []
 read_by (StoreImm size base offset imm) = base ∷ []
 read_by (Store size base offset src) = base ∷ src ∷ []

@@ -26,8 +26,7 @@ pub fn registers_read(insn: Insn) -> Reads
             operand,
             ..
         } => arithmetic_reads(op, dst, operand),
-        Insn::Neg { dst, .. } => Reads::One(register(dst)),
-        Insn::End { dst, .. } => Reads::One(register(dst)),
+        Insn::Unary { dst, .. } => Reads::One(register(dst)),
         Insn::SignExtend { src, .. } => Reads::One(src),
         Insn::Load { base, .. } => Reads::One(base),
         Insn::StoreImm { base, .. } => Reads::One(base),

@@ -12,7 +12,7 @@ use Rattle.fc_isa.specs.declared.insn.Relation.TheVariants.{Lt}
 use Rattle.fc_isa.specs.declared.insn.Operand.TheVariants.{Imm}
 use Rattle.fc_isa.specs.declared.insn.Jump.{Jump}
 use Rattle.fc_isa.specs.declared.insn.Insn.{Insn}
-use Rattle.fc_isa.specs.declared.insn.Insn.TheVariants.{Alu, Neg, SignExtend, End, LoadWide, WideSecond, Load, StoreImm, Store, JumpAlways, JumpAlwaysLong, JumpIf, CallHelper, CallLocal, Exit}
+use Rattle.fc_isa.specs.declared.insn.Insn.TheVariants.{Alu, Unary, SignExtend, LoadWide, WideSecond, Load, StoreImm, Store, JumpAlways, JumpAlwaysLong, JumpIf, CallHelper, CallLocal, Exit}
 use Rattle.fc_isa.specs.Program.{IsInsn}
 use Rattle.fc_help.specs.declared.helper.Helper.{Helper}
 use Rattle.fc_help.specs.Helpers.{helper_of, signature_of}
@@ -266,9 +266,8 @@ helped vars number (Some h) ks after r len e =
 written : (vars : ℕ) (insn : Insn) (ks after : List Kind) (r : ℕ) → length ks ≡ 11 → transfer vars insn ks ≡ Some after → gives_number (computes insn) after ≡ true → Writes insn r ks after
 unfolding transfer
 written vars (Alu op width dst operand) ks after r len e n = computed (Alu op width dst operand) ks after dst r _ refl refl e n
-written vars (Neg width dst) ks after r len e n = computed (Neg width dst) ks after dst r _ refl refl e n
+written vars (Unary op dst) ks after r len e n = computed (Unary op dst) ks after dst r _ refl refl e n
 written vars (SignExtend extension dst src) ks after r len e n = computed (SignExtend extension dst src) ks after dst r _ refl refl e n
-written vars (End order width dst) ks after r len e n = computed (End order width dst) ks after dst r _ refl refl e n
 written vars (LoadWide dst value) ks after r len e n = computed (LoadWide dst value) ks after dst r (Some (Num value value)) refl refl e n
 written vars WideSecond ks after r len e n = absurd (cc e)
 written vars (Load loaded dst base offset) ks after r len e n = computed (Load loaded dst base offset) ks after dst r _ refl refl e n

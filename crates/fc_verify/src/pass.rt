@@ -422,7 +422,7 @@ fn spread(slot: usize, insn: Insn, after: &mut Regs, states: &mut [Option<Regs>]
             lead(slot, states, slot + 1, after);
         }
         Insn::CallHelper { .. } => lead(slot, states, slot + 1, after),
-        Insn::Alu { .. } | Insn::Neg { .. } | Insn::SignExtend { .. } | Insn::End { .. } => {
+        Insn::Alu { .. } | Insn::Unary { .. } | Insn::SignExtend { .. } => {
             lead(slot, states, slot + 1, after);
         }
         Insn::Load { .. } | Insn::StoreImm { .. } | Insn::Store { .. } => {
