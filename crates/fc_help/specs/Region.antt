@@ -9,12 +9,12 @@ abbrev pub method_number : Method → ℕ
 method_number Get = 1
 method_number Post = 2
 
--- the number of a Content-Format; a missing one is zero, and the byte after it says whether there
--- is one.
+-- the number of a Content-Format; a missing one is zero.
 abbrev pub format_number : Option ℕ → ℕ
 format_number None = 0
 format_number (Some format) = format
 
+-- the byte that says whether there is a Content-Format: 1 if there is one, and otherwise 0.
 abbrev pub said : Option ℕ → ℕ
 said None = 0
 said (Some format) = 1

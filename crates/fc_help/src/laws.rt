@@ -1,7 +1,7 @@
 //! Laws about helpers and the memory of programs, for the crates above.
 //!
 //! Each law is the contract of an empty function.
-ghost use Rattle.std.specs.Prelude.{List, None, Some, codes, length, pos, slice_index, ℕ, ◌*◌, ◌+◌, ◌-◌, ◌<◌, ◌^◌, ◌≡◌, ◌≤◌};
+ghost use Rattle.std.specs.Prelude.{List, None, Some, codes, length, negsuc, pos, slice_index, ℕ, ◌*◌, ◌+◌, ◌-◌, ◌<◌, ◌^◌, ◌≡◌, ◌≤◌};
 ghost use Rattle.fc_help.specs.Helpers.{helper_name, helper_of, room_of, signature_of};
 ghost use Rattle.fc_help.specs.Region.{readings_region, region_of};
 ghost use Rattle.fc_help.specs.Layout.{FitsRegion};
@@ -10,7 +10,7 @@ ghost use Rattle.fc_help.specs.declared.helper.Arguments.TheVariants.{Bytes, NoA
 ghost use Rattle.fc_help.specs.declared.helper.Helper.TheVariants.{Notify, PayloadByte, PayloadLen, ReplyByte, ReplyPut, VarGet, VarPut};
 ghost use Rattle.fc_help.specs.declared.request.Method.TheVariants.{Get, Post};
 
-/// The helpers have the numbers 1 to 7; 0 and numbers above 7 are no helpers.
+/// The helpers have the numbers 1 to 7; 0, numbers above 7 and negative numbers are no helpers.
 ///
 /// A reply to a GET has room for 4,096 bytes, and a reply to a POST has room for 1,024.
 pub fn helpers_have_their_numbers()
@@ -23,19 +23,9 @@ pub fn helpers_have_their_numbers()
     ensures notify { helper_of (pos 7) ≡ Some Notify }
     ensures none { helper_of (pos 0) ≡ None }
     ensures no_more { (n : ℕ) → 7 < n → helper_of (pos n) ≡ None }
+    ensures negative { (n : ℕ) → helper_of (negsuc n) ≡ None }
     ensures get { room_of Get ≡ 4096 }
     ensures post { room_of Post ≡ 1024 }
-{}
-
-/// Each helper's name in a source.
-pub fn helpers_have_their_names()
-    ensures payload_len { helper_name PayloadLen ≡ codes "payload_len" }
-    ensures payload_byte { helper_name PayloadByte ≡ codes "payload_byte" }
-    ensures var_get { helper_name VarGet ≡ codes "var_get" }
-    ensures var_put { helper_name VarPut ≡ codes "var_put" }
-    ensures reply_put { helper_name ReplyPut ≡ codes "reply_put" }
-    ensures reply_byte { helper_name ReplyByte ≡ codes "reply_byte" }
-    ensures notify { helper_name Notify ≡ codes "notify" }
 {}
 
 /// Each helper's arguments, and the greatest number that it returns.
@@ -91,4 +81,15 @@ pub fn readings_have_their_places()
     ensures size { (bytes : List ℕ) → length (readings_region bytes) ≡ 64 }
     ensures given { (bytes : List ℕ) (k : ℕ) → k < length bytes → k < 64 → slice_index (readings_region bytes) k ≡ slice_index bytes k }
     ensures zeros { (bytes : List ℕ) (k : ℕ) → length bytes ≤ k → k < 64 → slice_index (readings_region bytes) k ≡ 0 }
+{}
+
+/// The name of each helper in a source, in ASCII.
+pub fn helpers_have_their_names()
+    ensures payload_len { helper_name PayloadLen ≡ codes "payload_len" }
+    ensures payload_byte { helper_name PayloadByte ≡ codes "payload_byte" }
+    ensures var_get { helper_name VarGet ≡ codes "var_get" }
+    ensures var_put { helper_name VarPut ≡ codes "var_put" }
+    ensures reply_put { helper_name ReplyPut ≡ codes "reply_put" }
+    ensures reply_byte { helper_name ReplyByte ≡ codes "reply_byte" }
+    ensures notify { helper_name Notify ≡ codes "notify" }
 {}
