@@ -1,12 +1,13 @@
-//! Runs of programs on a POST.
+//! Runs of programs on a POST, and calls of numbers that no helper has.
 //!
 //! The expected results are worked out by hand from the tables of instructions, helpers and the
 //! request.
 use fc_cli::Status;
 use fc_fixtures::tooling::assembled;
 use fc_help::{Method, NO_READINGS, Request, Vars};
+use fc_isa::{Fault, Rule};
 use fc_machine::{Frame, run};
-use fc_verify::verify;
+use fc_verify::{Refusal, verify};
 use std::process::Abort;
 use std::test::Fail;
 
@@ -100,4 +101,88 @@ fn a_reply_to_a_post_has_1024_bytes(rt: HostRuntime) -> Result<(), Fail> {
             steps: 20,
         },
     )
+}
+
+// A second call of `notify` doesn't clear the flag.
+#[test]
+fn a_post_that_notifies_twice_notifies(rt: HostRuntime) -> Result<(), Fail> {
+    check_post(
+        &rt,
+        b"call 7\ncall 7\nmov64 r0, 0\nexit",
+        b"",
+        &Given {
+            reply: b"",
+            after: b"",
+            notice: true,
+            steps: 4,
+        },
+    )
+}
+
+// A helper that adds no bytes to an empty reply returns 1, which is then the reply's only byte.
+#[test]
+fn no_bytes_are_added(rt: HostRuntime) -> Result<(), Fail> {
+    check_post(
+        &rt,
+        b"mov64 r1, r10\nmov64 r2, 0\ncall 5\nmov64 r1, r0\ncall 6\nmov64 r0, 0\nexit",
+        b"",
+        &Given {
+            reply: b"\x01",
+            after: b"",
+            notice: false,
+            steps: 7,
+        },
+    )
+}
+
+// No bytes fit into a full reply. The helper's result, which is stored in the variables, is 1. The
+// reply is the request's first 1,024 bytes: the method 2, the slot 5, and zeros.
+#[test]
+fn no_bytes_fit_into_a_full_reply(rt: HostRuntime) -> Result<(), Fail> {
+    let mut reply = [0u8; 1024];
+    reply[0] = 2;
+    reply[1] = 5;
+    check_post(
+        &rt,
+        b"mov64 r2, 1024
+          call 5
+          mov64 r1, r10
+          mov64 r2, 0
+          call 5
+          mov64 r1, 0
+          mov64 r2, r0
+          call 4
+          mov64 r0, 0
+          exit",
+        b"abcdefgh",
+        &Given {
+            reply: &reply,
+            after: b"\x01\x00\x00\x00\x00\x00\x00\x00",
+            notice: false,
+            steps: 10,
+        },
+    )
+}
+
+// A call of a number that no helper has breaks V17 in its slot.
+#[test]
+fn no_other_numbers_are_called(rt: HostRuntime) -> Result<(), Fail> {
+    let alloc = rt.alloc();
+    for text in [
+        b"call -1\nexit".as_slice(),
+        b"call -2147483648\nexit",
+        b"call 0\nexit",
+        b"call 8\nexit",
+        b"call 2147483647\nexit",
+    ] {
+        let image = assembled(alloc, text, 0, 2)?;
+        assert!(rt; image.status == Status::Done);
+        let refused = verify(alloc, image.out.as_slice()).err();
+        let fault = Fault {
+            rule: Rule::Helper,
+            slot: 0,
+        };
+        assert!(rt; refused == Some(Refusal::Broken(fault)));
+    }
+    Ok(())
 }
