@@ -95,7 +95,7 @@ FC_HELPER(3, var_get, fc_u64 i);                    /* the variables' i-th 8 byt
 FC_HELPER(4, var_put, fc_u64 i, fc_u64 x);          /* sets them and returns 1; 0 past their end */
 FC_HELPER(5, reply_put, const void *p, fc_u64 n);   /* adds n bytes and returns 1; 0 if they don't fit */
 FC_HELPER(6, reply_byte, fc_u64 x);                 /* adds the low byte and returns 1; 0 if it doesn't fit */
-FC_HELPER(7, notify, void);                         /* notifies observers of the change that this POST makes */
+FC_HELPER(7, notify, void);                         /* returns 0; has observers notified if this POST succeeds */
 
 #define FC_NO_BYTE 0xffffffffffffffffu
 
