@@ -1,5 +1,5 @@
 -- The values of recognised options fit their row of the table.
-use Rattle.std.proofs.Common.{◌≡◌, ℕ, ◌≤◌, ◌==◌, ◌&&◌, Bool, true, false, nat_le, if◌then◌else◌, List, [], ◌∷◌, length, Option, Some, None, refl, sym, ◌∙◌, arith}
+use Rattle.std.proofs.Common.{◌≡◌, ℕ, ◌≤◌, ◌==◌, ◌&&◌, Bool, true, false, if◌then◌else◌, List, [], ◌∷◌, length, Option, Some, None, refl, sym, ◌∙◌, arith}
 use Rattle.std.proofs.lemmas.Bool.{leb-true, eqb-true, and_parts}
 use Rattle.coap_msg.specs.Wire.{Message}
 use Rattle.coap_msg.specs.declared.code.Code.{Code}
@@ -7,7 +7,7 @@ use Rattle.coap_msg.specs.declared.code.TheConstants.Code.{GET, PUT}
 use Rattle.coap_opts.specs.declared.number.TheConstants as option
 use Rattle.coap_opts.specs.declared.served.Row.{Row}
 use Rattle.coap_opts.specs.Served.{rows}
-use Rattle.coap_opts.specs.Recognition.{row_of, is_defined_for, fits_row, is_recognised, values_of}
+use Rattle.coap_opts.specs.Recognition.{allows_at_most, row_of, is_defined_for, fits_row, is_recognised, values_of}
 use Rattle.coap_opts.specs.Verdict.{first_of, values}
 
 -- a value of an option with this number that is recognised in a message with this code
@@ -33,36 +33,15 @@ first_recognised wanted code before ((number, value) ∷ options) v h =
 
 -- ---- lengths
 
--- the row, if there is one, allows only values of at most `most` bytes
-abbrev is_within : Option Row → ℕ → Bool
-is_within None most = true
-is_within (Some r) most = nat_le r.greatest most
-
-within : (row : Option Row) (most code : ℕ) (before : Option ℕ) (count : ℕ) → is_within row most ≡ true → fits_row row code before count ≡ true → count ≤ most
+within : (row : Option Row) (most code : ℕ) (before : Option ℕ) (count : ℕ) → allows_at_most most row ≡ true → fits_row row code before count ≡ true → count ≤ most
 within None most code before count e h = absurd (cc h)
 within (Some r) most code before count e h = omega (arith, leb-true r.greatest most e, leb-true count r.greatest (and_parts _ _ (and_parts _ _ h).0).1)
 
-short_first : (wanted most : ℕ) (m : Message) (v : List ℕ) → is_within (row_of wanted) most ≡ true → first_of (values wanted m) ≡ Some v → length v ≤ most
+pub short_first : (wanted most : ℕ) (m : Message) (v : List ℕ) → allows_at_most most (row_of wanted) ≡ true → first_of (values wanted m) ≡ Some v → length v ≤ most
 unfolding is_recognised
 short_first wanted most m v e h =
     let first = first_recognised wanted m.code None m.options v h in
     within (row_of wanted) most m.code first.before (length v) e first.recognised
-
-pub short_content_format : (m : Message) (v : List ℕ) → first_of (values option.CONTENT_FORMAT m) ≡ Some v → length v ≤ 2
-unfolding row_of rows
-short_content_format m v h = short_first option.CONTENT_FORMAT 2 m v refl h
-
-pub short_observe : (m : Message) (v : List ℕ) → first_of (values option.OBSERVE m) ≡ Some v → length v ≤ 3
-unfolding row_of rows
-short_observe m v h = short_first option.OBSERVE 3 m v refl h
-
-pub short_block1 : (m : Message) (v : List ℕ) → first_of (values option.BLOCK1 m) ≡ Some v → length v ≤ 3
-unfolding row_of rows
-short_block1 m v h = short_first option.BLOCK1 3 m v refl h
-
-pub short_block2 : (m : Message) (v : List ℕ) → first_of (values option.BLOCK2 m) ≡ Some v → length v ≤ 3
-unfolding row_of rows
-short_block2 m v h = short_first option.BLOCK2 3 m v refl h
 
 -- ---- methods
 

@@ -8,4 +8,5 @@ pub mod Spellings
 pub mod Within
 pub mod Rows
 mod Left
+mod Kept
 pub mod Following

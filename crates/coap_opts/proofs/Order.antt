@@ -8,9 +8,10 @@ use Rattle.coap_opts.specs.declared.request.Action.{Action}
 use Rattle.coap_opts.specs.Path.{method_of}
 use Rattle.coap_opts.specs.Served.{action_of}
 use Rattle.coap_opts.specs.Recognition.{has_unknown_critical}
-use Rattle.coap_opts.specs.Verdict.{asked, has, resource, names_proxy, number_in, block_in, query, etags, observe_at, is_reserved, has_bad_value, refusal_code}
+use Rattle.coap_opts.specs.Verdict.{asked, block_in, asked_with, has, resource, names_proxy, query, is_reserved, has_bad_value, refusal_code}
 use Rattle.coap_opts.specs.Classified.{IsKnown, IsServedAt}
-use Rattle.coap_opts.specs.Collected.{IsCollected, IsQueryBy, lent, resource_with}
+use Rattle.coap_opts.specs.Collected.{IsCollected, IsQueryBy, resource_with}
+use Rattle.coap_opts.specs.Firsts.{first_at}
 use Rattle.coap_opts.specs.declared.collector.Collected.{Collected}
 use Rattle.coap_opts.specs.Values.{Place, place_in}
 use Rattle.std.specs.Option.{option_map}
@@ -49,10 +50,10 @@ none_fails m method at action s b p = rw (s.known.no_proxy, s.known.no_unknown, 
 
 -- ---- from the collected options
 
-pub collected_proxy : (m : Message) (g : Collected) → IsCollected m g → names_proxy m ≡ (has (lent g.proxy_uri) || has (lent g.proxy_scheme))
-collected_proxy m g h = rw (h.proxy_uri, h.proxy_scheme) refl
+pub collected_proxy : (m : Message) (g : Collected) → IsCollected m g → names_proxy m ≡ (has (first_at g.firsts 35) || has (first_at g.firsts 39))
+collected_proxy m g h = rw (h.firsts 35, h.firsts 39) refl
 
-pub known_by : (m : Message) (g : Collected) → IsCollected m g → (has (lent g.proxy_uri) || has (lent g.proxy_scheme)) ≡ false → has_unknown_critical m.code None m.options ≡ false → IsKnown m
+pub known_by : (m : Message) (g : Collected) → IsCollected m g → (has (first_at g.firsts 35) || has (first_at g.firsts 39)) ≡ false → has_unknown_critical m.code None m.options ≡ false → IsKnown m
 known_by m g h p u = record { no_proxy = collected_proxy m g h ∙ p; no_unknown = u }
 
 long_by : (b : Bool) (items all : List ℕ) → IsQueryBy b items all → nat_lt 64 (length all) ≡ b
@@ -63,9 +64,9 @@ pub collected_served : (m : Message) (g : Collected) (method : Method) (at : Res
     action_of at method ≡ Some action → IsServedAt m method at action
 collected_served m g method at action h k e r s = record { known = k; method_is = e; resource_is = sym h.path ∙ r; served = s }
 
-pub collected_bad : (m : Message) (g : Collected) → IsCollected m g → (first second : Option Place) → first ≡ option_map place_in (lent g.block1) → second ≡ option_map place_in (lent g.block2) →
+pub collected_bad : (m : Message) (g : Collected) → IsCollected m g → (first second : Option Place) → first ≡ option_map place_in (first_at g.firsts 27) → second ≡ option_map place_in (first_at g.firsts 23) →
     has_bad_value m ≡ ((is_reserved first || is_reserved second) || g.query.is_long)
-collected_bad m g h first second a b = rw (a, b, h.block1, h.block2, long_by _ _ _ h.query) refl
+collected_bad m g h first second a b = rw (a, b, h.firsts 27, h.firsts 23, long_by _ _ _ h.query) refl
 
 or_right : (a b : Bool) → a || b ≡ false → b ≡ false
 or_right true b h = absurd (cc h)
@@ -78,30 +79,7 @@ query_by false items all h e = h.0
 pub collected_query : (m : Message) (g : Collected) → IsCollected m g → has_bad_value m ≡ false → g.query.items.items ≡ query m
 collected_query m g h e = query_by _ _ _ h.query (or_right (is_reserved (block_in 27 m) || is_reserved (block_in 23 m)) _ e)
 
--- if a message passed the checks up to its path, it has a request with these fields
-pub asked_is : (m : Message) (method : Method) (at : Resource) (action : Action) → IsServedAt m method at action → asked m ≡ Some (record {
-  action = action;
-  query = query m;
-  content_format = number_in 12 m;
-  etags = etags m;
-  observe = observe_at action (number_in 6 m);
-  block1 = block_in 27 m;
-  block2 = block_in 23 m;
-  payload = m.payload;
-})
+-- if a message passed the checks up to its path, it has a request with its fields
+pub asked_is : (m : Message) (method : Method) (at : Resource) (action : Action) → IsServedAt m method at action → asked m ≡ Some (asked_with action m)
 unfolding asked
 asked_is m method at action s = rw (s.method_is, s.resource_is, s.served) refl
-
-pub asked_with : (m : Message) (method : Method) (at : Resource) (action : Action) (whole : List ℕ) (format : Option ℕ) (tags : List ℕ) (watch : Option ℕ) (first second : Option Place) (payload : List ℕ) →
-    IsServedAt m method at action → whole ≡ query m → format ≡ number_in 12 m → tags ≡ etags m → watch ≡ observe_at action (number_in 6 m) → first ≡ block_in 27 m → second ≡ block_in 23 m → payload ≡ m.payload →
-    asked m ≡ Some (record {
-      action = action;
-      query = whole;
-      content_format = format;
-      etags = tags;
-      observe = watch;
-      block1 = first;
-      block2 = second;
-      payload = payload;
-    })
-asked_with m method at action whole format tags watch first second payload s a b c d e f g = rw (a, b, c, d, e, f, g) (asked_is m method at action s)

@@ -1,25 +1,21 @@
 -- Predicates for the laws about the checks of a request.
-use Rattle.std.specs.Prelude.{◌≡◌, ◌≢◌, ◌⊎◌, ℕ, ◌<◌, false, length, None, Some}
+use Rattle.std.specs.Prelude.{◌≡◌, ◌≢◌, ◌⊎◌, ℕ, ◌<◌, ◌≤◌, false, length, IfSome, None, Option, Some}
 use Rattle.coap_msg.specs.Wire.{Message}
 use Rattle.coap_msg.specs.declared.types.MessageType.TheVariants.{Confirmable, NonConfirmable}
+use Rattle.coap_opts.specs.declared.served.Row.{Row}
 use Rattle.coap_opts.specs.Recognition.{has_unknown_critical}
 use Rattle.coap_opts.specs.Values.{Place}
 use Rattle.coap_opts.specs.Verdict.{block_in, query, values}
 use Rattle.std.specs.Prelude.{[]}
 
--- no named option has this number.
-pub record IsUnnamed (number : ℕ) : Type 0 where
-  pub uri_host : number ≢ 3
-  pub etag : number ≢ 4
-  pub observe : number ≢ 6
-  pub uri_port : number ≢ 7
-  pub uri_path : number ≢ 11
-  pub content_format : number ≢ 12
-  pub uri_query : number ≢ 15
-  pub block2 : number ≢ 23
-  pub block1 : number ≢ 27
-  pub proxy_uri : number ≢ 35
-  pub proxy_scheme : number ≢ 39
+-- the row allows an option with a value of `count` bytes in a message with this code: the length is
+-- legal, the code is that of the row's only method, if it has one, and unless the option is
+-- repeatable, the option before has another number (RFC 7252, sections 5.4.3 and 5.4.5).
+pub record IsAllowed (r : Row) (code : ℕ) (before : Option ℕ) (count : ℕ) : Type 0 where
+  pub least : r.least ≤ count
+  pub greatest : count ≤ r.greatest
+  pub method : IfSome r.only (λ method. code ≡ method.byte)
+  pub first : r.repeatable ≡ false → before ≢ Some r.number
 
 -- a message is a request: it is confirmable or non-confirmable, and its code has class 0 and isn't
 -- 0.00 (RFC 7252, section 4.1).

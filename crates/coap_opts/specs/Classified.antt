@@ -14,6 +14,7 @@ use Rattle.coap_opts.specs.declared.request.Classified.TheVariants as classified
 use Rattle.coap_opts.specs.Recognition.{has_unknown_critical}
 use Rattle.coap_opts.specs.Path.{method_of}
 use Rattle.coap_opts.specs.Served.{action_of}
+pub use Rattle.coap_opts.specs.Verdict.{asked_by}
 use Rattle.coap_opts.specs.Verdict.{resource, Asked, asked, names_proxy, refusal_code, Verdict, IsAsked, IsRefused, IsSilent, IsReset, IsSignal, IsIgnored}
 
 -- the message passed the checks of its options.
@@ -27,19 +28,6 @@ pub record IsServedAt (m : Message) (method : Method) (at : Resource) (action : 
   pub method_is : method_of m.code ≡ Some method
   pub resource_is : resource m ≡ Some at
   pub served : action_of at method ≡ Some action
-
--- the request by value, without the borrow of its payload.
-abbrev pub asked_by : Request → Asked
-asked_by r = record {
-  action = r.action;
-  query = r.query.items;
-  content_format = r.content_format;
-  etags = r.etags.items;
-  observe = r.observe;
-  block1 = r.block1;
-  block2 = r.block2;
-  payload = r.payload.now;
-}
 
 -- if the result is `Ok`, no check fails and `r` is the request of the message. An error is the code
 -- of the first check that fails.

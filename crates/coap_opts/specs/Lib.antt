@@ -7,5 +7,6 @@ pub mod Verdict
 pub mod Classified
 pub mod Fields
 pub mod Checks
+pub mod Firsts
 pub mod Collected
 pub mod Replies

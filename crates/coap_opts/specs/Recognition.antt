@@ -1,6 +1,6 @@
 -- Recognition of a message's options (RFC 7252, sections 5.4.1, 5.4.3 and 5.4.5).
 use Rattle.std.specs.Prelude.{ℕ, ◌%◌, ◌==◌, ◌&&◌, ◌||◌, not, Bool, true, false, nat_le, if◌then◌else◌, List, [], ◌∷◌, length, Option, Some, None}
-use Rattle.std.specs.List.{find}
+use Rattle.std.specs.List.{find, position}
 use Rattle.coap_msg.specs.declared.code.Code.{Code}
 use Rattle.coap_opts.specs.declared.served.Row.{Row}
 use Rattle.coap_opts.specs.Served.{rows}
@@ -8,6 +8,15 @@ use Rattle.coap_opts.specs.Served.{rows}
 -- the table's row for the option with this number.
 unfoldable pub row_of : ℕ → Option Row
 row_of number = find (λ r. r.number == number) rows
+
+-- the place of that row in the table, from 0.
+unfoldable pub row_place : ℕ → Option ℕ
+row_place number = position (λ r. r.number == number) rows
+
+-- the row, if there is one, allows only values of at most `most` bytes.
+abbrev pub allows_at_most : ℕ → Option Row → Bool
+allows_at_most most None = true
+allows_at_most most (Some r) = nat_le r.greatest most
 
 -- the option before has the same number. Options come in the order of their numbers, so a
 -- repetition directly follows the first option with its number.

@@ -1,9 +1,8 @@
 -- The served options and methods: a row for each recognised option, and an action for each method
 -- of each resource.
-use Rattle.std.specs.Prelude.{ℕ, true, false, List, [], ◌∷◌, Option, Some, None}
+use Rattle.std.specs.Prelude.{ℕ, true, false, List, Option, Some, None}
 use Rattle.coap_msg.specs.declared.code.Code.{Code}
-use Rattle.coap_msg.specs.declared.code.TheConstants.Code.{GET, PUT}
-use Rattle.coap_opts.specs.declared.number.TheConstants as option
+use Rattle.coap_opts.specs.declared.served.TheConstants.{OPTIONS}
 use Rattle.coap_opts.specs.declared.served.Row.{Row}
 use Rattle.coap_opts.specs.declared.request.Method.{Method}
 use Rattle.coap_opts.specs.declared.request.Method.TheVariants.{Get, Post, Put, Delete}
@@ -20,22 +19,9 @@ once number least greatest only = record { number = number; least = least; great
 abbrev pub repeatable : ℕ → ℕ → ℕ → Option Code → Row
 repeatable number least greatest only = record { number = number; least = least; greatest = greatest; repeatable = true; only = only }
 
--- each option with its number, the minimum and maximum length of its value, and the only method
--- with which it is recognised, or any.
+-- the rows of the table of recognised options; the law `options_are_recognised` states each.
 unfoldable pub rows : List Row
-rows =
-    once option.URI_HOST 1 255 None
-    ∷ repeatable option.ETAG 1 8 (Some GET)
-    ∷ once option.OBSERVE 0 3 (Some GET)
-    ∷ once option.URI_PORT 0 2 None
-    ∷ repeatable option.URI_PATH 0 255 None
-    ∷ once option.CONTENT_FORMAT 0 2 None
-    ∷ repeatable option.URI_QUERY 0 255 None
-    ∷ once option.BLOCK2 0 3 (Some GET)
-    ∷ once option.BLOCK1 0 3 (Some PUT)
-    ∷ once option.PROXY_URI 1 1034 None
-    ∷ once option.PROXY_SCHEME 1 255 None
-    ∷ []
+rows = OPTIONS
 
 -- GET and POST of `/r/N` run a program; PUT of `/p/N` installs a program, DELETE removes it, and
 -- GET describes it; GET of `/.well-known/core` lists the resources.

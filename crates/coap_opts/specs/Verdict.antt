@@ -10,6 +10,7 @@ use Rattle.coap_msg.specs.Reading.{◌>>=◌}
 use Rattle.coap_opts.specs.declared.number.TheConstants as option
 use Rattle.coap_opts.specs.declared.request.Action.{Action}
 use Rattle.coap_opts.specs.declared.request.Action.TheVariants as actions
+use Rattle.coap_opts.specs.declared.request.Request.{Request}
 use Rattle.coap_opts.specs.declared.request.Resource.{Resource}
 use Rattle.coap_opts.specs.Values.{Place, place_in, uint_value}
 use Rattle.coap_opts.specs.Recognition.{values_of, has_unknown_critical}
@@ -74,20 +75,35 @@ pub record Asked : Type 0 where
   pub block2 : Option Place
   pub payload : List ℕ
 
--- the fields of a request, if the message has an action.
+-- the request with this action whose other fields are the message's.
+abbrev pub asked_with : Action → Message → Asked
+asked_with action m = record {
+  action = action;
+  query = query m;
+  content_format = number_in option.CONTENT_FORMAT m;
+  etags = etags m;
+  observe = observe_at action (number_in option.OBSERVE m);
+  block1 = block_in option.BLOCK1 m;
+  block2 = block_in option.BLOCK2 m;
+  payload = m.payload;
+}
+
+-- the request that a message carries, if the message has an action.
 unfoldable pub asked : Message → Option Asked
-asked m =
-    action m >>= λ action.
-    Some (record {
-      action = action;
-      query = query m;
-      content_format = number_in option.CONTENT_FORMAT m;
-      etags = etags m;
-      observe = observe_at action (number_in option.OBSERVE m);
-      block1 = block_in option.BLOCK1 m;
-      block2 = block_in option.BLOCK2 m;
-      payload = m.payload;
-    })
+asked m = action m >>= λ action. Some (asked_with action m)
+
+-- the request that the code returns, by value, without the borrow of its payload.
+abbrev pub asked_by : Request → Asked
+asked_by r = record {
+  action = r.action;
+  query = r.query.items;
+  content_format = r.content_format;
+  etags = r.etags.items;
+  observe = r.observe;
+  block1 = r.block1;
+  block2 = r.block2;
+  payload = r.payload.now;
+}
 
 -- ---- the checks
 

@@ -4,13 +4,17 @@
 //! unrecognised critical options, the method, the path, and the method on the path's resource. The
 //! block sizes and the query's length are next, and the payload's length is last.
 ghost use Rattle.std.specs.Prelude.{◌≡◌, ◌||◌, None, Some};
-ghost use Rattle.coap_opts.specs.Verdict.{refusal_verdict, request_verdict, verdict};
-ghost use Rattle.coap_opts.specs.Classified.{IsRequestOf, asked_by, asking_verdict, verdict_of, written_over};
+ghost use Rattle.coap_msg.specs.Wire.{Message as Stated};
+ghost use Rattle.coap_opts.specs.Verdict.{asked_by, asked_with, query, refusal_verdict, request_verdict, verdict};
+ghost use Rattle.coap_opts.specs.Classified.{IsRequestOf, asking_verdict, verdict_of, written_over};
+ghost use Rattle.coap_opts.specs.Collected.{IsCollected};
+ghost use Rattle.coap_opts.specs.Firsts.{AreShort};
 ghost use Rattle.coap_opts.specs.Verdict as spec;
 
 use crate::block::Block;
-use crate::collector::{JoinedQuery, collect};
-use crate::fields;
+use crate::collector::{Collected, JoinedQuery, collect};
+use crate::fields::{block_of, resource_of, u16_of, u24_of};
+use crate::number::{BLOCK1, BLOCK2, CONTENT_FORMAT, OBSERVE};
 use crate::path::method_of;
 use crate::request::{Action, Asking, Classified, PAYLOAD, Request};
 use crate::served::action_of;
@@ -107,6 +111,7 @@ fn refused(kind: MessageType, code: Code) -> Asking<()>
 ///
 /// Otherwise returns the code of the first check that fails, and the contract doesn't say what
 /// `request` contains.
+#[tactic(auto, unfolding(crate::specs::Recognition::row_of, crate::specs::Served::rows))]
 fn write_request<'a>(message: &Message<'a>, request: &mut Request<'a>) -> Result<(), Code>
     ensures { IsRequestOf message.now result request.new }
 {
@@ -120,32 +125,46 @@ fn write_request<'a>(message: &Message<'a>, request: &mut Request<'a>) -> Result
     let Some(method) = method_of(message.code()) else {
         return Err(Code::METHOD_NOT_ALLOWED);
     };
-    let Some(resource) = fields::resource_of(collected.path) else {
+    let Some(resource) = resource_of(collected.path) else {
         return Err(Code::NOT_FOUND);
     };
     let Some(action) = action_of(resource, method) else {
         return Err(Code::METHOD_NOT_ALLOWED);
     };
-    if is_bad(
-        fields::block_of(collected.block1),
-        fields::block_of(collected.block2),
-        &collected.query,
-    ) {
+    let block1 = block_of(&collected.firsts, BLOCK1);
+    let block2 = block_of(&collected.firsts, BLOCK2);
+    if is_bad(block1, block2, &collected.query) {
         return Err(Code::BAD_REQUEST);
     }
     let payload = message.payload();
     if payload.len() > PAYLOAD {
         return Err(Code::REQUEST_ENTITY_TOO_LARGE);
     }
+    write_fields(action, collected, payload, request);
+    Ok(())
+}
+
+/// Writes the fields of an accepted request to `request`, each from its options.
+#[tactic(auto, unfolding(crate::specs::Recognition::row_of, crate::specs::Served::rows))]
+fn write_fields<'a>(
+    action: Action,
+    collected: Collected<'a>,
+    payload: &'a [u8],
+    request: &mut Request<'a>,
+)
+    requires { AreShort collected.firsts }
+    ensures { (m : Stated) → IsCollected m collected.entry → collected.entry.query.items.items ≡ query m →
+        payload.now ≡ m.payload → asked_by request.new ≡ asked_with action m }
+{
+    let firsts = &collected.firsts;
+    request.content_format = u16_of(firsts, CONTENT_FORMAT);
+    request.observe = observe_at(action, u24_of(firsts, OBSERVE));
+    request.block1 = block_of(firsts, BLOCK1);
+    request.block2 = block_of(firsts, BLOCK2);
     request.action = action;
     request.query = collected.query.items;
-    request.content_format = fields::format_of(collected.content_format);
     request.etags = collected.etags;
-    request.observe = observe_at(action, fields::observe_of(collected.observe));
-    request.block1 = fields::block_of(collected.block1);
-    request.block2 = fields::block_of(collected.block2);
     request.payload = payload;
-    Ok(())
 }
 
 /// Returns whether a block has the reserved size, or the query is too long.

@@ -1,15 +1,16 @@
 //! A message's recognised options, collected in one pass, for the classifier.
-ghost use Rattle.std.specs.Prelude.{◌≡◌, ◌||◌, None, Some, List, ℕ, ◌∷◌, false};
+ghost use Rattle.std.specs.Prelude.{◌≡◌, ◌<◌, ◌||◌, None, Some, List, ℕ, ◌∷◌, false};
 ghost use Rattle.coap_msg.specs.Wire.{Message as Stated};
 ghost use Rattle.coap_opts.specs.Recognition as spec;
 ghost use Rattle.coap_opts.specs.Verdict.{has};
-ghost use Rattle.coap_opts.specs.Collected.{AreShort, IsCollected, IsJoined, IsUncollected, IsTaken, first_with, lent, resource_with, tags_with};
+ghost use Rattle.coap_opts.specs.Collected.{IsCollected, IsJoined, IsUncollected, IsTaken, resource_with, tags_with};
+ghost use Rattle.coap_opts.specs.Firsts.{AreShort, first_at};
 
-use crate::number::{
-    BLOCK1, BLOCK2, CONTENT_FORMAT, ETAG, OBSERVE, PROXY_SCHEME, PROXY_URI, URI_PATH, URI_QUERY,
-};
-use crate::recognition::is_recognised;
+use crate::firsts::Firsts;
+use crate::number::{ETAG, PROXY_SCHEME, PROXY_URI, URI_PATH, URI_QUERY};
+use crate::recognition::recognised_place;
 use crate::request::{ETAGS, Query};
+use crate::served::ROWS;
 use crate::uint::decode_uint;
 use arrayvec::ArrayVec;
 use coap_msg::Message;
@@ -80,15 +81,12 @@ impl JoinedQuery {
 /// A message's recognised options.
 #[derive(Drop)]
 pub(crate) struct Collected<'a> {
+    /// The first value of each recognised option.
+    pub firsts: Firsts<'a>,
+    /// The first four ETags of 8 bytes.
     pub etags: ArrayVec<u64, ETAGS>,
-    pub observe: Option<&'a [u8]>,
     pub path: Segments<'a>,
-    pub content_format: Option<&'a [u8]>,
     pub query: JoinedQuery,
-    pub block2: Option<&'a [u8]>,
-    pub block1: Option<&'a [u8]>,
-    pub proxy_uri: Option<&'a [u8]>,
-    pub proxy_scheme: Option<&'a [u8]>,
     /// Whether a critical option isn't recognised.
     pub has_unknown: bool,
 }
@@ -100,38 +98,32 @@ impl<'a> Collected<'a> {
         ensures unknown { result.has_unknown ≡ false }
     {
         Collected {
+            firsts: Firsts::new(),
             etags: ArrayVec::new(),
-            observe: None,
             path: Segments::Empty,
-            content_format: None,
             query: JoinedQuery {
                 items: Query::new(),
                 is_begun: false,
                 is_long: false,
             },
-            block2: None,
-            block1: None,
-            proxy_uri: None,
-            proxy_scheme: None,
             has_unknown: false,
         }
     }
 
-    /// Stores the value of a recognised option; Uri-Host and Uri-Port are ignored.
-    fn take(&mut self, number: u16, value: &'a [u8])
+    /// Stores the value of a recognised option, whose row of `OPTIONS` is at `place`.
+    ///
+    /// The first value of each option is stored, and every value of ETag, Uri-Path and Uri-Query.
+    fn take(&mut self, place: usize, number: u16, value: &'a [u8])
+        requires within { place < ROWS }
+        requires place { spec.row_place number ≡ Some place }
         ensures taken { IsTaken self.old self.new number value.now }
         ensures unknown { self.new.has_unknown ≡ self.old.has_unknown }
     {
+        self.firsts.keep(place, value);
         match number {
             ETAG => take_tag(&mut self.etags, value),
-            OBSERVE => keep_first(&mut self.observe, value),
             URI_PATH => self.path.push(value),
-            CONTENT_FORMAT => keep_first(&mut self.content_format, value),
             URI_QUERY => self.query.push(value),
-            BLOCK2 => keep_first(&mut self.block2, value),
-            BLOCK1 => keep_first(&mut self.block1, value),
-            PROXY_URI => keep_first(&mut self.proxy_uri, value),
-            PROXY_SCHEME => keep_first(&mut self.proxy_scheme, value),
             _ => {}
         }
     }
@@ -142,19 +134,9 @@ impl Collected<'_> {
     ///
     /// The server is no proxy, and refuses such a request.
     pub(crate) fn names_proxy(&self) -> bool
-        ensures { result ≡ (has (lent self.now.proxy_uri) || has (lent self.now.proxy_scheme)) }
+        ensures { result ≡ (has (first_at self.now.firsts PROXY_URI) || has (first_at self.now.firsts PROXY_SCHEME)) }
     {
-        self.proxy_uri.is_some() || self.proxy_scheme.is_some()
-    }
-}
-
-/// Stores `value` in `kept`, unless an earlier value is stored there.
-fn keep_first<'a>(kept: &mut Option<&'a [u8]>, value: &'a [u8])
-    ensures { (left : List (List ℕ)) →
-        first_with (lent kept.old) (value.now ∷ left) ≡ first_with (lent kept.new) left }
-{
-    if kept.is_none() {
-        *kept = Some(value);
+        self.firsts.of(PROXY_URI).is_some() || self.firsts.of(PROXY_SCHEME).is_some()
     }
 }
 
@@ -175,15 +157,15 @@ fn take_tag(tags: &mut ArrayVec<u64, ETAGS>, value: &[u8])
 /// `has_unknown` of the result is `true` if a critical option isn't recognised.
 pub(crate) fn collect<'a>(message: &Message<'a>) -> Collected<'a>
     ensures parts { IsCollected message.now result }
-    ensures short { AreShort result }
+    ensures short { AreShort result.firsts }
     ensures unknown { result.has_unknown ≡ spec.has_unknown_critical message.now.code None message.now.options }
 {
     let code = message.code();
     let mut collected = Collected::new();
     let mut before = None;
     for (number, value) in message.options() {
-        if is_recognised(code, before, number, value.len()) {
-            collected.take(number, value);
+        if let Some(place) = recognised_place(code, before, number, value.len()) {
+            collected.take(place, number, value);
         } else if number % 2 == 1 {
             collected.has_unknown = true;
         }

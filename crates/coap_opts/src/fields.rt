@@ -1,24 +1,28 @@
-//! The fields of a request, each decoded from the value of its option.
+//! Values of options, each decoded from the first value that the collector stored.
 //!
-//! The classifier stores these fields in the request. If the request has no such option, the value
-//! is `None`, and so is the field.
-ghost use Rattle.std.specs.Prelude.{◌≡◌, ◌≤◌, [], length};
+//! The classifier stores them in the fields of a request. If the request has no such option, the
+//! result is `None`.
+ghost use Rattle.std.specs.Prelude.{◌≡◌, ◌≤◌, [], length, true};
 ghost use Rattle.std.specs.Option.{option_map};
 ghost use Rattle.coap_opts.specs.Values.{place_in, uint_value};
-ghost use Rattle.coap_opts.specs.Collected.{IsShort, lent, resource_with};
+ghost use Rattle.coap_opts.specs.Collected.{resource_with};
+ghost use Rattle.coap_opts.specs.Firsts.{AreShort, first_at};
+ghost use Rattle.coap_opts.specs.Recognition.{allows_at_most, row_of};
 
 use crate::block::Block;
 use crate::collector::Segments;
+use crate::firsts::Firsts;
 use crate::path::resource_named;
 use crate::request::Resource;
 use crate::uint::decode_uint;
 
-/// Decodes the value of Content-Format, if there is one.
-pub(crate) fn format_of(value: Option<&[u8]>) -> Option<u16>
-    requires { IsShort 2 value }
-    ensures { result ≡ option_map uint_value (lent value.entry) }
+/// Decodes an integer whose option allows at most 2 bytes.
+pub(crate) fn u16_of(firsts: &Firsts<'_>, number: u16) -> Option<u16>
+    requires short { AreShort firsts.now }
+    requires allows { allows_at_most 2 (row_of number) ≡ true }
+    ensures { result ≡ option_map uint_value (first_at firsts.now number) }
 {
-    Some(decode_u16(value?))
+    Some(decode_u16(firsts.of(number)?))
 }
 
 /// Decodes an integer of at most 2 bytes.
@@ -29,12 +33,13 @@ fn decode_u16(bytes: &[u8]) -> u16
     decode_uint(bytes) as u16
 }
 
-/// Decodes the value of Observe, if there is one.
-pub(crate) fn observe_of(value: Option<&[u8]>) -> Option<u32>
-    requires { IsShort 3 value }
-    ensures { result ≡ option_map uint_value (lent value.entry) }
+/// Decodes an integer whose option allows at most 3 bytes.
+pub(crate) fn u24_of(firsts: &Firsts<'_>, number: u16) -> Option<u32>
+    requires short { AreShort firsts.now }
+    requires allows { allows_at_most 3 (row_of number) ≡ true }
+    ensures { result ≡ option_map uint_value (first_at firsts.now number) }
 {
-    Some(decode_u24(value?))
+    Some(decode_u24(firsts.of(number)?))
 }
 
 /// Decodes an integer of at most 3 bytes.
@@ -45,12 +50,13 @@ fn decode_u24(bytes: &[u8]) -> u32
     decode_uint(bytes) as u32
 }
 
-/// Decodes the value of Block1 or Block2, if there is one.
-pub(crate) fn block_of(value: Option<&[u8]>) -> Option<Block>
-    requires { IsShort 3 value }
-    ensures { result ≡ option_map place_in (lent value.entry) }
+/// Decodes the value of Block1 or Block2.
+pub(crate) fn block_of(firsts: &Firsts<'_>, number: u16) -> Option<Block>
+    requires short { AreShort firsts.now }
+    requires allows { allows_at_most 3 (row_of number) ≡ true }
+    ensures { result ≡ option_map place_in (first_at firsts.now number) }
 {
-    Some(Block::read(value?))
+    Some(Block::read(firsts.of(number)?))
 }
 
 /// Returns the resource that a path names, or `None` if there is no such resource.

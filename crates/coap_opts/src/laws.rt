@@ -1,8 +1,8 @@
 //! Laws about the definitions, for the crates that use this one.
 //!
 //! Each law is the contract of an empty function.
-ghost use Rattle.std.specs.Prelude.{◌≡◌, ◌≢◌, ◌↔◌, ◌⊎◌, ◌+◌, ◌*◌, ◌<◌, ◌≤◌, ◌^◌, ℕ, List, None, Option, Some, false, length, slice_index, true};
-ghost use Rattle.coap_opts.specs.Checks.{HasBadValue, IsRequest, IsUnnamed, NamesProxy, PassesOptions};
+ghost use Rattle.std.specs.Prelude.{◌≡◌, ◌≢◌, ◌↔◌, ◌⊎◌, ◌+◌, ◌*◌, ◌<◌, ◌≤◌, ◌^◌, ℕ, List, None, Option, Some, [], ◌∷◌, false, length, slice_index, true};
+ghost use Rattle.coap_opts.specs.Checks.{HasBadValue, IsAllowed, IsRequest, NamesProxy, PassesOptions};
 ghost use Rattle.coap_opts.specs.Classified.{IsErrorCode};
 ghost use Rattle.coap_opts.specs.Observe.{has_observe};
 ghost use Rattle.coap_opts.specs.Recognition.{has_unknown_critical, is_recognised};
@@ -16,7 +16,9 @@ ghost use Rattle.coap_opts.specs.declared.request.Method.{Method};
 ghost use Rattle.coap_opts.specs.declared.request.Method.TheVariants.{Get, Post, Put, Delete};
 ghost use Rattle.coap_opts.specs.declared.request.Resource.{Resource};
 ghost use Rattle.coap_opts.specs.declared.request.Action.{Action};
-ghost use Rattle.coap_opts.specs.Served.{action_of, resource_in};
+ghost use Rattle.std.specs.List.{All};
+ghost use Rattle.coap_msg.specs.declared.code.TheConstants.Code.{GET, PUT};
+ghost use Rattle.coap_opts.specs.Served.{action_of, once, repeatable, resource_in, rows};
 ghost use Rattle.coap_opts.specs.Fields.{method_in};
 
 use crate::number::{
@@ -104,31 +106,27 @@ pub fn observe_values_have_their_meanings()
 
 /// The recognised options: their lengths, and the methods they are defined for.
 ///
-/// The lengths are those of the values (RFC 7252, section 5.10; RFC 7641, section 2; RFC 7959,
-/// section 2.1). An option that isn't repeatable is recognised once. Its repetition, which directly
-/// follows it, isn't recognised (RFC 7252, section 5.4.5). No other option number is recognised.
+/// The numbers of a row are the least and the greatest length of a value (RFC 7252, section 5.10;
+/// RFC 7641, section 2; RFC 7959, section 2.1). A row with a method is for this method alone. An
+/// option that isn't repeatable is recognised once. Its repetition, which directly follows it,
+/// isn't recognised (RFC 7252, section 5.4.5). No other option number is recognised.
 pub fn options_are_recognised()
-    ensures uri_host { (code count : ℕ) (before : Option ℕ) →
-        ((is_recognised code before 3 count ≡ true) ↔ ((1 ≤ count) × (count ≤ 255) × (before ≢ Some 3))) }
-    ensures etag { (code count : ℕ) (before : Option ℕ) →
-        ((is_recognised code before 4 count ≡ true) ↔ ((1 ≤ count) × (count ≤ 8) × (code ≡ 1))) }
-    ensures observe { (code count : ℕ) (before : Option ℕ) →
-        ((is_recognised code before 6 count ≡ true) ↔ ((count ≤ 3) × (code ≡ 1) × (before ≢ Some 6))) }
-    ensures uri_port { (code count : ℕ) (before : Option ℕ) →
-        ((is_recognised code before 7 count ≡ true) ↔ ((count ≤ 2) × (before ≢ Some 7))) }
-    ensures uri_path { (code count : ℕ) (before : Option ℕ) → ((is_recognised code before 11 count ≡ true) ↔ (count ≤ 255)) }
-    ensures content_format { (code count : ℕ) (before : Option ℕ) →
-        ((is_recognised code before 12 count ≡ true) ↔ ((count ≤ 2) × (before ≢ Some 12))) }
-    ensures uri_query { (code count : ℕ) (before : Option ℕ) → ((is_recognised code before 15 count ≡ true) ↔ (count ≤ 255)) }
-    ensures block2 { (code count : ℕ) (before : Option ℕ) →
-        ((is_recognised code before 23 count ≡ true) ↔ ((count ≤ 3) × (code ≡ 1) × (before ≢ Some 23))) }
-    ensures block1 { (code count : ℕ) (before : Option ℕ) →
-        ((is_recognised code before 27 count ≡ true) ↔ ((count ≤ 3) × (code ≡ 3) × (before ≢ Some 27))) }
-    ensures proxy_uri { (code count : ℕ) (before : Option ℕ) →
-        ((is_recognised code before 35 count ≡ true) ↔ ((1 ≤ count) × (count ≤ 1034) × (before ≢ Some 35))) }
-    ensures proxy_scheme { (code count : ℕ) (before : Option ℕ) →
-        ((is_recognised code before 39 count ≡ true) ↔ ((1 ≤ count) × (count ≤ 255) × (before ≢ Some 39))) }
-    ensures others { (code count number : ℕ) (before : Option ℕ) → IsUnnamed number → is_recognised code before number count ≡ false }
+    ensures table { rows ≡ once URI_HOST 1 255 None
+        ∷ repeatable ETAG 1 8 (Some GET)
+        ∷ once OBSERVE 0 3 (Some GET)
+        ∷ once URI_PORT 0 2 None
+        ∷ repeatable URI_PATH 0 255 None
+        ∷ once CONTENT_FORMAT 0 2 None
+        ∷ repeatable URI_QUERY 0 255 None
+        ∷ once BLOCK2 0 3 (Some GET)
+        ∷ once BLOCK1 0 3 (Some PUT)
+        ∷ once PROXY_URI 1 1034 None
+        ∷ once PROXY_SCHEME 1 255 None
+        ∷ [] }
+    ensures known { (code count : ℕ) (before : Option ℕ) →
+        All (λ r. (is_recognised code before r.number count ≡ true) ↔ IsAllowed r code before count) rows }
+    ensures others { (code count number : ℕ) (before : Option ℕ) →
+        All (λ r. r.number ≢ number) rows → is_recognised code before number count ≡ false }
 {}
 
 /// The checks of a request, in their order; the first that fails decides.

@@ -44,6 +44,7 @@ pub mod block;
 pub mod classifier;
 pub mod collector;
 pub mod fields;
+pub mod firsts;
 pub mod laws;
 pub mod number;
 pub mod observe;

@@ -1,36 +1,47 @@
 //! Recognition of a message's options (RFC 7252, section 5.4), for the collector.
-ghost use Rattle.std.specs.Prelude.{◌≡◌};
+ghost use Rattle.std.specs.Prelude.{◌≡◌, ◌<◌, IfSome, Some};
 ghost use Rattle.coap_opts.specs.Recognition as spec;
+ghost use Rattle.coap_opts.specs.Verdict.{has};
 
-use crate::served::{OPTIONS, Row};
+use crate::served::{OPTIONS, ROWS, Row};
 use coap_msg::Code;
 
-/// Returns the row of [`OPTIONS`] with this option number, if there is one.
-#[tactic(auto, unfolding(crate::specs::Recognition::row_of, crate::specs::Served::rows))]
-fn row_of(number: u16) -> Option<Row>
-    ensures { result ≡ spec.row_of number }
+/// Returns the place in [`OPTIONS`] of the row with this option number, if there is one.
+#[tactic(auto, unfolding(crate::specs::Recognition::row_place, crate::specs::Served::rows))]
+pub(crate) fn row_place(number: u16) -> Option<usize>
+    ensures place { result ≡ spec.row_place number }
+    ensures within { IfSome result (λ place. place < ROWS) }
 {
-    OPTIONS.iter().find(|row| row.number == number).copied()
+    OPTIONS.iter().position(|row| row.number == number)
 }
 
-/// Returns whether an option is recognised in a message with this code.
+/// Returns the place of an option's row, if the option is recognised in a message with this code.
 ///
 /// A recognised option is known, has a legal length and is defined for the method. It doesn't
 /// repeat a non-repeatable option (RFC 7252, sections 5.4.1, 5.4.3 and 5.4.5). `before` is the
 /// number of the message's previous option, if there is one.
 #[tactic(auto, unfolding(crate::specs::Recognition::is_recognised))]
-pub(crate) fn is_recognised(code: Code, before: Option<u16>, number: u16, length: usize) -> bool
-    ensures { result ≡ spec.is_recognised code.byte before number length }
+pub(crate) fn recognised_place(
+    code: Code,
+    before: Option<u16>,
+    number: u16,
+    length: usize,
+) -> Option<usize>
+    ensures recognised { has result ≡ spec.is_recognised code.byte before number length }
+    ensures place { IfSome result (λ place. spec.row_place number ≡ Some place) }
+    ensures within { IfSome result (λ place. place < ROWS) }
 {
-    match row_of(number) {
-        Some(row) => fits(row, code, before, length),
-        None => false,
+    let place = row_place(number)?;
+    if fits(OPTIONS[place], code, before, length) {
+        Some(place)
+    } else {
+        None
     }
 }
 
 /// Returns whether an option of `row` with a value of this length is recognised.
 ///
-/// `code` and `before` are as in [`is_recognised`].
+/// `code` and `before` are as in [`recognised_place`].
 fn fits(row: Row, code: Code, before: Option<u16>, length: usize) -> bool
     ensures { result ≡ spec.fits row code.byte before length }
 {

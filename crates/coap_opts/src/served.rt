@@ -26,8 +26,11 @@ pub struct Row {
     pub only: Option<Code>,
 }
 
+/// The number of recognised options.
+pub const ROWS: usize = 11;
+
 /// The recognised options, in the order of their numbers.
-pub const OPTIONS: [Row; 11] = [
+pub const OPTIONS: [Row; ROWS] = [
     Row {
         number: URI_HOST,
         least: 1,

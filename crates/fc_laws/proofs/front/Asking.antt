@@ -171,7 +171,7 @@ asks_by : (f : FrontState) (to : Endpoint) (m : Message) (j : Job) (w : IsJobOf 
 asks_by f to m j w action e = ap (λ (x : Job). x.ask) w.is ∙ (λ i. ask_by (e i) w.asked w.body)
 
 asked_is : (m : Message) (r : Asked) (method : Verb) (n : ℕ) → IsMadeOf m r → request_asked method n r ≡ request_in method n m
-asked_is m r method n made = λ i. record { method = method; slot = n; content_format = made.content_format_is i; query = made.query_is i; payload = made.payload_is i }
+asked_is m r method n made = λ i. record { method = method; slot = n; content_format = (made.request_is i).content_format; query = (made.request_is i).query; payload = (made.request_is i).payload }
 
 pub gets : (r : Entry) (s : Seen) (from : Endpoint) (m : Message) (j : Job) (n : ℕ) → n < 64 → BringsJob r s from m j → Requests m 1 (run_path n) → j.ask ≡ Run (request_in Get n m)
 gets r s from m j n lt b q =
@@ -199,9 +199,9 @@ pub puts : (r : Entry) (s : Seen) (from : Endpoint) (m : Message) (j : Job) (n :
 puts r s from m j n lt b q none =
     let w = job_brought r s from m j b in
     let fields = fields_of (front_at s b.now) from m j w in
-    let whole : w.body ≡ m.payload = body_is (front_at s b.now) from w.asked w.body (fields.block1_is ∙ none) w.whole ∙ fields.payload_is in
+    let whole : w.body ≡ m.payload = body_is (front_at s b.now) from w.asked w.body (ap (λ (x : Asked). x.block1) fields.request_is ∙ none) w.whole ∙ ap (λ (x : Asked). x.payload) fields.request_is in
     asks_by (front_at s b.now) from m j w (actions.Install n) (action_by m w.asked 3 methods.Put (resources.Program n) (actions.Install n) fields q.code_is refl q.path_is lt refl)
-    ∙ (λ i. Install (record { items = whole i }) (initial_vars_by (fields.query_is i)))
+    ∙ (λ i. Install (record { items = whole i }) (initial_vars_by (fields.request_is i).query))
 
 -- ---- whether a PUT keeps the variables
 
@@ -212,7 +212,7 @@ put_variables r s from m j n lt b q =
     let w = job_brought r s from m j b in
     let fields = fields_of (front_at s b.now) from m j w in
     ap initial_vars_of (asks_by (front_at s b.now) from m j w (actions.Install n) (action_by m w.asked 3 methods.Put (resources.Program n) (actions.Install n) fields q.code_is refl q.path_is lt refl))
-    ∙ ap initial_vars_by fields.query_is
+    ∙ ap (λ (x : Asked). initial_vars_by x.query) fields.request_is
 
 zeroed_if : (b : Bool) → (b ≡ true → ⊥) → (if b then Kept else Zeros) ≡ Zeros
 zeroed_if true differs = absurd (differs refl)
@@ -336,7 +336,7 @@ block2_is r s from m j b c =
     let fields = fields_of (front_at s b.now) from m j w in
     let method = method_by m w.asked 1 methods.Get fields c refl in
     let none = no_block methods.Put (method_in w.asked.action) w.asked.block1 (asked_within m w.asked w.asks).block1 (λ e. let same : methods.Get ≡ methods.Put = sym method ∙ e in absurd (cc same)) in
-    ap (λ (x : Job). x.block) w.is ∙ (ap (λ (x : Option Place). named_block x w.asked.block2) none ∙ fields.block2_is)
+    ap (λ (x : Job). x.block) w.is ∙ (ap (λ (x : Option Place). named_block x w.asked.block2) none ∙ ap (λ (x : Asked). x.block2) fields.request_is)
 
 pub block1_is : (r : Entry) (s : Seen) (from : Endpoint) (m : Message) (j : Job) → BringsJob r s from m j → m.code ≡ 3 → j.block ≡ block_in option.BLOCK1 m
 block1_is r s from m j b c =
@@ -344,7 +344,7 @@ block1_is r s from m j b c =
     let fields = fields_of (front_at s b.now) from m j w in
     let method = method_by m w.asked 3 methods.Put fields c refl in
     let none = no_block methods.Get (method_in w.asked.action) w.asked.block2 (asked_within m w.asked w.asks).block2 (λ e. let same : methods.Put ≡ methods.Get = sym method ∙ e in absurd (cc same)) in
-    ap (λ (x : Job). x.block) w.is ∙ (ap (λ (x : Option Place). named_block w.asked.block1 x) none ∙ (named_first w.asked.block1 ∙ fields.block1_is))
+    ap (λ (x : Job). x.block) w.is ∙ (ap (λ (x : Option Place). named_block w.asked.block1 x) none ∙ (named_first w.asked.block1 ∙ ap (λ (x : Asked). x.block1) fields.request_is))
 
 pub no_block_is : (r : Entry) (s : Seen) (from : Endpoint) (m : Message) (j : Job) → BringsJob r s from m j → m.code ≢ 1 → m.code ≢ 3 → j.block ≡ None
 no_block_is r s from m j b not_get not_put =
@@ -376,7 +376,7 @@ pub observe_is : (r : Entry) (s : Seen) (from : Endpoint) (m : Message) (j : Job
 observe_is r s from m j code n lt b q =
     let w = job_brought r s from m j b in
     let fields = fields_of (front_at s b.now) from m j w in
-    ap (λ (x : Job). x.observe) w.is ∙ (fields.observe_is ∙ observed_by w.asked.action n (number_in option.OBSERVE m) (resource_by m w.asked (resources.Run n) fields q.path_is lt))
+    ap (λ (x : Job). x.observe) w.is ∙ (ap (λ (x : Asked). x.observe) fields.request_is ∙ observed_by w.asked.action n (number_in option.OBSERVE m) (resource_by m w.asked (resources.Run n) fields q.path_is lt))
 
 neither : (value : ℕ) → Some value ≢ Some 0 → Some value ≢ Some 1 → (value == 0) || (value == 1) ≡ false
 neither value first second = λ i. ne_eqb value 0 (λ e. first (ap Some e)) i || ne_eqb value 1 (λ e. second (ap Some e)) i
@@ -392,8 +392,8 @@ pub etags_are : (r : Entry) (s : Seen) (from : Endpoint) (m : Message) (j : Job)
 etags_are r s from m j b plain =
     let w = job_brought r s from m j b in
     let fields = fields_of (front_at s b.now) from m j w in
-    let neither = ap observes fields.observe_is ∙ plain_by w.asked.action (number_in option.OBSERVE m) plain.no_registration plain.no_cancellation in
-    ap (λ (x : Job). x.etags.items) w.is ∙ (λ i. etags_by (neither i) (fields.etags_are i))
+    let neither = ap (λ (x : Asked). observes x.observe) fields.request_is ∙ plain_by w.asked.action (number_in option.OBSERVE m) plain.no_registration plain.no_cancellation in
+    ap (λ (x : Job). x.etags.items) w.is ∙ (λ i. etags_by (neither i) (fields.request_is i).etags)
 
 -- a job whose message registers or cancels has no ETags.
 no_etags : (r : Entry) (s : Seen) (from : Endpoint) (m : Message) (j : Job) (n value : ℕ) → n < 64 → BringsJob r s from m j → values option.URI_PATH m ≡ run_path n → number_in option.OBSERVE m ≡ Some value → observes (Some value) ≡ true → j.etags.items ≡ []
@@ -402,7 +402,7 @@ no_etags r s from m j n value lt b p is counts =
     let fields = fields_of (front_at s b.now) from m j w in
     let at = resource_by m w.asked (resources.Run n) fields p lt in
     ap (λ (x : Job). x.etags.items) w.is
-    ∙ ap (λ (x : Bool). etags_by x w.asked.etags) (ap observes (fields.observe_is ∙ (observed_by w.asked.action n (number_in option.OBSERVE m) at ∙ is)) ∙ counts)
+    ∙ ap (λ (x : Bool). etags_by x w.asked.etags) (ap observes (ap (λ (x : Asked). x.observe) fields.request_is ∙ (observed_by w.asked.action n (number_in option.OBSERVE m) at ∙ is)) ∙ counts)
 
 pub registers : (r : Entry) (s : Seen) (from : Endpoint) (m : Message) (j : Job) (code n : ℕ) → n < 64 → BringsJob r s from m j → Requests m code (run_path n) → number_in option.OBSERVE m ≡ Some 0 → j.etags.items ≡ []
 registers r s from m j code n lt b q is = no_etags r s from m j n 0 lt b q.path_is is refl
@@ -442,4 +442,4 @@ pub jobs_come : (r : Entry) (s : Seen) (m : Message) (q : Asked) → Asks s r.ev
 jobs_come r s m q w none =
     let asks = asked_of s r.event m q w in
     let fields = asked_made m q asks in
-    comes_by r.event s m q w (fields.block1_is ∙ none) (subst (λ (bytes : List ℕ). length bytes ≤ 1024) (sym fields.payload_is) (asked_within m q asks).short) r refl
+    comes_by r.event s m q w (ap (λ (x : Asked). x.block1) fields.request_is ∙ none) (subst (λ (bytes : List ℕ). length bytes ≤ 1024) (sym (ap (λ (x : Asked). x.payload) fields.request_is)) (asked_within m q asks).short) r refl

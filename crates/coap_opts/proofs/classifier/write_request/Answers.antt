@@ -1,10 +1,7 @@
-use Rattle.std.proofs.Common.{◌∙◌, length, sym, ap, arith}
+use Rattle.std.proofs.Common.{◌∙◌, Some, length, sym, ap, arith}
 use Rattle.std.proofs.lemmas.Bool.{lt-ltb, le-ltb}
-use Rattle.std.specs.Option.{option_map}
 use Rattle.coap_opts.specs.Path.{method_of}
-use Rattle.coap_opts.specs.Values.{place_in, uint_value}
-use Rattle.coap_opts.specs.Verdict as spec
-use Rattle.coap_opts.proofs.Order.{proxy_fails, unknown_fails, method_fails, path_fails, service_fails, value_fails, payload_fails, none_fails, collected_proxy, collected_bad, collected_query, collected_served, known_by, asked_with}
+use Rattle.coap_opts.proofs.Order.{proxy_fails, unknown_fails, method_fails, path_fails, service_fails, value_fails, payload_fails, none_fails, collected_proxy, collected_bad, collected_query, collected_served, known_by, asked_is}
 use Rattle.coap_opts.proofs.classifier.write_request.Goals as goal
 
 pub returns-then-names_proxy : goal.returns-then-names_proxy
@@ -37,14 +34,14 @@ returns-then-is_bad c =
     let served = collected_served c.args.message.now _ c.in-Some.method c.in-Some-resource_of.resource c.in-Some-action_of.action c.collect-collected.ensures.parts known (ap method_of (sym c.code.ensures) ∙ (sym c.method_of.ensures ∙ c.in-Some.is))
     (sym c.resource_of.ensures ∙ c.in-Some-resource_of.is) (sym c.action_of.ensures ∙ c.in-Some-action_of.is) in
     value_fails c.args.message.now c.in-Some.method c.in-Some-resource_of.resource c.in-Some-action_of.action served
-    (collected_bad _ _ c.collect-collected.ensures.parts _ _ c.block_of.ensures c.block_of-2.ensures ∙ (sym c.is_bad.ensures ∙ c.if-is_bad.true))
+    (collected_bad _ _ c.collect-collected.ensures.parts _ _ c.block_of-block1.ensures c.block_of-block2.ensures ∙ (sym c.is_bad.ensures ∙ c.if-is_bad.true))
 
 pub returns-then-payload-gt-PAYLOAD : goal.returns-then-payload-gt-PAYLOAD
 returns-then-payload-gt-PAYLOAD c =
     let known = known_by c.args.message.now _ c.collect-collected.ensures.parts (sym c.names_proxy.ensures ∙ c.if-names_proxy.false) (sym c.collect-collected.ensures.unknown ∙ c.if-collected.false) in
     let served = collected_served c.args.message.now _ c.in-Some.method c.in-Some-resource_of.resource c.in-Some-action_of.action c.collect-collected.ensures.parts known (ap method_of (sym c.code.ensures) ∙ (sym c.method_of.ensures ∙ c.in-Some.is))
     (sym c.resource_of.ensures ∙ c.in-Some-resource_of.is) (sym c.action_of.ensures ∙ c.in-Some-action_of.is) in
-    let good = collected_bad _ _ c.collect-collected.ensures.parts _ _ c.block_of.ensures c.block_of-2.ensures ∙ (sym c.is_bad.ensures ∙ c.if-is_bad.false) in
+    let good = collected_bad _ _ c.collect-collected.ensures.parts _ _ c.block_of-block1.ensures c.block_of-block2.ensures ∙ (sym c.is_bad.ensures ∙ c.if-is_bad.false) in
     payload_fails c.args.message.now c.in-Some.method c.in-Some-resource_of.resource c.in-Some-action_of.action served good (lt-ltb 1024 (length c.args.message.now.payload) (omega (arith, ap length c.payload-payload.ensures)))
 
 pub returns : goal.returns
@@ -52,11 +49,8 @@ returns c =
     let known = known_by c.args.message.now _ c.collect-collected.ensures.parts (sym c.names_proxy.ensures ∙ c.if-names_proxy.false) (sym c.collect-collected.ensures.unknown ∙ c.if-collected.false) in
     let served = collected_served c.args.message.now _ c.in-Some.method c.in-Some-resource_of.resource c.in-Some-action_of.action c.collect-collected.ensures.parts known (ap method_of (sym c.code.ensures) ∙ (sym c.method_of.ensures ∙ c.in-Some.is))
     (sym c.resource_of.ensures ∙ c.in-Some-resource_of.is) (sym c.action_of.ensures ∙ c.in-Some-action_of.is) in
-    let good = collected_bad _ _ c.collect-collected.ensures.parts _ _ c.block_of.ensures c.block_of-2.ensures ∙ (sym c.is_bad.ensures ∙ c.if-is_bad.false) in (
+    let good = collected_bad _ _ c.collect-collected.ensures.parts _ _ c.block_of-block1.ensures c.block_of-block2.ensures ∙ (sym c.is_bad.ensures ∙ c.if-is_bad.false) in (
       none_fails c.args.message.now c.in-Some.method c.in-Some-resource_of.resource c.in-Some-action_of.action served good (le-ltb 1024 (length c.args.message.now.payload) (omega (arith, ap length c.payload-payload.ensures))),
-      asked_with c.args.message.now c.in-Some.method c.in-Some-resource_of.resource c.in-Some-action_of.action _ _ _ _ _ _ _ served (collected_query _ _ c.collect-collected.ensures.parts good)
-          (c.format_of-request.ensures ∙ ap (option_map uint_value) c.collect-collected.ensures.parts.content_format) c.collect-collected.ensures.parts.etags
-          (c.observe_at-request.ensures ∙ ap (spec.observe_at c.in-Some-action_of.action) (c.observe_of.ensures ∙ ap (option_map uint_value) c.collect-collected.ensures.parts.observe))
-          (c.block_of-request.ensures ∙ ap (option_map place_in) c.collect-collected.ensures.parts.block1) (c.block_of-request-2.ensures ∙ ap (option_map place_in) c.collect-collected.ensures.parts.block2)
-          c.payload-payload.ensures,
+      asked_is c.args.message.now c.in-Some.method c.in-Some-resource_of.resource c.in-Some-action_of.action served
+          ∙ ap Some (sym (c.write_fields.ensures c.args.message.now c.collect-collected.ensures.parts (collected_query _ _ c.collect-collected.ensures.parts good) c.payload-payload.ensures)),
     )
