@@ -14,8 +14,7 @@ use Rattle.coap_opts.specs.declared.request.Classified.TheVariants as classified
 use Rattle.coap_opts.specs.Recognition.{has_unknown_critical}
 use Rattle.coap_opts.specs.Path.{method_of}
 use Rattle.coap_opts.specs.Served.{action_of}
-pub use Rattle.coap_opts.specs.Verdict.{asked_by}
-use Rattle.coap_opts.specs.Verdict.{resource, Asked, asked, names_proxy, refusal_code, Verdict, IsAsked, IsRefused, IsSilent, IsReset, IsSignal, IsIgnored}
+use Rattle.coap_opts.specs.Verdict.{resource, Asked, asked, asked_by, names_proxy, refusal_code, Verdict, IsAsked, IsRefused, IsSilent, IsReset, IsSignal, IsIgnored}
 
 -- the message passed the checks of its options.
 pub record IsKnown (m : Message) : Type 0 where

@@ -1,5 +1,5 @@
 //! A shard under its lock, together with the track of its calls.
-ghost use Rattle.std.specs.Prelude.{◌≡◌, ◌⊎◌, ◌+◌, ◌%◌, ◌<◌, ◌≤◌, ◌++◌, ◌∷◌, [], ℕ, Bool, true, None, Option, Some, MatchOption};
+ghost use Rattle.std.specs.Prelude.{◌≡◌, ◌⊎◌, ◌+◌, ◌%◌, ◌<◌, ◌≤◌, ◌++◌, ◌∷◌, [], ℕ, Bool, true, false, None, Option, Some, MatchOption};
 ghost use Rattle.fc_store.specs.declared.store.SlotUpdate.{SlotUpdate};
 ghost use Rattle.fc_registry.specs.Changes.{Change as SlotChange};
 ghost use Rattle.fc_registry.specs.Plans.{IsPlanned, SavesImage};

@@ -6,7 +6,7 @@ use Rattle.coap_msg.specs.declared.types.Endpoint.{Endpoint}
 use Rattle.coap_opts.specs.declared.request.Asking.{Asking}
 use Rattle.coap_opts.specs.declared.request.Asking.TheVariants.{Serve, Refuse, Silent}
 use Rattle.coap_opts.specs.declared.request.Request.{Request}
-use Rattle.coap_opts.specs.Classified.{asked_by}
+use Rattle.coap_opts.specs.Verdict.{asked_by}
 use Rattle.fc_front.specs.Askings.{new_request, authorized}
 use Rattle.fc_front.specs.Exchanges.{FrontState}
 use Rattle.fc_front.specs.Policies.{is_allowed}

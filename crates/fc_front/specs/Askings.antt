@@ -8,7 +8,7 @@ use Rattle.coap_opts.specs.declared.request.Request.{Request}
 use Rattle.coap_opts.specs.Fields.{IsResource}
 use Rattle.coap_opts.specs.Served.{resource_in}
 use Rattle.coap_opts.specs.Verdict.{Asked}
-use Rattle.coap_opts.specs.Classified.{asked_by}
+use Rattle.coap_opts.specs.Verdict.{asked_by}
 use Rattle.fc_front.specs.Exchanges.{FrontState}
 use Rattle.fc_front.specs.Receiving.{Received, Refused, Silenced, look_in, looked, request_received}
 use Rattle.coap_msg.specs.declared.types.Endpoint.{Endpoint}

@@ -1,7 +1,7 @@
 //! The protocol front end: exchanges, message IDs, and uploads.
 ghost use Rattle.std.specs.Prelude.{◌≡◌, ◌≤◌, [], false, true, IfOk, Some};
 ghost use Rattle.coap_opts.specs.Verdict.{verdict};
-ghost use Rattle.coap_opts.specs.Classified.{asked_by};
+ghost use Rattle.coap_opts.specs.Verdict.{asked_by};
 ghost use Rattle.coap_dedup.specs.Exchanges.{IsNew};
 ghost use Rattle.fc_front.specs.Answering.{AnswersIn, after_answered, emission_of, responded};
 ghost use Rattle.fc_front.specs.Askings.{IsAsking, IsServable, asked_in, new_request, authorized};

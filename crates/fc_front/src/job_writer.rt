@@ -1,6 +1,6 @@
 //! The jobs of requests and of timers, each written over a job.
 ghost use Rattle.std.specs.Prelude.{◌≡◌, ◌≤◌, length};
-ghost use Rattle.coap_opts.specs.Classified.{asked_by};
+ghost use Rattle.coap_opts.specs.Verdict.{asked_by};
 ghost use Rattle.fc_front.specs.Askings.{IsServable};
 ghost use Rattle.fc_front.specs.Receiving.{ask_by, etags_by, job_of, observes, request_asked, initial_vars_by};
 ghost use Rattle.fc_front.specs.Receiving as receiving;

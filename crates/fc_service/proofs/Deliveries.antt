@@ -41,10 +41,11 @@ use Rattle.fc_workers.proofs.Filed.{bench_files}
 use Rattle.fc_pool.proofs.OneDispatcher.{dispatcher_delivers}
 use Rattle.fc_service.proofs.OneHistory.{AreChained, any_wait}
 use Rattle.fc_service.proofs.Unreported.{reported_simulates, rounds_held}
-use Rattle.fc_service.specs.Firing.{AreFired, Firing, FiresOnce, SkipsBeat, fired_calls, firing_from, readies_firing}
+use Rattle.fc_receive.specs.Firing.{AreFired, Firing, FiresOnce, SkipsBeat, fired_calls, firing_from, readies_firing}
 use Rattle.fc_pool.specs.Pooled.{AreSharesAt, FiresPooled, IsNew, PassesOverPooled, PooledIngress, offload_where, pooled_calls}
-use Rattle.fc_service.specs.Reporting.{readies_through, reported_calls, reporting_from}
-use Rattle.fc_service.specs.Rounds.{HasServedPooled, IsReceivedBy, IsRoundBy, Round, RoundCalls, deliveries_of, delivery_at, offload_of, served_view}
+use Rattle.fc_receive.specs.Reporting.{readies_through, reported_calls, reporting_from}
+use Rattle.fc_receive.specs.Rounds.{IsReceivedBy, IsRoundBy, Round, RoundCalls}
+use Rattle.fc_service.specs.Services.{HasServedPooled, deliveries_of, delivery_at, offload_of, served_view}
 use Rattle.fc_pool.specs.declared.replies.Replies.{Replies}
 
 -- ---- rounds of any server

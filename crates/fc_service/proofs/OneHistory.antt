@@ -26,19 +26,20 @@ use Rattle.fc_lines.specs.declared.line.Line.{Line}
 use Rattle.fc_lines.specs.declared.line.Line.TheVariants as lines
 use Rattle.fc_lines.specs.Emissions.{peer_endpoint, printed}
 use Rattle.fc_host.specs.Sockets.{Incoming, Receive}
-use Rattle.fc_service.proofs.Flushed.{printed_of}
+use Rattle.fc_service.proofs.Printed.{printed_of}
 use Rattle.fc_service.specs.SingleThread.{HandsAlone, ReadiesAlone, ReadiesRecorded}
 use Rattle.fc_record.specs.ProgramRequests.{Requested}
 use Rattle.fc_record.specs.Recording.{Recording, recorded_calls}
 use Rattle.fc_backend.specs.declared.call_log.CallLog.{CallLog}
 use Rattle.fc_server.specs.SingleThread.{HandlesAlone, PassesAlone, alone_calls}
 use Rattle.fc_service.specs.Histories.{Arrival, Datagram, IsOneHistory, Silence, arrival_at, arrivals_in, arrivals_in_lines, arrived_by, datagram_in, sent_in_lines}
-use Rattle.fc_service.specs.Ingresses.{IsHandledBy}
+use Rattle.fc_receive.specs.Handling.{IsHandledBy}
 use Rattle.fc_server.specs.Ingresses.{IngressCalls, is_reply}
 use Rattle.fc_service.specs.Playing.{ArePlayedBy, IsCarriedOutBy, IsHandedBy, IsPlayedBy, IsPlayedOut, PlayedLine, time_of, output_by, printed_lines, printed_steps}
-use Rattle.fc_service.specs.Rounds.{AreRoundsBy, HasServed, IsReceivedBy, IsRoundBy, Round, RoundCalls, sendings_in}
+use Rattle.fc_receive.specs.Rounds.{AreRoundsBy, IsReceivedBy, IsRoundBy, Round, RoundCalls, sendings_in}
+use Rattle.fc_service.specs.Services.{HasServed}
 use Rattle.fc_server.specs.Flushing.{AreStepsBy, Asked, IsStepBy, Passed, Resent, FlushingStep, sent_in_step, sent_in_steps}
-use Rattle.fc_service.specs.Traffic.{Sending}
+use Rattle.fc_receive.specs.Traffic.{Sending}
 use Rattle.fc_server.specs.declared.alone.SingleThread.{SingleThread}
 use Rattle.fc_pool.specs.declared.replies.Replies.{Replies}
 

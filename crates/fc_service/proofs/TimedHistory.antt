@@ -23,11 +23,12 @@ use Rattle.fc_record.specs.ProgramRequests.{Requested}
 use Rattle.fc_record.specs.Recording.{Recording, recorded_calls}
 use Rattle.fc_record.specs.declared.report.Report.{Report}
 use Rattle.fc_backend.specs.declared.call_log.CallLog.{CallLog}
-use Rattle.fc_service.specs.Firing.{AreFired, Firing, FiresOnce, SkipsBeat, fired_calls, is_offloaded, readies_firing}
+use Rattle.fc_receive.specs.Firing.{AreFired, Firing, FiresOnce, SkipsBeat, fired_calls, is_offloaded, readies_firing}
 use Rattle.fc_service.specs.Histories.{Arrival, Beat, Datagram, IsOneHistory, Silence, after_beat, arrival_at, beat_at, timed_arrivals_in, timers_after}
-use Rattle.fc_service.specs.Rounds.{HasServedTimed, IsReceivedBy, IsRoundBy, Round, RoundCalls, sendings_in}
+use Rattle.fc_receive.specs.Rounds.{IsReceivedBy, IsRoundBy, Round, RoundCalls, sendings_in}
+use Rattle.fc_service.specs.Services.{HasServedTimed}
 use Rattle.fc_service.specs.SingleThread.{ReadiesRecorded}
-use Rattle.fc_service.specs.Traffic.{Sending}
+use Rattle.fc_receive.specs.Traffic.{Sending}
 use Rattle.fc_pool.specs.declared.replies.Replies.{Replies}
 use Rattle.fc_service.proofs.OneHistory.{AreChained, any_wait, GoesOn, Leaves, both_go_on, datagram_goes_on, goes_on_as, leaves_first, none_follows, one_follows, one_history, passed_goes_on, run_follows, steps_go_on}
 

@@ -20,10 +20,11 @@ use Rattle.fc_server.specs.Serving.{Serves}
 use Rattle.fc_server.specs.States.{ServerState}
 use Rattle.fc_service.proofs.OneHistory.{AreChained, leaves_first, one_history, recorded_go_on}
 use Rattle.fc_service.proofs.TimedHistory.{each_free, rounds_go_on}
-use Rattle.fc_service.specs.Firing.{Firing, fired_calls, firing_from, readies_firing}
+use Rattle.fc_receive.specs.Firing.{Firing, fired_calls, firing_from, readies_firing}
 use Rattle.fc_service.specs.Histories.{IsOneHistory, arrivals_in, timed_arrivals_in}
-use Rattle.fc_service.specs.Reporting.{MakesReport, Reporting, ReportsIfDue, readies_through, reported_calls, reporting_from}
-use Rattle.fc_service.specs.Rounds.{AreRoundsBy, HasServedReported, HasServedTimed, IsReceivedBy, IsRoundBy, Round, RoundCalls, sendings_in}
+use Rattle.fc_receive.specs.Reporting.{MakesReport, Reporting, ReportsIfDue, readies_through, reported_calls, reporting_from}
+use Rattle.fc_receive.specs.Rounds.{AreRoundsBy, IsReceivedBy, IsRoundBy, Round, RoundCalls, sendings_in}
+use Rattle.fc_service.specs.Services.{HasServedReported, HasServedTimed}
 use Rattle.fc_service.specs.SingleThread.{ReadiesRecorded}
 use Rattle.fc_pool.specs.declared.replies.Replies.{Replies}
 

@@ -16,7 +16,7 @@ use Rattle.fc_host.specs.Sockets.{Incoming}
 use Rattle.fc_host.specs.Timers.{put_off}
 use Rattle.fc_host.specs.declared.timer.Timer.{Timer}
 use Rattle.fc_service.specs.Playing.{PlayedLine, time_of}
-use Rattle.fc_service.specs.Rounds.{Round}
+use Rattle.fc_receive.specs.Rounds.{Round}
 use Rattle.fc_server.specs.Flushing.{sent_in_steps}
 
 -- at this time a datagram came, or none came and time passed, or the timer of a slot fired.

@@ -1,14 +1,7 @@
 pub mod Ingresses
 pub mod SingleThread
 pub mod Starting
-pub mod Traffic
-pub mod Options
 pub mod Playing
-pub mod Firing
-pub mod Rounds
+pub mod Services
 pub mod Histories
-pub mod Policies
-pub mod Reporting
-pub mod Every
-pub mod Logs
 pub mod Serials

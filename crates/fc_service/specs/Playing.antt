@@ -15,7 +15,8 @@ use Rattle.fc_lines.specs.Emissions.{peer_endpoint, printed}
 use Rattle.fc_lines.specs.Lines.{IsLine}
 use Rattle.fc_service.specs.SingleThread.{HandsAlone}
 use Rattle.fc_server.specs.SingleThread.{alone_calls}
-use Rattle.fc_service.specs.Ingresses.{IsHandledBy, waited_calls}
+use Rattle.fc_service.specs.Ingresses.{waited_calls}
+use Rattle.fc_receive.specs.Handling.{IsHandledBy}
 use Rattle.fc_server.specs.Ingresses.{IngressCalls}
 use Rattle.fc_pool.specs.Pooled.{IsFedBeside, locked_view}
 use Rattle.fc_server.specs.Flushing.{AreFlushed, AreStepsBy, FlushingStep, sent_in_steps}

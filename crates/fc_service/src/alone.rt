@@ -2,10 +2,10 @@
 ghost use Rattle.fc_service.specs.SingleThread.{HandsAlone, ReadiesRecorded};
 
 use crate::lines::LineIngress;
-use crate::rounds::Preparation;
 use fc_help::Readings;
 use fc_host::clock::device_readings;
 use fc_host::sensors::Sensors;
+use fc_receive::rounds::Preparation;
 use fc_record::{RecordedAlone, Recorder};
 use fc_server::SingleThread;
 use std::sync::Wait;

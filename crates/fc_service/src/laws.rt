@@ -1,5 +1,5 @@
 //! Consequences of the service's definitions: each function's contract is a law.
-ghost use Rattle.std.specs.Prelude.{◌≡◌, ◌≢◌, ◌+◌, ◌-◌, ◌*◌, ◌/◌, ◌%◌, ◌<◌, ◌≤◌, ◌++◌, ◌↔◌, ◌⊎◌, ℕ, Bool, List, [], ◌∷◌, None, Option, Some, codes, false, flat_map, is_none, length, map, true};
+ghost use Rattle.std.specs.Prelude.{◌≡◌, ◌+◌, ◌-◌, ◌*◌, ◌%◌, ◌<◌, ◌≤◌, ◌++◌, ◌⊎◌, ℕ, Bool, List, [], ◌∷◌, None, Option, Some, false, flat_map, length, map, true};
 ghost use Rattle.coap_msg.specs.declared.types.Emission.{Emission};
 ghost use Rattle.fc_calls.specs.Doings.{AnswersAt};
 ghost use Rattle.fc_filed.specs.Recovered.{AreStoredAtFirst, FindsHistory, HaveSavedOrder, saves_of};
@@ -10,34 +10,15 @@ ghost use Rattle.fc_front.specs.Contents.{Content};
 ghost use Rattle.fc_front.specs.Exchanges.{FrontState, advanced};
 ghost use Rattle.fc_core.specs.History.{History, seen, slot_at};
 ghost use Rattle.fc_front.specs.Timers.{timer_job};
-ghost use Rattle.fc_front.specs.declared.front.Handled.TheVariants.{Job, Nothing, Reply, Signal};
-ghost use Rattle.fc_observe.specs.declared.observers.Ticked.{Ticked};
-ghost use Rattle.fc_observe.specs.declared.observers.Ticked.TheVariants.{Quiet};
-ghost use Rattle.fc_registry.specs.Shards.{shard_at, slot_in_shards};
+ghost use Rattle.fc_registry.specs.Shards.{slot_in_shards};
 ghost use Rattle.fc_registry.specs.Slots.{last_serial};
-ghost use Rattle.fc_registry.specs.Watches.{at_time, overdue_place, watch_at};
-ghost use Rattle.fc_server.specs.Notified.{Nobody, Notified};
-ghost use Rattle.fc_server.specs.Steps.{shard_turn};
 ghost use Rattle.fc_server.specs.declared.server.Begin.{Begin};
 ghost use Rattle.fc_host.specs.Sockets.{Incoming, Receive};
-ghost use Rattle.fc_host.specs.Timers.{put_off};
 ghost use Rattle.fc_host.specs.declared.timer.Timer.{Timer};
-ghost use Rattle.fc_server.specs.declared.engine.FireOutcome.{FireOutcome};
 ghost use Rattle.std.specs.List.{All};
-ghost use Rattle.fc_server.specs.SingleThread.{NotifiesAlone, ResendsAlone};
-ghost use Rattle.fc_service.specs.Every.{IsNoTimerText, IsTimerText};
-ghost use Rattle.fc_service.specs.Firing.{AreFired, Firing, FiresIfDue, fired_calls, is_offloaded};
 ghost use Rattle.fc_service.specs.Histories.{Beat, Datagram, IsOneHistory, Silence, after_beat, arrivals_in, arrivals_in_lines, beat_at, sent_in_lines, timed_arrivals_in};
-ghost use Rattle.fc_server.specs.Ingresses.{is_reply};
 ghost use Rattle.fc_lines.specs.Emissions.{printed};
 ghost use Rattle.fc_service.specs.Playing.{IsNextText, IsPlayedOut, PlayedLine, printed_lines};
-ghost use Rattle.fc_front.specs.Gauges.{gauges_at};
-ghost use Rattle.fc_record.specs.Gauges.{observers_of};
-ghost use Rattle.fc_record.specs.Recording.{Recording, recorded_calls};
-ghost use Rattle.fc_record.specs.Reports.{nothing_counted};
-ghost use Rattle.fc_record.specs.declared.gauges.Gauges.{Gauges};
-ghost use Rattle.fc_service.specs.Logs.{ArePeriods, IsReportText};
-ghost use Rattle.fc_service.specs.Reporting.{AreGaugesOf, Reporting, ReportsIfDue, reported_calls, reporting_from};
 ghost use Rattle.fc_locked.specs.Counts.{Tallies};
 ghost use Rattle.fc_server.specs.Serving.{Serves};
 ghost use Rattle.fc_server.specs.States.{ServerState, begin_of, first_server};
@@ -47,94 +28,29 @@ ghost use Rattle.fc_backend.specs.Messages.{first_brought};
 ghost use Rattle.fc_locked.specs.OneOrder.{logs_of};
 ghost use Rattle.fc_locked.specs.SharedStores.{HasSaved};
 ghost use Rattle.fc_backend.specs.Statistics.{Share};
-ghost use Rattle.fc_backend.specs.declared.call_log.CallLog.{CallLog};
 ghost use Rattle.fc_workers.specs.declared.dispatcher.Offload.TheVariants.{ChangesAndExpensive, Expensive};
-ghost use Rattle.fc_pool.specs.Pooled.{PooledIngress, pooled_calls};
-ghost use Rattle.fc_service.specs.Rounds.{EndsInTime, HasServed, HasServedPooled, HasServedReported, HasServedTimed, IsOneThread, Round, WaitsAfter, deliveries_of, offload_of, round_calls, sendings_in, served_view, until_due};
-ghost use Rattle.fc_server.specs.Flushing.{most_steps};
+ghost use Rattle.fc_receive.specs.Rounds.{Round, WaitsAfter, round_calls, sendings_in};
+ghost use Rattle.fc_service.specs.Services.{HasServed, HasServedPooled, HasServedReported, HasServedTimed, IsOneThread, deliveries_of, offload_of, served_view};
 ghost use Rattle.fc_service.specs.Serials.{IsNewerNumber, raised_at, serial_of_start, serial_over};
 ghost use Rattle.fc_service.specs.Starting.{AreRising, IsRestoredFrom, RefusesSlot, SavesSerial};
 ghost use Rattle.fc_store.specs.declared.store.ProgramUpdate.{ProgramUpdate};
 ghost use Rattle.fc_store.specs.Recovery.{Save, SavesAll, refuses, stores};
 ghost use Rattle.fc_store.specs.Stored.{StoredProgram, StoredSlot, StoredSlots, stored_in};
 ghost use Rattle.fc_store.specs.Updates.{AreSameSlots};
-ghost use Rattle.fc_server.specs.declared.alone.SingleThread.{SingleThread};
 ghost use Rattle.fc_pool.specs.declared.replies.Replies.{Replies};
+ghost use Rattle.fc_pool.specs.Pooled.{PooledIngress, pooled_calls};
+ghost use Rattle.fc_receive.specs.Reporting.{Reporting, reported_calls};
 
-use crate::every::LONGEST;
 use fc_backend::TimeSource;
-use fc_host::laws::no_timer_is_due_before_the_first;
 use fc_host::sensors::Sensors;
 use fc_host::socket::{Sink, Source};
 use fc_record::{Recorder, Reporter};
-use fc_server::Ingress;
-use fc_server::flush::STEPS;
 use fc_store::Store;
 
-/// The work at one time has more steps than all shards and observers need.
+/// The first receive of a server with workers and no timer waits 100 ms.
 ///
-/// Each of the 32 observers of 64 slots gets at most one retransmission and one notification. Each
-/// of 8 shards returns once that no notification has timed out, and once that no observer has a
-/// pending one.
-pub fn flushing_has_steps_for_all()
-    ensures { 64 * (32 + 32) + 8 * 2 ≤ most_steps }
-{}
-
-/// The work at one time has at most 8,192 steps, in code and definition.
-pub fn flushing_takes_8192_steps()
-    ensures code { STEPS ≡ 8192 }
-    ensures definition { most_steps ≡ 8192 }
-{}
-
-/// The longest period of a timer is a day.
-///
-/// A day is 24 hours of 60 minutes of 60 seconds of 1,000 ms. `86400000:7` is the text of a timer,
-/// and no text has a longer period.
-pub fn longest_period_is_a_day()
-    ensures code { LONGEST ≡ 24 * 60 * 60 * 1000 }
-    ensures day { IsTimerText (codes "86400000:7") (record { every = 86400000; slot = 7; due = 86400000; offloaded = false }) }
-    ensures most { (text : List ℕ) (t : Timer) → IsTimerText text t → t.every ≤ 24 * 60 * 60 * 1000 }
-{}
-
-/// A timer has a period of 1 ms to a day, and a slot of 0 to 63.
-///
-/// `1:0` and `1000:63` are the texts of timers. `0:7`, `86400001:7` and `1000:64` are those of
-/// none.
-pub fn timers_have_periods_and_slots()
-    ensures shortest { IsTimerText (codes "1:0") (record { every = 1; slot = 0; due = 1; offloaded = false }) }
-    ensures last { IsTimerText (codes "1000:63") (record { every = 1000; slot = 63; due = 1000; offloaded = false }) }
-    ensures none { IsNoTimerText (codes "0:7") }
-    ensures longer { IsNoTimerText (codes "86400001:7") }
-    ensures beyond { IsNoTimerText (codes "1000:64") }
-{}
-
-/// The receiver sends immediate responses.
-///
-/// It doesn't send a job's reply, a signal, or anything for an ignored datagram.
-pub fn replies_are_sent_by_the_receiver()
-    ensures reply { is_reply Reply ≡ true }
-    ensures job { is_reply Job ≡ false }
-    ensures signal { (id : ℕ) (reset : Bool) → is_reply (Signal id reset) ≡ false }
-    ensures nothing { is_reply Nothing ≡ false }
-{}
-
-/// The results of shards of a server on one thread are true.
-///
-/// A shard returns that no notification has timed out exactly if none of its slots' notifications
-/// has. It returns that no observer has a pending notification exactly if it has no lease to give.
-pub fn shards_tell_what_is_so()
-    ensures overdue { (shard now : ℕ) (old new : SingleThread) (ticked : Ticked) → ResendsAlone shard now old new ticked
-        → ((ticked ≡ Quiet) ↔ (overdue_place (at_time (shard_at old.engine.shards (shard % 8)) now) ≡ None)) }
-    ensures due { (shard now : ℕ) (old new : SingleThread) (told : Notified) → NotifiesAlone shard now old new told
-        → ((told ≡ Nobody) ↔ (shard_turn now (shard_at old.engine.shards (shard % 8)) ≡ None)) }
-{}
-
-/// The first receive waits 100 ms, or until a timer is due before that.
-///
-/// A server without timers waits 100 ms: on one thread or with workers, with reports or without.
-/// With a timer of 20 ms a server waits 20 ms.
-pub fn first_wait_is_100_ms<
-    N: Ingress,
+/// It does so with reports or without. `fc_receive::laws` says the same of a server on one thread.
+pub fn first_wait_with_workers_is_100_ms<
     Z: Sensors,
     S: Source,
     M: TimeSource,
@@ -143,11 +59,6 @@ pub fn first_wait_is_100_ms<
     Q: Reporter,
     P: Store,
 >()
-    ensures without { (left : N) (wait : Option ℕ) → ((due : ℕ) → N.calls.is_first_due left due → due ≡ 18446744073709551615) → WaitsAfter N.calls [] left wait → wait ≡ Some 100 }
-    ensures timer { (left : N) (wait : Option ℕ) → ((due : ℕ) → N.calls.is_first_due left due → due ≡ 20) → WaitsAfter N.calls [] left wait → wait ≡ Some 20 }
-    ensures later { (left : N) (wait : Option ℕ) → ((due : ℕ) → N.calls.is_first_due left due → due ≡ 1000) → WaitsAfter N.calls [] left wait → wait ≡ Some 100 }
-    ensures alone { (left : Recording) (wait : Option ℕ) → WaitsAfter (recorded_calls C.recorded) [] left wait → wait ≡ Some 100 }
-    ensures alone_reported { (left : Reporting Recording) (wait : Option ℕ) → WaitsAfter (reported_calls Q.reported (recorded_calls C.recorded)) [] left wait → wait ≡ Some 100 }
     ensures pooled { (first : ServerState) (left : PooledIngress Tallies) (wait : Option ℕ)
         → WaitsAfter (pooled_calls (served_view Z.are_sensed (round_calls S.received M.is_time K.went) C.recorded (HasSaved P.Store) first)) [] left wait → wait ≡ Some 100 }
     ensures pooled_reported { (first : ServerState) (left : Reporting (PooledIngress Tallies)) (wait : Option ℕ)
@@ -159,22 +70,6 @@ pub fn first_wait_is_100_ms<
 /// The first line of `a`, a line feed, `b` is `a`.
 pub fn lines_end_before_line_feeds()
     ensures { (text : List ℕ) (left : Option (List ℕ)) → IsNextText text (Some (97 ∷ 10 ∷ 98 ∷ [])) left → text ≡ 97 ∷ [] }
-{}
-
-/// The next receive waits 100 ms, or until the earliest time of the eight shards.
-///
-/// After a round that received a datagram, it waits 100 ms. After an idle round, the wait lasts
-/// until the earliest time that one of the eight shards returned, and at least 100 ms. It is
-/// unlimited only if each shard returned 2^64 - 1 ms, which isn't a time. So an idle server sleeps,
-/// and doesn't wake up before there may be work.
-pub fn waits_end_in_time()
-    ensures received { (told : ℕ → ℕ) (now : ℕ) (wait : Option ℕ) → EndsInTime (λ shard until. until ≡ told shard) now false wait → wait ≡ Some 100 }
-    ensures soon { (told : ℕ → ℕ) (now shard : ℕ) (wait : Option ℕ) → shard < 8 → told shard ≤ now + 100 → now + 100 < 18446744073709551615
-        → EndsInTime (λ shard until. until ≡ told shard) now true wait → wait ≡ Some 100 }
-    ensures later { (told : ℕ → ℕ) (now shard later : ℕ) (wait : Option ℕ) → shard < 8 → told shard ≡ now + later → 100 ≤ later → now + later < 18446744073709551615
-        → ((other : ℕ) → other < 8 → now + later ≤ told other) → EndsInTime (λ shard until. until ≡ told shard) now true wait → wait ≡ Some later }
-    ensures endless { (told : ℕ → ℕ) (now : ℕ) (wait : Option ℕ) → ((shard : ℕ) → shard < 8 → told shard ≡ 18446744073709551615)
-        → EndsInTime (λ shard until. until ≡ told shard) now true wait → wait ≡ None }
 {}
 
 /// All rounds of a server on one thread continue one history of events.
@@ -268,86 +163,12 @@ pub fn timers_fire_in_their_rounds()
         ≡ Datagram 900 incoming ∷ Beat 1000 7 ∷ Silence 1000 ∷ Silence 1500 ∷ Beat 2300 7 ∷ Datagram 2300 incoming ∷ [] }
 {}
 
-/// The timers that are due in a round fire in their order.
-///
-/// In a round at 5,300 ms, timers that are due at 5,000 and 5,200 ms fire one after the other, once
-/// each. A timer that is due at 7,000 ms remains as it is.
-pub fn due_timers_fire_in_order<N: Ingress>()
-    ensures both { (t u : Timer) (new : List Timer) (before after : N) → t.due ≡ 5000 → u.due ≡ 5200 → t.offloaded ≡ false → u.offloaded ≡ false
-        → AreFired N.calls 5300 (t ∷ u ∷ []) new before after
-        → (mid : N) × (first : FireOutcome) × (second : FireOutcome) × N.calls.fires t.slot 5300 before mid first × N.calls.fires u.slot 5300 mid after second
-        × (new ≡ record (put_off 5300 t) { offloaded = is_offloaded first } ∷ record (put_off 5300 u) { offloaded = is_offloaded second } ∷ []) }
-    ensures first { (t u : Timer) (new : List Timer) (before after : N) → t.due ≡ 5000 → u.due ≡ 7000 → t.offloaded ≡ false
-        → AreFired N.calls 5300 (t ∷ u ∷ []) new before after
-        → (outcome : FireOutcome) × N.calls.fires t.slot 5300 before after outcome × (new ≡ record (put_off 5300 t) { offloaded = is_offloaded outcome } ∷ u ∷ []) }
-    ensures second { (t u : Timer) (new : List Timer) (before after : N) → t.due ≡ 7000 → u.due ≡ 5000 → u.offloaded ≡ false
-        → AreFired N.calls 5300 (t ∷ u ∷ []) new before after
-        → (outcome : FireOutcome) × N.calls.fires u.slot 5300 before after outcome × (new ≡ t ∷ record (put_off 5300 u) { offloaded = is_offloaded outcome } ∷ []) }
-{}
-
-/// A timer skips a beat only if its last job was sent to a worker.
-///
-/// A timer of slot 7 that is due at 5,000 ms fires once in a round at 5,300 ms, by one call of the
-/// server, for slot 7. If its last job was sent to a worker, it fires once or skips the beat, and
-/// is due at 6,000 ms in either case.
-pub fn timers_skip_beats_only_for_a_worker<N: Ingress>()
-    ensures free { (t u : Timer) (before after : N) → t.due ≡ 5000 → t.offloaded ≡ false → FiresIfDue N.calls 5300 t u before after
-        → (outcome : FireOutcome) × N.calls.fires t.slot 5300 before after outcome × (u ≡ record (put_off 5300 t) { offloaded = is_offloaded outcome }) }
-    ensures early { (t u : Timer) (before after : N) → t.due ≡ 5000 → FiresIfDue N.calls 4999 t u before after → (u ≡ t) × (after ≡ before) }
-    ensures offloaded { (t u : Timer) (before after : N) → t.every ≡ 1000 → t.due ≡ 5000 → t.offloaded ≡ true → FiresIfDue N.calls 5300 t u before after
-        → (u.due ≡ 6000) × (((outcome : FireOutcome) × N.calls.fires t.slot 5300 before after outcome × (u.offloaded ≡ is_offloaded outcome)) ⊎ ((after ≡ before) × (u.offloaded ≡ true))) }
-{}
-
 /// The answer of a timer's job is sent to nobody, by a worker either.
 ///
 /// It is stored in no exchange, and draws no message ID: of the front only the time changes.
 pub fn workers_send_no_answer_of_a_timer()
     ensures { (now slot : ℕ) (content : Content) (sent : Option Emission) (before after : FrontState) → AnswersAt now (timer_job slot) content sent before after
         → (sent ≡ None) × (after ≡ advanced before now) }
-{}
-
-/// A wait ends when the first timer is due.
-///
-/// At 4,200 ms a wait lasts 800 ms if the first timer is due at 5,000 ms, and is at least 1 ms. It
-/// isn't longer than it would be without timers, and without timers it is the same.
-pub fn waits_end_when_a_timer_is_due<N: Ingress>()
-    ensures endless { until_due 4200 5000 None ≡ Some 800 }
-    ensures longer { until_due 4200 5000 (Some 900) ≡ Some 800 }
-    ensures shorter { until_due 4200 5000 (Some 100) ≡ Some 100 }
-    ensures soon { until_due 4970 5000 (Some 100) ≡ Some 30 }
-    ensures least { until_due 5000 5000 (Some 100) ≡ Some 1 }
-    ensures without { (now : ℕ) (wait : Option ℕ) → until_due now 18446744073709551615 wait ≡ wait }
-    ensures first { (due : ℕ) (f : Firing N) → (fired_calls N.calls).is_first_due f due → All (λ t. due ≤ t.due) f.timers }
-    ensures earliest { (due : ℕ) (f : Firing N) (t u : Timer) → t.due ≡ 5000 → u.due ≡ 7000 → f.timers ≡ t ∷ u ∷ [] → ((own : ℕ) → N.calls.is_first_due f.ingress own → own ≡ 18446744073709551615)
-        → (fired_calls N.calls).is_first_due f due → due ≡ 5000 }
-    ensures own { (due : ℕ) (f : Firing N) (t : Timer) → t.due ≡ 5000 → f.timers ≡ t ∷ [] → ((own : ℕ) → N.calls.is_first_due f.ingress own → own ≡ 4600)
-        → (fired_calls N.calls).is_first_due f due → due ≡ 4600 }
-{
-    no_timer_is_due_before_the_first();
-}
-
-/// The next receive of a server with timers waits until the first of them is due.
-///
-/// Timers are due at 5,000 and 7,000 ms, and the server that they fire has no timer of its own.
-/// After a round at 4,190 ms that ended at 4,200 ms the next receive waits 100 ms if a datagram was
-/// received, and 50 ms after one that ended at 4,950 ms. If none was received and no shard has
-/// work, it waits 800 ms. With timers the clock is read at the end of each round, and without
-/// timers it isn't.
-pub fn receives_end_when_a_timer_is_due<N: Ingress>()
-    ensures received { (f : Firing N) (t u : Timer) (r : Round) (rs : List Round) (wait : Option ℕ) → t.due ≡ 5000 → u.due ≡ 7000 → f.timers ≡ t ∷ u ∷ []
-        → ((own : ℕ) → N.calls.is_first_due f.ingress own → own ≡ 18446744073709551615) → r.now ≡ 4190 → r.ended ≡ Some 4200 → is_none r.received ≡ false
-        → WaitsAfter (fired_calls N.calls) (r ∷ rs) f wait → wait ≡ Some 100 }
-    ensures soon { (f : Firing N) (t u : Timer) (r : Round) (rs : List Round) (wait : Option ℕ) → t.due ≡ 5000 → u.due ≡ 7000 → f.timers ≡ t ∷ u ∷ []
-        → ((own : ℕ) → N.calls.is_first_due f.ingress own → own ≡ 18446744073709551615) → r.now ≡ 4190 → r.ended ≡ Some 4950 → is_none r.received ≡ false
-        → WaitsAfter (fired_calls N.calls) (r ∷ rs) f wait → wait ≡ Some 50 }
-    ensures idle { (f : Firing N) (t u : Timer) (r : Round) (rs : List Round) (wait : Option ℕ) → t.due ≡ 5000 → u.due ≡ 7000 → f.timers ≡ t ∷ u ∷ []
-        → ((own : ℕ) → N.calls.is_first_due f.ingress own → own ≡ 18446744073709551615)
-        → ((shard until : ℕ) → N.calls.stays_idle shard f.ingress until → until ≡ 18446744073709551615) → r.now ≡ 4190 → r.ended ≡ Some 4200 → is_none r.received ≡ true
-        → WaitsAfter (fired_calls N.calls) (r ∷ rs) f wait → wait ≡ Some 800 }
-    ensures read { (f : Firing N) (t u : Timer) (r : Round) (rs : List Round) (wait : Option ℕ) → t.due ≡ 5000 → u.due ≡ 7000 → f.timers ≡ t ∷ u ∷ []
-        → ((own : ℕ) → N.calls.is_first_due f.ingress own → own ≡ 18446744073709551615) → WaitsAfter (fired_calls N.calls) (r ∷ rs) f wait → r.ended ≢ None }
-    ensures unread { (left : N) (r : Round) (rs : List Round) (wait : Option ℕ) → ((due : ℕ) → N.calls.is_first_due left due → due ≡ 18446744073709551615)
-        → WaitsAfter N.calls (r ∷ rs) left wait → r.ended ≡ None }
 {}
 
 /// All lines that a server on one thread plays are one history of events.
@@ -380,20 +201,6 @@ pub fn later_starts_begin_higher()
 pub fn restarts_keep_the_order_of_observe()
     ensures { (first second changes : ℕ) → second ≤ first + 256000 → second ≤ 281474976710656 → changes < 32 * (second - first)
         → IsNewerNumber ((serial_of_start first + changes) % 16777216) (serial_of_start second % 16777216) }
-{}
-
-/// A report is made when it is due or later, once, and an idle server wakes up for it.
-///
-/// A server that reports each minute makes no report before 60,000 ms. At 61,500 ms, with nothing
-/// counted, it reports that, once, with the gauges of this time, and the next report is due at
-/// 121,500 ms. No server is idle for longer than until its next report is due.
-pub fn reports_come_in_time<N: Ingress, Q: Reporter>()
-    ensures early { (s : N) (log : CallLog) (new : Reporting N) → ReportsIfDue Q.reported N.calls 59999 (reporting_from 60000 log s) new → new ≡ reporting_from 60000 log s }
-    ensures overdue { (s : N) (log : CallLog) (new : Reporting N) → ReportsIfDue Q.reported N.calls 61500 (reporting_from 60000 log s) new
-        → (gauges : Gauges) × AreGaugesOf N.calls 61500 s gauges
-        × (after : CallLog) × Q.reported (record nothing_counted { gauges = gauges }) log after
-        × (new ≡ record { ingress = s; report = record nothing_counted { gauges = gauges }; every = 60000; due = 121500; log = after }) }
-    ensures awake { (shard until : ℕ) (now : Reporting N) → (reported_calls Q.reported N.calls).stays_idle shard now until → until ≤ now.due }
 {}
 
 /// A server with one worker counts the replies of its rounds, of the worker and of the dispatcher.
@@ -515,27 +322,6 @@ pub fn starts_begin_above_saved_serials<S: Store>()
         → SavesAll S.Store saves new last → AreRising saves (S.Store.stored new) → S.Store.is_clean last
         → S.Store.may_recover last found → AreSameSlots (stored_in stored) found
         → (n : ℕ) → n < 64 → (S.Store.stored last n).serial < last_serial → (S.Store.stored last n).serial < serial_over ms stored }
-{}
-
-/// The gauges of a server on one thread are its own.
-///
-/// They are those of its front at the time of the report. The observers of slot n are those in its
-/// list, at place n / 8 of shard n mod 8. No job was sent to a worker.
-pub fn gauges_of_one_thread_are_its_own<C: Recorder>()
-    ensures front { (now : ℕ) (s : Recording) (gauges : Gauges) → AreGaugesOf (recorded_calls C.recorded) now s gauges → gauges.front ≡ gauges_at now s.alone.engine.front }
-    ensures observers { (now n : ℕ) (s : Recording) (gauges : Gauges) → n < 64 → AreGaugesOf (recorded_calls C.recorded) now s gauges
-        → observers_of gauges.observers.shards n ≡ length (watch_at (shard_at s.alone.engine.shards (n % 8)) (n / 8)).held }
-    ensures offloaded { (now : ℕ) (s : Recording) (gauges : Gauges) → AreGaugesOf (recorded_calls C.recorded) now s gauges → gauges.offloaded ≡ 0 }
-{}
-
-/// The texts of `--log` that give a period of reports.
-///
-/// `report:60` is each minute, and the longest period is a day. Of several texts, the last one
-/// counts.
-pub fn reports_have_their_periods()
-    ensures minute { IsReportText (codes "report:60") 60000 }
-    ensures day { (text : List ℕ) (period : ℕ) → IsReportText text period → period ≤ 24 * 60 * 60 * 1000 }
-    ensures last { ArePeriods (codes "report:60" ∷ codes "info" ∷ codes "report:5" ∷ []) None (Some 5000) }
 {}
 
 /// A start after a crash finds the slots that a server with workers has served.

@@ -1,4 +1,6 @@
-//! The `fcd` program: command line, played lines, a served socket, and its log.
+//! Servers of `fcd`: played lines, a served socket, the slots of a start, and the first serial.
+//!
+//! `fc_config` has the command line of `fcd`, and `fc_receive` the receive loop of a server.
 //!
 //! ```rust
 //! use fc_cli::Status;
@@ -29,45 +31,22 @@
 //!   read. Its front began with the given policy. A line's output is its immediate response; for a
 //!   job it is some emission, or nothing (`play_by_workers`, by `IsPlayedBeside`). The contract
 //!   doesn't say that the output was printed.
-//! - **A server on a socket** receives in one loop, on one thread or as the dispatcher of workers
-//!   (`run_rounds`, by `HasRun`). Its rounds follow one another on one server. A round receives a
-//!   datagram or none, and then reads the time. At this time a received datagram is handled, once,
-//!   whole and from its endpoint. If none was received, time passes. Then the shards are called one
-//!   after the other, 0 to 7. Each is called until it returns that no notification has timed out,
-//!   and then until it returns that no observer has a pending one. The last is shard 7, or one that
-//!   returns that no message ID is available, or 8,192 steps were taken.
-//! - **Sending**: exactly the emissions of a round, the reply first, are passed to the sink, once
-//!   each, in that order. Each is counted once, by the sink's result. The log of the receive, the
-//!   time and these calls has no other call. Only reading the code shows that the receiver passes
-//!   no other log (`SentReplies::new` alone makes one). The rounds' receives are the source's, in
-//!   order, if these are known: how long each waited, and the datagram received. Those of a real
-//!   socket are unknown (`Source::came`, `Sink::went`).
-//! - **Waits**: the first receive waits 100 ms, and so does each receive after a datagram. After an
-//!   idle round the wait lasts until the earliest time that the shards returned, and at least 100
-//!   ms. It is unlimited if they returned none. Each wait also ends when the server's first timer
-//!   is due, and then lasts at least 1 ms. With timers the clock is read at the end of each round,
-//!   and the next wait is counted from then (`run_rounds`, by `WaitsAfter`). A test shows that no
-//!   job of a server with workers is running when the server calls the shards.
-//! - **Timers**: in each round the timers that are due fire first, in their order, and no other.
-//!   Each fires by one call of the server, for its own slot, at the round's time, and is next due
-//!   at its first beat after that. A timer skips a beat only if its last job was sent to a worker
-//!   (`serve_timed`, by `HasRunTimed`, whose calls are `fired_calls`). The contract doesn't say
-//!   that this job is running then. Tests show that the timer goes on once its job has ended.
-//!   Without timers the server is called directly.
-//! - **The options of `fcd serve`** are the values that the command line gives (`serve_options`, by
-//!   `AreServeOptions`). Their defaults are tested.
-//! - **A server that returns its source has run that loop**, from the first state that its caller
-//!   passes: empty slots (`Slots::empty`), or restored slots (`Slots::restored`). It is one on one
-//!   thread exactly if it has one worker and its store isn't persistent. A limit was set, and that
-//!   number of datagrams was received (`serve_at`, by `IsServed`). The contract doesn't say which
-//!   times its clock gives. It says nothing about a server that returns no source or doesn't end.
-//!   Tests show that `serve` opens its socket at the given address and receives from it.
+//! - **A server on a socket** runs the rounds of `fc_receive`, on one thread or as the dispatcher
+//!   of workers (`serve_at`). With timers, those that are due fire first in each round
+//!   (`serve_timed`, by `HasRunTimed` of `fc_receive`).
+//! - **A server that returns its source has run these rounds**, from the first state that its
+//!   caller passes: empty slots (`Slots::empty`), or restored slots (`Slots::restored`). It is one
+//!   on one thread exactly if it has one worker and its store isn't persistent. A limit was set,
+//!   and that number of datagrams was received (`serve_at`, by `IsServed`). The contract doesn't
+//!   say which times its clock gives. It says nothing about a server that returns no source or
+//!   doesn't end. Tests show that `serve` opens its socket at the given address and receives from
+//!   it.
 //! - **On one thread** the rounds are lists of events of one server, which starts in that first
 //!   state. A round's list has its datagram, or its time, and the calls of its shards. A shard's
 //!   result is true: that no notification has timed out, that an observer was removed, or that no
-//!   observer has a pending notification (`laws`). The readings are each round's time and the
-//!   sensor readings. The contract doesn't say that these are the file's with `--readings`. Without
-//!   `--readings` they are zeros (`serve_alone`, by `HasServed`).
+//!   observer has a pending notification (`laws` of `fc_receive`). The readings are each round's
+//!   time and the sensor readings. The contract doesn't say that these are the file's with
+//!   `--readings`. Without `--readings` they are zeros (`serve_alone`, by `HasServed`).
 //! - **One history**: all rounds of a server on one thread, or all lines that it plays, are one
 //!   history of events. The rounds continue each history that leaves the first state without jobs.
 //!   Exactly the datagrams that came are delivered, in order. Exactly the emissions of the
@@ -102,9 +81,9 @@
 //!   the history (`next_starts_begin_as_served`). This supposes that the medium returns the data
 //!   that was written to it. The contracts say nothing about a crash during a save.
 //! - **Each request to change a program that a job answers is recorded once**, after its response
-//!   is made. Nothing else is recorded (`serve_at`). On one thread the calls are `recorded_calls` of
-//!   `fc_record`. With workers, `GivesAnswer` of `fc_workers` has `IsRecorded` for the hook. A test
-//!   shows that a logger writes the record.
+//!   is made. Nothing else is recorded (`serve_at`). On one thread the calls are `recorded_calls`
+//!   of `fc_record`. With workers, `GivesAnswer` of `fc_workers` has `IsRecorded` for the hook. A
+//!   test shows that a logger writes the record.
 //! - **The first serial** of a server rises with the time of its start: by 32 for each millisecond,
 //!   and by 2^24 for each second. So the numbers of Observe keep their order if a server is started
 //!   again (`serials::serial_of_start`, `laws`). A test shows that the time is the system clock's.
@@ -113,42 +92,26 @@
 //!   program changes. A later start over what a crash leaves begins above it, and above all serials
 //!   that were stored since (`Slots::restored`, `laws`). This supposes that the medium returned the
 //!   data that was written to it.
-//! - **Reports**: with a period, a report is made at the first round at or after the report's due
-//!   time, before the round's datagram is handled. It is made once, of the counts up to then and
-//!   the gauges of the round's time, and the next is due one period later. The counts are those of
-//!   the calls' results, in both kinds of servers. On one thread the gauges are the server's. With
-//!   workers they are those of some state of its front and of each shard, and the number of jobs
-//!   that were sent is the dispatcher's. Each wait ends when a report is due, or up to 100 ms later
-//!   (`serve_at`, by `HasRunReported`, whose calls are `reported_calls`). A report is no event of
-//!   the history. Without a period, the server is called directly, and nothing is counted.
+//! - **Reports**: with a period, the rounds report the counts and the gauges (`serve_at`, by
+//!   `HasRunReported` of `fc_receive`). With workers the gauges are those of some state of its
+//!   front and of each shard, and the number of jobs that were sent is the dispatcher's. A report
+//!   is no event of the history.
 //! - **Replies** of a server on a socket are counted and added exactly, up to 2^64 - 1, and written
 //!   as `sent S failed F`. They are those of the rounds, of each worker's jobs and of the
 //!   dispatcher's own. A test shows that this is logged.
 //!
-//! By the contracts of `play::play`, `workers::play_by_workers`, `options::serve_options`,
-//! `lines::play_lines`, `rounds::run_rounds`, `serve::serve`, `serve::serve_at`,
-//! `serve::serve_timed`, `serve::serve_alone`, `Slots::empty`, `Slots::of`, `Slots::restored`,
-//! `restored_slots`, `serials::serial_of_start`, `serials::serial_over`, `reports::run_reported`,
-//! `Reporting`, `Firing`, `laws`.
+//! By the contracts of `play::play`, `workers::play_by_workers`, `lines::play_lines`,
+//! `serve::serve`, `serve::serve_at`, `serve::serve_timed`, `serve::serve_alone`, `Slots::empty`,
+//! `Slots::of`, `Slots::restored`, `restored_slots`, `serials::serial_of_start`,
+//! `serials::serial_over`, `laws`.
 #![tactic(auto)]
 
 mod alone;
-pub mod command;
-pub mod every;
-mod firing;
 pub mod laws;
 mod lines;
-pub mod logging;
-pub mod options;
 pub mod play;
-pub mod policy;
-mod reporting;
-pub mod reports;
-mod rounds;
 pub mod serials;
 pub mod serve;
 pub mod slots;
-mod timed;
-mod timer_jobs;
 mod waiting;
 pub mod workers;

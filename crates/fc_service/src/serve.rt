@@ -5,26 +5,28 @@ ghost use Rattle.std.specs.Prelude.{◌≡◌, ◌⊎◌, ⊤, [], false, if◌t
 ghost use Rattle.fc_filed.specs.Recovered.{HaveSavedOrder};
 ghost use Rattle.fc_host.specs.Clocks.{AreReadAt};
 ghost use Rattle.fc_pool.specs.Pooled.{locked_view};
-ghost use Rattle.fc_service.specs.Rounds.{HasReceivedWith, HasServedBy, HasServedPooled, IsOneThread, IsServed, offload_of, round_calls};
+ghost use Rattle.fc_receive.specs.Rounds.{HasReceivedWith, round_calls};
+ghost use Rattle.fc_service.specs.Services.{HasServedBy, HasServedPooled, IsOneThread, IsServed, offload_of};
 ghost use Rattle.fc_pool.specs.declared.replies.Replies.{Replies as Counts};
 ghost use Rattle.fc_cli.specs.declared.status.Status.TheVariants.{Done, Failed};
 ghost use Rattle.fc_locked.specs.SharedStores.{HasSaved};
 ghost use Rattle.fc_service.specs.Starting.{IsRestoredFrom};
 
 use crate::alone::Sensed;
-use crate::reports::{CountedSink, Reports};
-use crate::rounds::Unprepared;
 use crate::slots::Slots;
-use crate::timed::{TimersOf, run_timed};
-use crate::timer_jobs::{TimerJobs, TimerWire};
 use fc_backend::{TimeSource, Wire};
 use fc_cli::status::{Status, tell};
+use fc_config::options::{Extent, Listening};
 use fc_host::clock::{Elapsed, SensingDevice};
 use fc_host::sensors::Sensors;
 use fc_host::socket::{Receiving, Replying, Sink, Source, open};
 use fc_host::timer::Timer;
 use fc_locked::ReadyStore;
 use fc_pool::{Driven, Driver, Pool, Replies, run_pool};
+use fc_receive::reports::{CountedSink, Reports};
+use fc_receive::rounds::Unprepared;
+use fc_receive::timed::{TimersOf, run_timed};
+use fc_receive::timer_jobs::{TimerJobs, TimerWire};
 use fc_record::{RecordedAlone, Recorder, Reporter};
 use fc_server::{FirstServer, Ingress, SingleThread};
 use fc_store::Store;
@@ -45,16 +47,6 @@ use thiserror::Error;
 /// some thousand steps in this time. A cheaper job runs on the thread that received it.
 const EXPENSIVE: u32 = 6_000;
 
-/// The extent of a server.
-///
-/// It has the number of workers, 1 to 16, and the number of datagrams after which the server ends;
-/// 0 is never.
-#[derive(Clone, Copy)]
-pub struct Extent {
-    pub workers: u8,
-    pub limit: u32,
-}
-
 // The reason why a server doesn't start.
 #[derive(Debug, Drop, Error)]
 enum ServeStop {
@@ -64,13 +56,6 @@ enum ServeStop {
     Clock(io::Error),
     #[error("{0}")]
     Memory(#[from] AllocError),
-}
-
-/// The listening address of a server, and whether the server reports it.
-#[derive(Clone, Copy)]
-pub struct Listening {
-    pub address: SocketAddrV4,
-    pub told: bool,
 }
 
 /// The receivers of a server's records: its end, program changes and reports.

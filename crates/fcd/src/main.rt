@@ -5,21 +5,21 @@ use clap::ArgMatches;
 use fc_cli::Status;
 use fc_cli::command_line::{parse, run_main};
 use fc_cli::message_id::random_id;
+use fc_config::command::command;
+use fc_config::every::{BadTimer, timers_in};
+use fc_config::options::{BadOption, ServeConfig};
+use fc_config::policy::policy_in;
 use fc_front::Policy;
 use fc_host::sensors::{FileSensors, NoSensors};
 use fc_host::timer::Timer;
 use fc_lines::LineLimit;
+use fc_receive::reports::Reports;
 use fc_record::{LoggedChanges, LoggedReports, Recorder, Reporter};
 use fc_registry::StartError;
 use fc_server::Begin;
-use fc_service::command::command;
-use fc_service::every::{BadTimer, timers_in};
-use fc_service::options::{BadOption, ServeOptions, serve_options};
 use fc_service::play::play;
-use fc_service::policy::policy_in;
-use fc_service::reports::Reports;
 use fc_service::serials::unix_milliseconds;
-use fc_service::serve::{Extent, Records, serve};
+use fc_service::serve::{Records, serve};
 use fc_service::slots::Slots;
 use fc_service::workers::play_by_workers;
 use fc_sql::{FileOfSlots, OpenError, SqlStore, open};
@@ -110,8 +110,8 @@ fn serve_socket<R: Runtime + AllocGlobal + Threads + Wait + Net + RandomSource +
     err: &mut E,
     matches: &ArgMatches<'_>,
 ) -> anyhow::Result<Status> {
-    let options = match serve_options(matches) {
-        Ok(options) => options,
+    let config = match ServeConfig::from_matches(matches) {
+        Ok(config) => config,
         Err(bad) => return tell_bad(err, bad),
     };
     let alloc = rt.alloc();
@@ -119,14 +119,14 @@ fn serve_socket<R: Runtime + AllocGlobal + Threads + Wait + Net + RandomSource +
         Ok(timers) => timers,
         Err(bad) => return tell_bad_timer(err, &bad),
     };
-    let end = Logged::new(rt, level_if(options.logs.info), Console(rt));
-    let changes = Logged::new(rt, level_if(options.logs.changes), Console(rt));
+    let end = Logged::new(rt, level_if(config.logs.info), Console(rt));
+    let changes = Logged::new(rt, level_if(config.logs.changes), Console(rt));
     let counts = Logged::new(rt, LevelFilter::Info, Console(rt));
     serve_logged(
         rt,
         files,
         err,
-        options,
+        config,
         timers,
         &end,
         &LoggedChanges { logger: &changes },
@@ -134,8 +134,8 @@ fn serve_socket<R: Runtime + AllocGlobal + Threads + Wait + Net + RandomSource +
     )
 }
 
-// Serves with these options and timers. Returns the status of `serve`, or `Failed` if the store
-// can't be used. `files` opens the files that the options name. `err` gets the listening address,
+// Serves with this configuration and these timers. Returns the status of `serve`, or `Failed` if the
+// store can't be used. `files` opens the files that the configuration names. `err` gets the listening address,
 // or the reason of a failure. `end` logs the end of the server, `changes` records the changes of
 // programs, and `reporter` reports the counts. Returns an error if the time or the random bytes
 // can't be read, or if memory for the slots can't be allocated.
@@ -149,7 +149,7 @@ fn serve_logged<
     rt: &R,
     files: &HostRuntime,
     err: &mut E,
-    options: ServeOptions<'_>,
+    config: ServeConfig<'_>,
     timers: Vec<Timer>,
     end: &L,
     changes: &C,
@@ -159,22 +159,22 @@ fn serve_logged<
         end,
         changes,
         reports: Reports {
-            every: options.logs.report,
+            every: config.logs.report,
             reporter,
         },
     };
     let started = unix_milliseconds(rt).map_err(|error| anyhow::anyhow!("clock: {error}"))?;
     let first_id = random_id(rt).map_err(|error| anyhow::anyhow!("random bytes: {error}"))?;
-    let Some(path) = options.store else {
-        let slots = Slots::empty(rt.alloc(), started, first_id, &options.policy)?;
-        return Ok(serve_slots(rt, files, err, &options, timers, &records, slots));
+    let Some(path) = config.store else {
+        let slots = Slots::empty(rt.alloc(), started, first_id, &config.policy)?;
+        return Ok(serve_slots(rt, files, err, &config, timers, &records, slots));
     };
-    match stored_slots(files, path, started, first_id, &options.policy) {
+    match stored_slots(files, path, started, first_id, &config.policy) {
         Ok((slots, is_saved)) => {
             if !is_saved {
                 writeln!(err, "store {path}: the serial of the start isn't saved")?;
             }
-            Ok(serve_stored(rt, files, err, &options, timers, &records, slots))
+            Ok(serve_stored(rt, files, err, &config, timers, &records, slots))
         }
         Err(bad) => tell_bad_store(err, path, &bad),
     }
@@ -214,16 +214,16 @@ fn serve_stored<
     rt: &R,
     files: &HostRuntime,
     err: &mut E,
-    options: &ServeOptions<'_>,
+    config: &ServeConfig<'_>,
     timers: Vec<Timer>,
     records: &Records<'_, L, C, Q>,
     slots: Slots<SqlStore<A>>,
 ) -> Status {
-    serve_slots(rt, files, err, options, timers, records, slots)
+    serve_slots(rt, files, err, config, timers, records, slots)
 }
 
-// Serves with these options, timers and slots, and returns the status of `serve`. `files` opens the
-// sensors' file, if the options name one.
+// Serves with this configuration, these timers and these slots, and returns the status of `serve`.
+// `files` opens the sensors' file, if the configuration names one.
 fn serve_slots<
     R: Runtime + AllocGlobal + Threads + Wait + Net + RandomSource + Sync,
     E: Write,
@@ -235,18 +235,15 @@ fn serve_slots<
     rt: &R,
     files: &HostRuntime,
     err: &mut E,
-    options: &ServeOptions<'_>,
+    config: &ServeConfig<'_>,
     timers: Vec<Timer>,
     records: &Records<'_, L, C, Q>,
     slots: Slots<P>,
 ) -> Status {
     let alloc = rt.alloc();
-    let listening = options.listening;
-    let extent = Extent {
-        workers: options.workers,
-        limit: options.limit,
-    };
-    match options.readings {
+    let listening = config.listening;
+    let extent = config.extent;
+    match config.readings {
         Some(path) => {
             let sensors = FileSensors::new(files, path);
             serve(

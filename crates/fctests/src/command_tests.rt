@@ -2,9 +2,9 @@
 //!
 //! The output of `--version` begins with the program's name and version. The values of options are
 //! those that docs/COMMANDS.md gives.
+use fc_config::command::{LINES, command};
+use fc_config::options::{BadOption, ServeConfig};
 use fc_front::Network;
-use fc_service::command::{LINES, command};
-use fc_service::options::{BadOption, ServeOptions, serve_options};
 use std::alloc::Global;
 use std::net::{Ipv4Addr, SocketAddrV4};
 use std::process::Abort;
@@ -48,20 +48,23 @@ const EXAMPLES: Network = Network {
 fn serve_has_its_defaults(rt: HostRuntime) -> Result<(), Fail> {
     let words = ["fcd", "serve", "--port", "5683"];
     let matches = command(rt.alloc())?.try_get_matches_from(&words)?;
-    let Some(Ok(options)) = matches.subcommand_matches("serve").map(serve_options) else {
+    let Some(Ok(config)) = matches
+        .subcommand_matches("serve")
+        .map(ServeConfig::from_matches)
+    else {
         panic!(rt; "no `serve`")
     };
     let address = SocketAddrV4::new(Ipv4Addr::new(127, 0, 0, 1), 5683);
-    assert_eq!(rt; options.listening.address, address);
-    assert!(rt; !options.listening.told);
-    assert_eq!(rt; options.workers, 2);
-    assert_eq!(rt; options.limit, 0);
-    assert_eq!(rt; options.readings, None);
-    assert_eq!(rt; options.store, None);
-    assert!(rt; options.policy.managers == [EVERYONE; 4]);
-    assert_eq!(rt; options.policy.limits.exchanges, 1024);
-    assert_eq!(rt; options.policy.limits.share, 65_536);
-    assert_eq!(rt; options.policy.confirm_after, 86_400_000);
+    assert_eq!(rt; config.listening.address, address);
+    assert!(rt; !config.listening.told);
+    assert_eq!(rt; config.extent.workers, 2);
+    assert_eq!(rt; config.extent.limit, 0);
+    assert_eq!(rt; config.readings, None);
+    assert_eq!(rt; config.store, None);
+    assert!(rt; config.policy.managers == [EVERYONE; 4]);
+    assert_eq!(rt; config.policy.limits.exchanges, 1024);
+    assert_eq!(rt; config.policy.limits.share, 65_536);
+    assert_eq!(rt; config.policy.confirm_after, 86_400_000);
     Ok(())
 }
 
@@ -97,21 +100,24 @@ fn serve_has_the_options_that_it_is_given(rt: HostRuntime) -> Result<(), Fail> {
         "60",
     ];
     let matches = command(rt.alloc())?.try_get_matches_from(&words)?;
-    let Some(Ok(options)) = matches.subcommand_matches("serve").map(serve_options) else {
+    let Some(Ok(config)) = matches
+        .subcommand_matches("serve")
+        .map(ServeConfig::from_matches)
+    else {
         panic!(rt; "no `serve`")
     };
     let address = SocketAddrV4::new(Ipv4Addr::new(0, 0, 0, 0), 61_616);
-    assert_eq!(rt; options.listening.address, address);
-    assert!(rt; options.listening.told);
-    assert!(rt; options.logs.info && options.logs.changes);
-    assert_eq!(rt; options.workers, 16);
-    assert_eq!(rt; options.limit, 7);
-    assert_eq!(rt; options.readings, Some("sensors"));
-    assert_eq!(rt; options.store, Some("slots.db"));
-    assert!(rt; options.policy.managers == [EXAMPLES; 4]);
-    assert_eq!(rt; options.policy.limits.exchanges, 16_384);
-    assert_eq!(rt; options.policy.limits.share, 32);
-    assert_eq!(rt; options.policy.confirm_after, 60_000);
+    assert_eq!(rt; config.listening.address, address);
+    assert!(rt; config.listening.told);
+    assert!(rt; config.logs.info && config.logs.changes);
+    assert_eq!(rt; config.extent.workers, 16);
+    assert_eq!(rt; config.extent.limit, 7);
+    assert_eq!(rt; config.readings, Some("sensors"));
+    assert_eq!(rt; config.store, Some("slots.db"));
+    assert!(rt; config.policy.managers == [EXAMPLES; 4]);
+    assert_eq!(rt; config.policy.limits.exchanges, 16_384);
+    assert_eq!(rt; config.policy.limits.share, 32);
+    assert_eq!(rt; config.policy.confirm_after, 60_000);
     Ok(())
 }
 
@@ -120,13 +126,19 @@ fn serve_has_the_options_that_it_is_given(rt: HostRuntime) -> Result<(), Fail> {
 fn an_address_and_a_network_of_serve_are_checked(rt: HostRuntime) -> Result<(), Fail> {
     let no_address = ["fcd", "serve", "--port", "5683", "--bind", "localhost"];
     let matches = command(rt.alloc())?.try_get_matches_from(&no_address)?;
-    let Some(result) = matches.subcommand_matches("serve").map(serve_options) else {
+    let Some(result) = matches
+        .subcommand_matches("serve")
+        .map(ServeConfig::from_matches)
+    else {
         panic!(rt; "no `serve`")
     };
     assert!(rt; matches!(result, Err(BadOption::Bind)));
     let no_network = ["fcd", "serve", "--port", "5683", "--managers", "192.0.2.0"];
     let matches = command(rt.alloc())?.try_get_matches_from(&no_network)?;
-    let Some(result) = matches.subcommand_matches("serve").map(serve_options) else {
+    let Some(result) = matches
+        .subcommand_matches("serve")
+        .map(ServeConfig::from_matches)
+    else {
         panic!(rt; "no `serve`")
     };
     assert!(rt; matches!(result, Err(BadOption::Managers)));
@@ -138,10 +150,13 @@ fn an_address_and_a_network_of_serve_are_checked(rt: HostRuntime) -> Result<(), 
 fn exchanges_have_a_range(rt: HostRuntime) -> Result<(), Fail> {
     let most = ["fcd", "serve", "--port", "5683", "--exchanges", "65536"];
     let matches = command(rt.alloc())?.try_get_matches_from(&most)?;
-    let Some(Ok(options)) = matches.subcommand_matches("serve").map(serve_options) else {
+    let Some(Ok(config)) = matches
+        .subcommand_matches("serve")
+        .map(ServeConfig::from_matches)
+    else {
         panic!(rt; "no `serve`")
     };
-    assert_eq!(rt; options.policy.limits.exchanges, 65_536);
+    assert_eq!(rt; config.policy.limits.exchanges, 65_536);
     let more = ["fcd", "serve", "--port", "5683", "--exchanges", "65537"];
     assert!(rt; command(rt.alloc())?.try_get_matches_from(&more).is_err());
     let none = ["fcd", "serve", "--port", "5683", "--exchanges", "0"];

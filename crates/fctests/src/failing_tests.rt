@@ -4,14 +4,13 @@
 //! hand.
 ghost use Rattle.std.specs.Prelude.{◌≤◌, IfSome, length};
 
-use crate::serving::serve_without_store;
+use crate::serving::{extent_of, serve_without_store};
 use crate::socket_tests::{check_logged, put_datagram, unrecorded};
 use coap_msg::{Emission, Endpoint};
 use fc_backend::CallLog;
 use fc_front::DEFAULT_POLICY;
 use fc_host::sensors::NoSensors;
 use fc_host::socket::{Buffer, Sink, Source};
-use fc_service::serve::Extent;
 use log::sink::Memory;
 use log::{LevelFilter, Logged};
 use std::process::Abort;
@@ -120,7 +119,7 @@ fn check_served<R: Abort + AllocGlobal + Threads + Wait + Clock + Sync>(
         sends: AtomicUsize::new(0),
         wrong: AtomicUsize::new(0),
     };
-    let extent = Extent { workers, limit: 8 };
+    let extent = extent_of(workers, 8);
     let served = serve_without_store(
         rt,
         alloc,

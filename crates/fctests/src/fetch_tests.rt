@@ -1,6 +1,7 @@
 //! The client's program, with a socket of this host as its server.
 //!
 //! The datagrams are worked out by hand (RFC 7252, section 3; RFC 7641, section 2).
+use crate::serving::extent_of;
 use crate::socket_tests::serve_while;
 use coap_client::Fetched;
 use coap_msg::Code;
@@ -17,7 +18,6 @@ use fc_fixtures::datagrams::joined;
 use fc_fixtures::faulty::{Unflushed, Unreadable};
 use fc_fixtures::ports::{at_port, free_port};
 use fc_host::sensors::NoSensors;
-use fc_service::serve::Extent;
 use std::alloc::Global;
 use std::net::{Ipv4Addr, Net, SocketAddr, SocketAddrV4, UdpSocket};
 use std::process::Abort;
@@ -565,10 +565,7 @@ fn pinged_at<R: Net + Clock + RandomSource>(rt: &R, alloc: Global, uri: &str) ->
 // section 4.3). The ping ends with `Done`.
 #[test]
 fn a_server_answers_a_ping(rt: HostRuntime) -> Result<(), Fail> {
-    let extent = Extent {
-        workers: 1,
-        limit: 1,
-    };
+    let extent = extent_of(1, 1);
     let _memory = serve_while(&rt, &NoSensors, extent, |port| {
         let (ended, told) = pinged(&rt, rt.alloc(), port);
         assert!(rt; ended == Status::Done && told.is_empty());
@@ -580,10 +577,7 @@ fn a_server_answers_a_ping(rt: HostRuntime) -> Result<(), Fail> {
 // A ping accepts the URI of a server, with or without a `/` at its end (RFC 7252, section 6.4).
 #[test]
 fn a_server_answers_a_ping_of_its_uri(rt: HostRuntime) -> Result<(), Fail> {
-    let extent = Extent {
-        workers: 1,
-        limit: 2,
-    };
+    let extent = extent_of(1, 2);
     let _memory = serve_while(&rt, &NoSensors, extent, |port| {
         let bare = format!(in rt.alloc(); "coap://127.0.0.1:{port}")?;
         let (ended, told) = pinged_at(&rt, rt.alloc(), bare.as_str());

@@ -2,18 +2,19 @@
 //!
 //! A client at another address of this host tests where the server listens. The parts of the host
 //! that a server uses are its socket, the waits of a receive, and random words.
-use crate::serving::slots_without_store;
+use crate::serving::{extent_of, slots_without_store};
 use crate::socket_tests::unrecorded;
 use coap_msg::Endpoint;
 use fc_backend::{CallLog, TimeSource};
 use fc_cli::Status;
+use fc_config::options::Listening;
 use fc_fixtures::ports::{at_port, free_port};
 use fc_front::DEFAULT_POLICY;
 use fc_front::front::blank_emission;
 use fc_host::clock::Elapsed;
 use fc_host::sensors::NoSensors;
 use fc_host::socket::{BUFFER, Receiving, Sink, Source, open};
-use fc_service::serve::{Extent, Listening, serve};
+use fc_service::serve::serve;
 use log::sink::Memory;
 use log::{LevelFilter, Logged};
 use std::io::Write;
@@ -77,7 +78,7 @@ fn serve_at_address<
 {
     let alloc = rt.alloc();
     let writes = AtomicUsize::new(0);
-    let extent = Extent { workers: 2, limit };
+    let extent = extent_of(2, limit);
     let listening = Listening { address, told };
     let (asked, status) = thread::join(
         rt,

@@ -1,6 +1,7 @@
 //! A server with a policy, and clients at two addresses of this host.
 //!
 //! The expected bytes are worked out by hand.
+use crate::serving::extent_of;
 use crate::socket_tests::{check_logged, serve_since};
 use coap_dedup::Limits;
 use fc_fixtures::ports::at_port;
@@ -8,7 +9,6 @@ use fc_front::{MOST_NETWORKS, Network, Policy};
 use fc_host::sensors::NoSensors;
 use fc_host::socket::open;
 use fc_observe::CONFIRM_AFTER;
-use fc_service::serve::Extent;
 use std::io;
 use std::net::{Ipv4Addr, Net, SocketAddrV4, UdpSocket};
 use std::process::Abort;
@@ -94,7 +94,7 @@ fn serve_two<R: Abort + AllocGlobal + Threads + Wait + Clock + Net + Sync>(
     rt: &R,
     workers: u8,
 ) -> Result<(), Fail> {
-    let extent = Extent { workers, limit: 6 };
+    let extent = extent_of(workers, 6);
     let memory = serve_since(
         rt,
         &NoSensors,

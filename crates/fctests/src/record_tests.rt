@@ -2,14 +2,15 @@
 //!
 //! Each answered change has one record, made at the last block of a change in blocks. A duplicate
 //! datagram has no record. The digests are those that `sha256sum` printed for the images.
-use crate::serving::serve_without_store;
+use crate::serving::{extent_of, serve_without_store};
 use crate::socket_tests::{COUNT, client_of, largest_image, never};
+use fc_config::options::Extent;
 use fc_fixtures::ports::at_port;
 use fc_front::DEFAULT_POLICY;
 use fc_host::sensors::NoSensors;
 use fc_host::socket::{Receiving, open};
 use fc_record::{LoggedChanges, NoReports, Recorder};
-use fc_service::serve::{Extent, Records};
+use fc_service::serve::Records;
 use log::sink::{Discard, Locked};
 use log::{LevelFilter, Log, Logged};
 use std::alloc::{AllocError, Global};
@@ -142,7 +143,7 @@ fn recorded_by<R: Abort + AllocGlobal + Threads + Wait + Clock + Net + Sync>(
     let alloc = rt.alloc();
     let socket = open(rt, at_port(0))?;
     let server = at_port(socket.local_addr()?.port());
-    let extent = Extent { workers, limit: 12 };
+    let extent = extent_of(workers, 12);
     let ((served, lines), asked) = thread::join(
         rt,
         || serve_recorded(rt, alloc, &socket, extent),

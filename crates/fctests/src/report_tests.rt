@@ -2,20 +2,20 @@
 //!
 //! A script stands for the socket. With a period of 0 each round makes a report, of the counts
 //! before the round's datagram.
-use crate::serving::serve_without_store;
+use crate::serving::{extent_of, serve_without_store};
 use crate::socket_tests::put_datagram;
 use coap_dedup::Limits;
 use coap_msg::{Emission, Endpoint};
 use fc_backend::CallLog;
+use fc_config::command::command;
+use fc_config::options::{BadOption, ServeConfig};
 use fc_front::{DEFAULT_POLICY, FrontGauges, MOST_NETWORKS, Network, Policy};
 use fc_host::sensors::NoSensors;
 use fc_host::socket::{Buffer, Sink, Source};
 use fc_observe::CONFIRM_AFTER;
+use fc_receive::reports::Reports;
 use fc_record::{Gauges, LoggedReports, NoChanges, ObserverCounts, Report, Reporter};
-use fc_service::command::command;
-use fc_service::options::{BadOption, serve_options};
-use fc_service::reports::Reports;
-use fc_service::serve::{Extent, Records};
+use fc_service::serve::Records;
 use log::sink::{Discard, Locked};
 use log::{LevelFilter, Log, Logged};
 use std::alloc::Global;
@@ -188,10 +188,7 @@ fn serve_by<R: Threads + Wait + Clock + Sync, Q: Reporter + Sync>(
 ) -> bool {
     let end = Logged::new(rt, LevelFilter::Off, Discard);
     let mut err = Vec::new(alloc);
-    let extent = Extent {
-        workers,
-        limit: played.limit(),
-    };
+    let extent = extent_of(workers, played.limit());
     let policy = played.policy();
     let script = Script { calls: 0, played };
     let lossy = Lossy {
@@ -312,7 +309,7 @@ fn period_of(alloc: Global, value: &str) -> Result<Result<Option<u64>, BadOption
     let Some(matches) = matches.subcommand_matches("serve") else {
         return Ok(Ok(None));
     };
-    Ok(serve_options(matches).map(|options| options.logs.report))
+    Ok(ServeConfig::from_matches(matches).map(|config| config.logs.report))
 }
 
 #[test]

@@ -1,4 +1,5 @@
 //! A server that starts with stored slots, on one thread and with workers.
+use crate::serving::extent_of;
 use crate::socket_tests::{check_asked, unrecorded};
 use crate::update_tests::SHOW_8;
 use coap_opts::Method;
@@ -9,7 +10,7 @@ use fc_front::DEFAULT_POLICY;
 use fc_host::sensors::NoSensors;
 use fc_host::socket::{Receiving, open};
 use fc_server::FirstServer;
-use fc_service::serve::{Extent, serve_at};
+use fc_service::serve::serve_at;
 use fc_service::slots::Slots;
 use fc_store::{NoStore, StoredProgram, StoredSlot};
 use log::sink::Memory;
@@ -63,7 +64,7 @@ fn serve_stored<R: Threads + Wait + Clock + Sync>(
         Receiving::new(socket),
         socket,
         stored_slots(alloc, image)?,
-        Extent { workers, limit: 2 },
+        extent_of(workers, 2),
     );
     Ok(served.is_some())
 }

@@ -1,8 +1,8 @@
 //! A server whose programs read a file as their sensors, while the file changes.
+use crate::serving::extent_of;
 use crate::socket_tests::{client_of, install_reader, readings_of, serve_while};
 use fc_fixtures::ports::at_port;
 use fc_host::sensors::{FileSensors, Sensors};
-use fc_service::serve::Extent;
 use std::net::{Net, SocketAddrV4, UdpSocket};
 use std::process::Abort;
 use std::random::RandomSource;
@@ -59,7 +59,7 @@ fn check_sensed<
     R: Abort + AllocGlobal + Threads + Wait + Clock + Net + RandomSource + Files + Sync,
     Z: Sensors + Sync,
 >(rt: &R, sensors: &Z, path: &str, workers: u8) -> Result<(), Fail> {
-    let extent = Extent { workers, limit: 6 };
+    let extent = extent_of(workers, 6);
     let _memory = serve_while(rt, sensors, extent, |port| write_and_ask(rt, port, path))?;
     Ok(())
 }

@@ -1,9 +1,10 @@
 //! Servers of tests without a store, which start with empty slots.
+use fc_config::options::{DEFAULT_EXTENT, Extent};
 use fc_front::Policy;
 use fc_host::sensors::Sensors;
 use fc_host::socket::{Sink, Source};
 use fc_record::{Recorder, Reporter};
-use fc_service::serve::{Extent, Records, serve_at};
+use fc_service::serve::{Records, serve_at};
 use fc_service::slots::Slots;
 use fc_store::NoStore;
 use log::Log;
@@ -12,6 +13,17 @@ use std::io::Write;
 use std::sync::Wait;
 use std::thread::Threads;
 use std::time::Clock;
+
+/// Returns the extent of a server with this number of workers, which ends after `limit` datagrams.
+///
+/// All else of it is the default.
+pub(crate) fn extent_of(workers: u8, limit: u32) -> Extent {
+    Extent {
+        workers,
+        limit,
+        ..DEFAULT_EXTENT
+    }
+}
 
 /// Returns empty slots of a server that starts at `started`, in milliseconds since 1970.
 ///

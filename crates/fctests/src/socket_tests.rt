@@ -3,11 +3,12 @@
 //! The expected bytes are worked out by hand.
 ghost use Rattle.std.specs.Prelude.{◌≤◌, IfSome, length};
 
-use crate::serving::{serve_without_store, slots_without_store};
+use crate::serving::{extent_of, serve_without_store, slots_without_store};
 use coap_msg::{Emission, Endpoint};
 use coap_opts::Method;
 use fc_backend::CallLog;
 use fc_cli::Status;
+use fc_config::options::{Extent, Listening};
 use fc_fetch::observer::ObservationExtent;
 use fc_fetch::{FetchOptions, Observing, Shown, fetch, observe};
 use fc_fixtures::ports::{at_port, free_port};
@@ -15,9 +16,9 @@ use fc_fixtures::tooling::assembled;
 use fc_front::{DEFAULT_POLICY, Policy};
 use fc_host::sensors::{NoSensors, Sensors};
 use fc_host::socket::{Buffer, Receiving, Sink, Source, open};
+use fc_receive::reports::Reports;
 use fc_record::{NoChanges, NoReports};
-use fc_service::reports::Reports;
-use fc_service::serve::{Extent, Listening, Records, serve, serve_at};
+use fc_service::serve::{Records, serve, serve_at};
 use log::sink::Memory;
 use log::{LevelFilter, Log, Logged};
 use std::alloc::{AllocError, Global};
@@ -202,7 +203,7 @@ fn serve_counter<R: Abort + AllocGlobal + Threads + Wait + Clock + Net + RandomS
     rt: &R,
     workers: u8,
 ) -> Result<(), Fail> {
-    let extent = Extent { workers, limit: 4 };
+    let extent = extent_of(workers, 4);
     let memory = serve_since(
         rt,
         &NoSensors,
@@ -241,10 +242,7 @@ fn a_taken_port_is_status_3(rt: HostRuntime) -> Result<(), Fail> {
     let memory = Memory::new(alloc);
     let log = Logged::new(&rt, LevelFilter::Info, &memory);
     let mut err = Vec::new(alloc);
-    let extent = Extent {
-        workers: 1,
-        limit: 1,
-    };
+    let extent = extent_of(1, 1);
     let listening = Listening {
         address: at_port(port),
         told: true,
@@ -340,10 +338,7 @@ fn ask_by_blocks<R: Abort + Net + Clock + RandomSource + AllocGlobal>(
 // A server receives an image in five blocks, and sends a response in two.
 #[test]
 fn bodies_go_and_come_by_blocks(rt: HostRuntime) -> Result<(), Fail> {
-    let extent = Extent {
-        workers: 2,
-        limit: 8,
-    };
+    let extent = extent_of(2, 8);
     let memory = serve_while(&rt, &NoSensors, extent, |port| ask_by_blocks(&rt, port))?;
     check_logged(&rt, memory, "sent 8 failed 0");
     Ok(())
@@ -378,10 +373,7 @@ fn observe_by_blocks<R: Abort + Net + Clock + RandomSource + AllocGlobal>(
 // for the second block, and the deregistration.
 #[test]
 fn a_state_of_two_blocks_is_observed(rt: HostRuntime) -> Result<(), Fail> {
-    let extent = Extent {
-        workers: 2,
-        limit: 4,
-    };
+    let extent = extent_of(2, 4);
     let memory = serve_while(&rt, &NoSensors, extent, |port| observe_by_blocks(&rt, port))?;
     check_logged(&rt, memory, "sent 4 failed 0");
     Ok(())
@@ -463,7 +455,7 @@ fn serve_script<R: Abort + AllocGlobal + Threads + Wait + Clock + Sync>(
     let lossy = Lossy {
         sends: AtomicUsize::new(0),
     };
-    let extent = Extent { workers, limit: 2 };
+    let extent = extent_of(workers, 2);
     let served = serve_without_store(
         rt,
         alloc,
@@ -629,10 +621,7 @@ fn ask_by_eight<R: Abort + AllocGlobal + Net + Clock + RandomSource>(
 #[test]
 fn eight_clients_count_right(rt: HostRuntime) -> Result<(), Fail> {
     // Nine PUTs, eight times 120 POSTs, nine GETs.
-    let extent = Extent {
-        workers: 2,
-        limit: 978,
-    };
+    let extent = extent_of(2, 978);
     let memory = serve_while(&rt, &NoSensors, extent, |port| ask_by_eight(&rt, port))?;
     check_logged(&rt, memory, "sent 978 failed 0");
     Ok(())
@@ -714,7 +703,7 @@ fn check_clock<R: Abort + AllocGlobal + Threads + Wait + Clock + Net + RandomSou
     rt: &R,
     workers: u8,
 ) -> Result<(), Fail> {
-    let extent = Extent { workers, limit: 2 };
+    let extent = extent_of(workers, 2);
     let _memory = serve_while(rt, &NoSensors, extent, |port| ask_for_readings(rt, port))?;
     Ok(())
 }

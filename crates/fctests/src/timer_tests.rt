@@ -2,19 +2,19 @@
 ghost use Rattle.std.specs.Prelude.{◌≤◌, IfSome, length};
 
 use crate::failing_tests::{POST, PUT};
-use crate::serving::slots_without_store;
+use crate::serving::{extent_of, slots_without_store};
 use crate::socket_tests::{put_datagram, unrecorded};
 use crate::wait_tests::REGISTER;
 use coap_msg::{Emission, Endpoint};
 use fc_backend::CallLog;
+use fc_config::command::command;
+use fc_config::every::{BadTimer, timers_in};
 use fc_fixtures::datagrams::PUT_EXPENSIVE;
 use fc_front::DEFAULT_POLICY;
 use fc_host::sensors::NoSensors;
 use fc_host::socket::{Buffer, Sink, Source};
 use fc_host::timer::{Period, Timer};
-use fc_service::command::command;
-use fc_service::every::{BadTimer, timers_in};
-use fc_service::serve::{Extent, serve_timed};
+use fc_service::serve::serve_timed;
 use fc_ticket::SlotNumber;
 use log::sink::Memory;
 use log::{LevelFilter, Logged};
@@ -115,7 +115,7 @@ fn serve_beats<R: Abort + AllocGlobal + Threads + Wait + Clock + Sync>(
     if let Some(every) = Period::new(PERIOD) {
         timers.push(Timer::new(every, SlotNumber::new(1)))?;
     }
-    let extent = Extent { workers, limit: 3 };
+    let extent = extent_of(workers, 3);
     let slots = slots_without_store(alloc, 0, &DEFAULT_POLICY)?;
     let served = serve_timed(
         rt,

@@ -5,7 +5,7 @@
 ghost use Rattle.std.specs.Prelude.{◌≤◌, IfSome, length};
 
 use crate::failing_tests::{POST, PUT};
-use crate::serving::serve_without_store;
+use crate::serving::{extent_of, serve_without_store};
 use crate::socket_tests::{put_datagram, unrecorded};
 use coap_msg::{Emission, Endpoint};
 use fc_backend::CallLog;
@@ -13,7 +13,6 @@ use fc_fixtures::datagrams::PUT_EXPENSIVE;
 use fc_front::DEFAULT_POLICY;
 use fc_host::sensors::NoSensors;
 use fc_host::socket::{Buffer, Sink, Source};
-use fc_service::serve::Extent;
 use log::sink::Memory;
 use log::{LevelFilter, Logged};
 use std::process::Abort;
@@ -87,7 +86,7 @@ fn check_waits<R: Abort + AllocGlobal + Threads + Wait + Clock + Sync>(rt: &R, w
     let log = Logged::new(rt, LevelFilter::Off, &memory);
     let mut err = Vec::new(alloc);
     let listed = Listed { calls: 0, right: 0 };
-    let extent = Extent { workers, limit: 5 };
+    let extent = extent_of(workers, 5);
     let served = serve_without_store(
         rt,
         alloc,
@@ -189,10 +188,7 @@ fn a_server_does_not_sleep_while_a_job_is_at_work(rt: HostRuntime) {
     let memory = Memory::new(alloc);
     let log = Logged::new(&rt, LevelFilter::Off, &memory);
     let mut err = Vec::new(alloc);
-    let extent = Extent {
-        workers: 2,
-        limit: 3,
-    };
+    let extent = extent_of(2, 3);
     let served = serve_without_store(
         &rt,
         alloc,

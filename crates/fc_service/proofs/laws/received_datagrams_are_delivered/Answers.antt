@@ -1,7 +1,7 @@
 use Rattle.fc_filed.specs.Recovered.{HaveSavedOrder}
 use Rattle.fc_locked.specs.SharedStores.{HasSaved}
 use Rattle.fc_service.proofs.Deliveries.{reported, timed, timed_reported, untimed}
-use Rattle.fc_service.specs.Rounds.{round_calls}
+use Rattle.fc_receive.specs.Rounds.{round_calls}
 use Rattle.fc_service.proofs.laws.received_datagrams_are_delivered.Goals as goal
 
 pub returns-clause-untimed : goal.returns-clause-untimed

@@ -1,7 +1,7 @@
 use Rattle.fc_server.specs.States.{begin_of, first_server}
 use Rattle.fc_service.proofs.OneHistory.{begins_empty}
 use Rattle.fc_service.proofs.Unreported.{reported_rounds, timed_reported_rounds}
-use Rattle.fc_service.specs.Rounds.{round_calls}
+use Rattle.fc_receive.specs.Rounds.{round_calls}
 use Rattle.fc_service.proofs.laws.reported_rounds_are_one_history.Goals as goal
 
 pub returns-clause-untimed : goal.returns-clause-untimed

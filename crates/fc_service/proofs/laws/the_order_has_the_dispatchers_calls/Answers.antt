@@ -2,7 +2,7 @@ use Rattle.std.proofs.Common.{◌∙◌, ap, subst}
 use Rattle.fc_locked.specs.Counts.{Tallies}
 use Rattle.fc_locked.specs.LegalOrder.{HaveLegalOrder}
 use Rattle.fc_locked.specs.OneOrder.{logs_of}
-use Rattle.fc_service.specs.Firing.{Firing}
+use Rattle.fc_receive.specs.Firing.{Firing}
 use Rattle.fc_pool.specs.Pooled.{PooledIngress}
 use Rattle.fc_service.proofs.laws.the_order_has_the_dispatchers_calls.Goals as goal
 

@@ -4,7 +4,7 @@ use Rattle.std.specs.Prelude.{flat_map}
 use Rattle.fc_front.specs.Receiving.{emission_if}
 use Rattle.fc_lines.specs.Emissions.{printed}
 use Rattle.fc_server.proofs.FlushingSteps.{done_at_bound, done_at_end}
-use Rattle.fc_service.proofs.Flushed.{none_printed, one_printed}
+use Rattle.fc_service.proofs.Printed.{none_printed, one_printed}
 use Rattle.fc_service.proofs.lines.flush.Goals as goal
 
 -- a statement about `Ok` holds if the result is an error.

@@ -3,7 +3,8 @@ use Rattle.std.specs.Prelude.{IfSome}
 use Rattle.fc_filed.specs.Recovered.{HaveSavedOrder}
 use Rattle.fc_host.specs.declared.timer.Timer.{Timer}
 use Rattle.fc_locked.specs.SharedStores.{HasSaved}
-use Rattle.fc_service.specs.Rounds.{IsServed, round_calls}
+use Rattle.fc_receive.specs.Rounds.{round_calls}
+use Rattle.fc_service.specs.Services.{IsServed}
 use Rattle.fc_pool.specs.declared.replies.Replies.{Replies as Counts}
 use Rattle.fc_service.proofs.serve.serve_at.Goals as goal
 

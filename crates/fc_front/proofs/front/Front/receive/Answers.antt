@@ -1,6 +1,7 @@
 use Rattle.std.proofs.Common.{◌≡◌, ℕ, ◌≤◌, List, length, sym, subst, arith}
 use Rattle.coap_msg.specs.Wire.{Message}
-use Rattle.coap_opts.specs.Classified.{IsErrorCode, asked_by, asking_verdict, written_over}
+use Rattle.coap_opts.specs.Classified.{IsErrorCode, asking_verdict, written_over}
+use Rattle.coap_opts.specs.Verdict.{asked_by}
 use Rattle.coap_opts.specs.Fields.{IsAskedWithin}
 use Rattle.coap_opts.specs.Verdict.{Asked, Verdict, IsAsked, IsRefused}
 use Rattle.coap_opts.specs.declared.request.Asking.{Asking}

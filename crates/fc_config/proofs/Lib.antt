@@ -1,0 +1,3 @@
+mod ReadTimers
+mod Among
+mod LogPeriods

@@ -1,0 +1,4 @@
+pub mod Options
+pub mod Policies
+pub mod Every
+pub mod Logs
