@@ -260,7 +260,8 @@ pub fn helper_calls_have_their_registers()
         ∷ r6 ∷ r7 ∷ r8 ∷ r9 ∷ r10 ∷ [] }
     ensures effect { (c : Config) (e : HelperEffect)
         → ((after_effect c e).vars ≡ e.vars) × ((after_effect c e).reply ≡ e.reply) × ((after_effect c e).notice ≡ e.notice) }
-    ensures one_step { (c : Config) (e : HelperEffect) → ((after_effect c e).place ≡ c.place + 1) × ((after_effect c e).steps ≡ c.steps + 1) }
+    ensures one_step { (c : Config) (e : HelperEffect) → ((after_effect c e).place ≡ c.place + 1)
+        × ((after_effect c e).steps ≡ c.steps + 1) }
     ensures rest { (c : Config) (e : HelperEffect) → ((after_effect c e).callers ≡ c.callers) × ((after_effect c e).frames ≡ c.frames)
         × ((after_effect c e).request ≡ c.request) × ((after_effect c e).readings ≡ c.readings) }
 {}
