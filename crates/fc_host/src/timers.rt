@@ -1,6 +1,6 @@
 //! Timers: when each is due, and which is due first.
 //!
-//! A receiver of `fc_service` fires them.
+//! A receiver of `fc_receive` fires them.
 ghost use Rattle.std.specs.Prelude.{◌≡◌, ◌≤◌};
 ghost use Rattle.fc_host.specs.Timers.{first_due, new_timer, put_off};
 

@@ -6,7 +6,7 @@
 //!
 //! [`Report`] has counts of a server's datagrams and notifications, and its [`Gauges`]: what the
 //! server holds at the time of the report. It has a text. A [`Reporter`] gets such a report from
-//! time to time; `fc_service` says when.
+//! time to time; `fc_receive` says when.
 //!
 //! # What is proved
 //!

@@ -1,7 +1,8 @@
 //! The work after a datagram or a tick: retransmissions and notifications.
 //!
-//! A driver of an [`Ingress`] is `fc_service` or the C library. It takes the steps of a
-//! [`Flushing`] until the end, and sends the datagrams that the steps write.
+//! A driver of an [`Ingress`] is the receive loop of `fc_receive`, the player of `fc_service`, or
+//! the C library. It takes the steps of a [`Flushing`] until the end, and sends the datagrams that
+//! the steps write.
 ghost use Rattle.std.specs.Prelude.{◌≡◌, ◌+◌, ◌<◌, ◌≤◌, ◌↔◌, [], false, true, IsTrue, List};
 ghost use Rattle.coap_msg.specs.declared.types.Emission.{Emission as Emitted};
 ghost use Rattle.fc_core.specs.Legal.{resent};
