@@ -134,11 +134,11 @@ fn serve_socket<R: Runtime + AllocGlobal + Threads + Wait + Net + RandomSource +
     )
 }
 
-// Serves with this configuration and these timers. Returns the status of `serve`, or `Failed` if the
-// store can't be used. `files` opens the files that the configuration names. `err` gets the listening address,
-// or the reason of a failure. `end` logs the end of the server, `changes` records the changes of
-// programs, and `reporter` reports the counts. Returns an error if the time or the random bytes
-// can't be read, or if memory for the slots can't be allocated.
+// Serves with this configuration and these timers. Returns the status of `serve`, or `Failed` if
+// the store can't be used. `files` opens the files that the configuration names. `err` gets the
+// listening address, or the reason of a failure. `end` logs the end of the server, `changes`
+// records the changes of programs, and `reporter` reports the counts. Returns an error if the time
+// or the random bytes can't be read, or if memory for the slots can't be allocated.
 fn serve_logged<
     R: Runtime + AllocGlobal + Threads + Wait + Net + RandomSource + Sync,
     E: Write,
