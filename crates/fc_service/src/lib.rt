@@ -32,8 +32,8 @@
 //!   job it is some emission, or nothing (`play_by_workers`, by `IsPlayedBeside`). The contract
 //!   doesn't say that the output was printed.
 //! - **A server on a socket** runs the rounds of `fc_receive`, on one thread or as the dispatcher
-//!   of workers (`serve_at`). With timers, those that are due fire first in each round
-//!   (`serve_timed`, by `HasRunTimed` of `fc_receive`).
+//!   of workers (`serve_at`). With timers, those that are due fire first in each round (by
+//!   `HasRunTimed` of `fc_receive`).
 //! - **A server that returns its source has run these rounds**, from the first state that its
 //!   caller passes: empty slots (`Slots::empty`), or restored slots (`Slots::restored`). It is one
 //!   on one thread exactly if it has one worker and its store isn't persistent. A limit was set,
@@ -101,9 +101,8 @@
 //!   dispatcher's own. A test shows that this is logged.
 //!
 //! By the contracts of `play::play`, `workers::play_by_workers`, `lines::play_lines`,
-//! `serve::serve`, `serve::serve_at`, `serve::serve_timed`, `serve::serve_alone`, `Slots::empty`,
-//! `Slots::of`, `Slots::restored`, `restored_slots`, `serials::serial_of_start`,
-//! `serials::serial_over`, `laws`.
+//! `serve::serve`, `serve::serve_at`, `serve::serve_alone`, `Slots::empty`, `Slots::of`,
+//! `Slots::restored`, `restored_slots`, `serials::serial_of_start`, `serials::serial_over`, `laws`.
 #![tactic(auto)]
 
 mod alone;

@@ -66,12 +66,23 @@ pub struct Records<'a, L: Log, C: Recorder, Q: Reporter> {
     pub reports: Reports<'a, Q>,
 }
 
+/// A service: its records, sensors and timers, and how long and with how many workers it serves.
+///
+/// The programs of the timers run at their beats. The sensors give the readings of programs.
+#[derive(Drop)]
+pub struct Service<'a, L: Log, C: Recorder, Q: Reporter, Z: Sensors> {
+    pub alloc: Global,
+    pub records: &'a Records<'a, L, C, Q>,
+    pub sensors: &'a Z,
+    pub timers: Vec<Timer>,
+    pub extent: Extent,
+}
+
 /// Serves on UDP at an address and a port of this host, as [`serve_at`] does.
 ///
-/// The programs of `timers` run at their beats. The listening address is written to `err` if
-/// `listening.told` is set. Returns `Done` once `extent.limit` datagrams were received. If the
-/// server doesn't start or the socket can't be opened, returns `Failed`, and the reason is written
-/// to `err`.
+/// The listening address is written to `err` if `listening.told` is set. Returns `Done` once
+/// `service.extent.limit` datagrams were received. If the server doesn't start or the socket can't
+/// be opened, returns `Failed`, and the reason is written to `err`.
 pub fn serve<
     R: Threads + Wait + Clock + Net + Sync,
     L: Log,
@@ -82,19 +93,15 @@ pub fn serve<
     P: Store + Send + Drop,
 >(
     rt: &R,
-    alloc: Global,
-    records: &Records<'_, L, C, Q>,
     err: &mut E,
-    sensors: &Z,
-    listening: Listening,
-    timers: Vec<Timer>,
+    service: Service<'_, L, C, Q, Z>,
     slots: Slots<P>,
-    extent: Extent,
+    listening: Listening,
 ) -> Status
     ensures status { (result ≡ Done) ⊎ (result ≡ Failed) }
     ensures starts { P.persistent ≡ true → IsRestoredFrom (P.stored slots.store) slots.first }
-    ensures served { result ≡ Done → (replies : Counts) × IsServed timers.items Z.are_sensed
-        (round_calls (λ receive before after. after ≡ before) (λ now before after. after ≡ before) (λ emission out before after. ⊤)) C.recorded records.now.reports.every Q.reported extent (HasSaved P.Store) P.persistent slots.first (HaveSavedOrder P.Store slots.first (P.stored slots.store)) None None replies }
+    ensures served { result ≡ Done → (replies : Counts)
+        × IsServed service.entry.timers.items Z.are_sensed (round_calls (λ receive before after. after ≡ before) (λ now before after. after ≡ before) (λ emission out before after. ⊤)) C.recorded service.entry.records.now.reports.every Q.reported service.entry.extent (HasSaved P.Store) P.persistent slots.first (HaveSavedOrder P.Store slots.first (P.stored slots.store)) None None replies }
 {
     let address = listening.address;
     match open(rt, address) {
@@ -103,10 +110,7 @@ pub fn serve<
                 let _told = writeln!(err, "listening on {address}");
             }
             let source = Receiving::new(&socket);
-            done_if(serve_timed(
-                rt, alloc, records, err, sensors, source, &socket, timers, slots, extent,
-            )
-            .is_some())
+            done_if(serve_at(rt, err, service, slots, source, &socket).is_some())
         }
         Err(error) => tell(err, &ServeStop::Socket(address, error), Status::Failed),
     }
@@ -121,7 +125,7 @@ fn done_if(done: bool) -> Status
 
 /// Serves datagrams of a source on a server that starts with `slots`.
 ///
-/// The server ends once it has received `extent.limit` datagrams. Programs read the milliseconds
+/// The server ends once it has received `service.extent.limit` datagrams. Programs read the milliseconds
 /// since the start, and the sensor readings. This thread answers a datagram with a cheap job before
 /// it receives the next. Workers, each on its own thread, run the jobs whose programs may run long.
 /// If there is one worker and the store isn't persistent, this thread runs all jobs. The same holds
@@ -139,7 +143,11 @@ fn done_if(done: bool) -> Status
 /// that were passed to the sink and that couldn't be sent: a record `sent 2 failed 0` of level
 /// info. The source is returned.
 ///
-/// If `records.reports` has a period, the reporter gets the counts of datagrams and notifications
+/// In each round the timers that are due fire before the datagram is handled, in their order. The
+/// job of a timer is that of a POST of its slot's resource, which sends nothing. A timer whose last
+/// job is at a worker skips the beat. Each receive ends when the first timer is due.
+///
+/// If `service.records.reports` has a period, the reporter gets the counts of datagrams and notifications
 /// once in each period, while the server runs: at the first round after they are due.
 ///
 /// The recorder gets each program change that is answered, once: an image that is installed or
@@ -160,61 +168,20 @@ pub fn serve_at<
     P: Store + Send + Drop,
 >(
     rt: &R,
-    alloc: Global,
-    records: &Records<'_, L, C, Q>,
     err: &mut E,
-    sensors: &Z,
+    service: Service<'_, L, C, Q, Z>,
+    slots: Slots<P>,
     source: S,
     sink: &K,
-    slots: Slots<P>,
-    extent: Extent,
 ) -> Option<S>
     ensures starts { P.persistent ≡ true → IsRestoredFrom (P.stored slots.store) slots.first }
     ensures served { IfSome result (λ left. (replies : Counts)
-        × IsServed [] Z.are_sensed (round_calls S.received (λ now before after. after ≡ before) K.went) C.recorded records.now.reports.every Q.reported extent (HasSaved P.Store) P.persistent slots.first (HaveSavedOrder P.Store slots.first (P.stored slots.store)) (S.came source) (S.came left) replies) }
+        × IsServed service.entry.timers.items Z.are_sensed (round_calls S.received (λ now before after. after ≡ before) K.went) C.recorded service.entry.records.now.reports.every Q.reported service.entry.extent (HasSaved P.Store) P.persistent slots.first (HaveSavedOrder P.Store slots.first (P.stored slots.store)) (S.came source) (S.came left) replies) }
 {
-    let timers = Vec::new(alloc);
-    serve_timed(
-        rt, alloc, records, err, sensors, source, sink, timers, slots, extent,
-    )
-}
-
-/// Serves as [`serve_at`] does, and runs the programs of timers at their beats.
-///
-/// In each round the timers that are due fire before the datagram is handled, in their order. The
-/// job of a timer is that of a POST of its slot's resource, which sends nothing. A timer whose last
-/// job is at a worker skips the beat. Each receive ends when the first timer is due.
-pub fn serve_timed<
-    R: Threads + Wait + Clock + Sync,
-    S: Source + Drop,
-    K: Sink + Sync,
-    L: Log,
-    C: Recorder + Sync,
-    Q: Reporter + Sync,
-    E: Write,
-    Z: Sensors + Sync,
-    P: Store + Send + Drop,
->(
-    rt: &R,
-    alloc: Global,
-    records: &Records<'_, L, C, Q>,
-    err: &mut E,
-    sensors: &Z,
-    source: S,
-    sink: &K,
-    timers: Vec<Timer>,
-    slots: Slots<P>,
-    extent: Extent,
-) -> Option<S>
-    ensures starts { P.persistent ≡ true → IsRestoredFrom (P.stored slots.store) slots.first }
-    ensures served { IfSome result (λ left. (replies : Counts)
-        × IsServed timers.items Z.are_sensed (round_calls S.received (λ now before after. after ≡ before) K.went) C.recorded records.now.reports.every Q.reported extent (HasSaved P.Store) P.persistent slots.first (HaveSavedOrder P.Store slots.first (P.stored slots.store)) (S.came source) (S.came left) replies) }
-{
-    match serve_counted(
-        rt, alloc, records, err, sensors, source, sink, timers, slots, extent,
-    ) {
+    let end = service.records.end;
+    match serve_counted(rt, err, service, slots, source, sink) {
         Ok(Received { source, replies }) => {
-            info!(records.end; "{replies}");
+            info!(end; "{replies}");
             Some(source)
         }
         Err(stop) => {
@@ -234,98 +201,78 @@ struct Received<S: Source + Drop> {
 // Serves to the end. If there are reports, the reporter counts what is passed to the sink.
 fn serve_counted<
     R: Threads + Wait + Clock + Sync,
+    S: Source + Drop,
+    K: Sink + Sync,
     L: Log,
     C: Recorder + Sync,
     Q: Reporter + Sync,
     E: Write,
     Z: Sensors + Sync,
-    S: Source + Drop,
-    K: Sink + Sync,
     P: Store + Send + Drop,
 >(
     rt: &R,
-    alloc: Global,
-    records: &Records<'_, L, C, Q>,
     err: &mut E,
-    sensors: &Z,
+    service: Service<'_, L, C, Q, Z>,
+    slots: Slots<P>,
     source: S,
     sink: &K,
-    timers: Vec<Timer>,
-    slots: Slots<P>,
-    extent: Extent,
 ) -> Result<Received<S>, ServeStop>
-    ensures { IfOk result (λ r. IsServed timers.items Z.are_sensed (round_calls S.received (λ now before after. after ≡ before) K.went) C.recorded records.now.reports.every Q.reported extent (HasSaved P.Store) P.persistent slots.first (HaveSavedOrder P.Store slots.first (P.stored slots.store)) (S.came source) (S.came r.source) r.replies) }
+    ensures { IfOk result (λ r. IsServed service.entry.timers.items Z.are_sensed (round_calls S.received (λ now before after. after ≡ before) K.went) C.recorded service.entry.records.now.reports.every Q.reported service.entry.extent (HasSaved P.Store) P.persistent slots.first (HaveSavedOrder P.Store slots.first (P.stored slots.store)) (S.came source) (S.came r.source) r.replies) }
 {
+    let records = service.records;
     if records.reports.every.is_none() {
-        return serve_to_end(
-            rt, alloc, records, err, sensors, source, sink, timers, slots, extent,
-        );
+        return serve_to_end(rt, err, service, slots, source, sink);
     }
     let counted = CountedSink {
         sink,
         reporter: records.reports.reporter,
     };
-    serve_to_end(
-        rt, alloc, records, err, sensors, source, &counted, timers, slots, extent,
-    )
+    serve_to_end(rt, err, service, slots, source, &counted)
 }
 
-// Serves as `serve_timed` does, and returns the source and the numbers of replies at the end.
+// Serves as `serve_at` does, and returns the source and the numbers of replies at the end.
 // Returns why the server doesn't start if the clock can't be read or memory can't be allocated.
 fn serve_to_end<
     R: Threads + Wait + Clock + Sync,
+    S: Source + Drop,
+    K: Sink + Sync,
     L: Log,
     C: Recorder + Sync,
     Q: Reporter + Sync,
     E: Write,
     Z: Sensors + Sync,
-    S: Source + Drop,
-    K: Sink + Sync,
     P: Store + Send + Drop,
 >(
     rt: &R,
-    alloc: Global,
-    records: &Records<'_, L, C, Q>,
     err: &mut E,
-    sensors: &Z,
+    service: Service<'_, L, C, Q, Z>,
+    slots: Slots<P>,
     source: S,
     sink: &K,
-    timers: Vec<Timer>,
-    slots: Slots<P>,
-    extent: Extent,
 ) -> Result<Received<S>, ServeStop>
-    ensures { IfOk result (λ r. IsServed timers.items Z.are_sensed (round_calls S.received (λ now before after. after ≡ before) K.went) C.recorded records.now.reports.every Q.reported extent (HasSaved P.Store) P.persistent slots.first (HaveSavedOrder P.Store slots.first (P.stored slots.store)) (S.came source) (S.came r.source) r.replies) }
+    ensures { IfOk result (λ r. IsServed service.entry.timers.items Z.are_sensed (round_calls S.received (λ now before after. after ≡ before) K.went) C.recorded service.entry.records.now.reports.every Q.reported service.entry.extent (HasSaved P.Store) P.persistent slots.first (HaveSavedOrder P.Store slots.first (P.stored slots.store)) (S.came source) (S.came r.source) r.replies) }
 {
     let times = Elapsed::start(rt).map_err(ServeStop::Clock)?;
-    let has_timers = !timers.is_empty();
-    let jobs = TimerJobs::new(alloc, timers.len())?;
-    let timers = TimersOf {
-        timers,
-        jobs: &jobs,
-    };
-    if is_one_thread(extent.workers, &slots.store) {
+    let has_timers = !service.timers.is_empty();
+    let jobs = TimerJobs::new(service.alloc, service.timers.len())?;
+    if is_one_thread(service.extent.workers, &slots.store) {
         let Slots {
             first,
             store: _unused,
         } = slots;
-        return Ok(serve_alone(
-            rt, alloc, records, sensors, source, sink, &times, timers, first, extent,
-        )?);
+        return Ok(serve_alone(rt, service, first, source, sink, &times, &jobs)?);
     }
     let replying = Replying { sink };
     if !has_timers {
         return Ok(serve_pooled(
-            rt, alloc, records, err, sensors, source, sink, &replying, &times, timers, slots,
-            extent,
+            rt, err, service, slots, source, sink, &replying, &times, &jobs,
         )?);
     }
     let wire = TimerWire {
         wire: &replying,
         jobs: &jobs,
     };
-    Ok(serve_pooled(
-        rt, alloc, records, err, sensors, source, sink, &wire, &times, timers, slots, extent,
-    )?)
+    Ok(serve_pooled(rt, err, service, slots, source, sink, &wire, &times, &jobs)?)
 }
 
 // Returns whether a server runs all jobs on the receiving thread. With a persistent store it never
@@ -411,21 +358,25 @@ fn serve_pooled<
     P: Store + Send + Drop,
 >(
     rt: &R,
-    alloc: Global,
-    records: &Records<'_, L, C, Q>,
     err: &mut E,
-    sensors: &Z,
+    service: Service<'_, L, C, Q, Z>,
+    slots: Slots<P>,
     source: S,
     sink: &K,
     wire: &W,
     times: &M,
-    timers: TimersOf<'_>,
-    slots: Slots<P>,
-    extent: Extent,
+    jobs: &TimerJobs,
 ) -> Result<Received<S>, AllocError>
     ensures { let view = locked_view slots.first (AreReadAt M.is_time Z.are_sensed) (HasSaved P.Store) M.is_time M.is_random W.called C.recorded in
-        IfOk result (λ r. HasServedPooled view timers.entry.timers.items records.now.reports.every Q.reported (round_calls S.received M.is_time K.went) extent.workers extent.limit P.persistent slots.first (HaveSavedOrder P.Store slots.first (P.stored slots.store)) (S.came source) (S.came r.source) r.replies) }
+        IfOk result (λ r. HasServedPooled view service.entry.timers.items service.entry.records.now.reports.every Q.reported (round_calls S.received M.is_time K.went) service.entry.extent.workers service.entry.extent.limit P.persistent slots.first (HaveSavedOrder P.Store slots.first (P.stored slots.store)) (S.came source) (S.came r.source) r.replies) }
 {
+    let Service {
+        alloc,
+        records,
+        sensors,
+        timers,
+        extent,
+    } = service;
     let Slots { first, store } = slots;
     let pool = Pool {
         workers: extent.workers,
@@ -441,7 +392,7 @@ fn serve_pooled<
         times,
         limit: extent.limit,
         reports: &records.reports,
-        timers,
+        timers: TimersOf { timers, jobs },
     };
     let fed = run_pool(rt, alloc, err, &pool, first, store, receiver)?;
     let Received { source, replies } = fed.given;
@@ -465,19 +416,23 @@ fn serve_alone<
     Z: Sensors,
 >(
     rt: &R,
-    alloc: Global,
-    records: &Records<'_, L, C, Q>,
-    sensors: &Z,
+    service: Service<'_, L, C, Q, Z>,
+    first: FirstServer,
     mut source: S,
     sink: &K,
     times: &M,
-    timers: TimersOf<'_>,
-    first: FirstServer,
-    extent: Extent,
+    jobs: &TimerJobs,
 ) -> Result<Received<S>, AllocError>
-    ensures { IfOk result (λ r. HasServedBy timers.entry.timers.items records.now.reports.every Q.reported Z.are_sensed (round_calls S.received M.is_time K.went) C.recorded extent.limit first
+    ensures { IfOk result (λ r. HasServedBy service.entry.timers.items service.entry.records.now.reports.every Q.reported Z.are_sensed (round_calls S.received M.is_time K.went) C.recorded service.entry.extent.limit first
         (S.came source) (S.came r.source) r.replies) }
 {
+    let Service {
+        alloc,
+        records,
+        sensors,
+        timers,
+        extent,
+    } = service;
     let alone = RecordedAlone::new(SingleThread::over(alloc, first)?, records.changes);
     let sensed = Sensed { sensors };
     let Driven {
@@ -492,7 +447,7 @@ fn serve_alone<
         times,
         extent.limit,
         &records.reports,
-        timers,
+        TimersOf { timers, jobs },
     );
     Ok(Received { source, replies })
 }

@@ -19,7 +19,7 @@ use fc_registry::StartError;
 use fc_server::Begin;
 use fc_service::play::play;
 use fc_service::serials::unix_milliseconds;
-use fc_service::serve::{Records, serve};
+use fc_service::serve::{Records, Service, serve};
 use fc_service::slots::Slots;
 use fc_service::workers::play_by_workers;
 use fc_sql::{FileOfSlots, OpenError, SqlStore, open};
@@ -240,19 +240,28 @@ fn serve_slots<
     records: &Records<'_, L, C, Q>,
     slots: Slots<P>,
 ) -> Status {
-    let alloc = rt.alloc();
-    let listening = config.listening;
-    let extent = config.extent;
     match config.readings {
         Some(path) => {
             let sensors = FileSensors::new(files, path);
-            serve(
-                rt, alloc, records, err, &sensors, listening, timers, slots, extent,
-            )
+            let service = Service {
+                alloc: rt.alloc(),
+                records,
+                sensors: &sensors,
+                timers,
+                extent: config.extent,
+            };
+            serve(rt, err, service, slots, config.listening)
         }
-        None => serve(
-            rt, alloc, records, err, &NoSensors, listening, timers, slots, extent,
-        ),
+        None => {
+            let service = Service {
+                alloc: rt.alloc(),
+                records,
+                sensors: &NoSensors,
+                timers,
+                extent: config.extent,
+            };
+            serve(rt, err, service, slots, config.listening)
+        }
     }
 }
 

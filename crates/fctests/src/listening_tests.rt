@@ -14,7 +14,7 @@ use fc_front::front::blank_emission;
 use fc_host::clock::Elapsed;
 use fc_host::sensors::NoSensors;
 use fc_host::socket::{BUFFER, Receiving, Sink, Source, open};
-use fc_service::serve::serve;
+use fc_service::serve::{Service, serve};
 use log::sink::Memory;
 use log::{LevelFilter, Logged};
 use std::io::Write;
@@ -97,21 +97,17 @@ fn serve_at_address<
             let memory = Memory::new(alloc);
             let log = Logged::new(rt, LevelFilter::Off, &memory);
             let mut err = Told { writes: &writes };
-            let timers = Vec::new(alloc);
             let Ok(slots) = slots_without_store(alloc, 0, &DEFAULT_POLICY) else {
                 return Status::Failed;
             };
-            serve(
-                rt,
+            let service = Service {
                 alloc,
-                &unrecorded(&log),
-                &mut err,
-                &NoSensors,
-                listening,
-                timers,
-                slots,
+                records: &unrecorded(&log),
+                sensors: &NoSensors,
+                timers: Vec::new(alloc),
                 extent,
-            )
+            };
+            serve(rt, &mut err, service, slots, listening)
         },
     );
     asked?;

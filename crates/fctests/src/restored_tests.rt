@@ -10,7 +10,7 @@ use fc_front::DEFAULT_POLICY;
 use fc_host::sensors::NoSensors;
 use fc_host::socket::{Receiving, open};
 use fc_server::FirstServer;
-use fc_service::serve::serve_at;
+use fc_service::serve::{Service, serve_at};
 use fc_service::slots::Slots;
 use fc_store::{NoStore, StoredProgram, StoredSlot};
 use log::sink::Memory;
@@ -55,17 +55,15 @@ fn serve_stored<R: Threads + Wait + Clock + Sync>(
     let memory = Memory::new(alloc);
     let log = Logged::new(rt, LevelFilter::Off, &memory);
     let mut err = Vec::new(alloc);
-    let served = serve_at(
-        rt,
+    let service = Service {
         alloc,
-        &unrecorded(&log),
-        &mut err,
-        &NoSensors,
-        Receiving::new(socket),
-        socket,
-        stored_slots(alloc, image)?,
-        extent_of(workers, 2),
-    );
+        records: &unrecorded(&log),
+        sensors: &NoSensors,
+        timers: Vec::new(alloc),
+        extent: extent_of(workers, 2),
+    };
+    let slots = stored_slots(alloc, image)?;
+    let served = serve_at(rt, &mut err, service, slots, Receiving::new(socket), socket);
     Ok(served.is_some())
 }
 

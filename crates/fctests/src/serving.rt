@@ -4,7 +4,7 @@ use fc_front::Policy;
 use fc_host::sensors::Sensors;
 use fc_host::socket::{Sink, Source};
 use fc_record::{Recorder, Reporter};
-use fc_service::serve::{Records, serve_at};
+use fc_service::serve::{Records, Service, serve_at};
 use fc_service::slots::Slots;
 use fc_store::NoStore;
 use log::Log;
@@ -62,7 +62,12 @@ pub(crate) fn serve_without_store<
     let Ok(slots) = slots_without_store(alloc, 0, policy) else {
         return None;
     };
-    serve_at(
-        rt, alloc, records, err, sensors, source, sink, slots, extent,
-    )
+    let service = Service {
+        alloc,
+        records,
+        sensors,
+        timers: Vec::new(alloc),
+        extent,
+    };
+    serve_at(rt, err, service, slots, source, sink)
 }

@@ -18,7 +18,7 @@ use fc_host::sensors::{NoSensors, Sensors};
 use fc_host::socket::{Buffer, Receiving, Sink, Source, open};
 use fc_receive::reports::Reports;
 use fc_record::{NoChanges, NoReports};
-use fc_service::serve::{Records, serve, serve_at};
+use fc_service::serve::{Records, Service, serve, serve_at};
 use log::sink::Memory;
 use log::{LevelFilter, Log, Logged};
 use std::alloc::{AllocError, Global};
@@ -139,18 +139,15 @@ fn serve_logged<R: Threads + Wait + Clock + Sync, Z: Sensors + Sync>(
     let Ok(slots) = slots_without_store(alloc, started, policy) else {
         return (false, memory);
     };
-    let source = Receiving::new(socket);
-    let served = serve_at(
-        rt,
+    let service = Service {
         alloc,
-        &unrecorded(&log),
-        &mut err,
+        records: &unrecorded(&log),
         sensors,
-        source,
-        socket,
-        slots,
+        timers: Vec::new(alloc),
         extent,
-    );
+    };
+    let source = Receiving::new(socket);
+    let served = serve_at(rt, &mut err, service, slots, source, socket);
     (served.is_some(), memory)
 }
 
@@ -242,24 +239,19 @@ fn a_taken_port_is_status_3(rt: HostRuntime) -> Result<(), Fail> {
     let memory = Memory::new(alloc);
     let log = Logged::new(&rt, LevelFilter::Info, &memory);
     let mut err = Vec::new(alloc);
-    let extent = extent_of(1, 1);
     let listening = Listening {
         address: at_port(port),
         told: true,
     };
-    let timers = Vec::new(alloc);
-    let slots = slots_without_store(alloc, 0, &DEFAULT_POLICY)?;
-    let status = serve(
-        &rt,
+    let service = Service {
         alloc,
-        &unrecorded(&log),
-        &mut err,
-        &NoSensors,
-        listening,
-        timers,
-        slots,
-        extent,
-    );
+        records: &unrecorded(&log),
+        sensors: &NoSensors,
+        timers: Vec::new(alloc),
+        extent: extent_of(1, 1),
+    };
+    let slots = slots_without_store(alloc, 0, &DEFAULT_POLICY)?;
+    let status = serve(&rt, &mut err, service, slots, listening);
     let told = format!(in alloc; "UDP 127.0.0.1:{port}: Address already in use (os error 98)\n")?;
     assert!(rt; status == Status::Failed && err.as_slice() == told.as_bytes());
     Ok(())

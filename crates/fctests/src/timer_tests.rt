@@ -14,7 +14,7 @@ use fc_front::DEFAULT_POLICY;
 use fc_host::sensors::NoSensors;
 use fc_host::socket::{Buffer, Sink, Source};
 use fc_host::timer::{Period, Timer};
-use fc_service::serve::serve_timed;
+use fc_service::serve::{Service, serve_at};
 use fc_ticket::SlotNumber;
 use log::sink::Memory;
 use log::{LevelFilter, Logged};
@@ -115,20 +115,15 @@ fn serve_beats<R: Abort + AllocGlobal + Threads + Wait + Clock + Sync>(
     if let Some(every) = Period::new(PERIOD) {
         timers.push(Timer::new(every, SlotNumber::new(1)))?;
     }
-    let extent = extent_of(workers, 3);
-    let slots = slots_without_store(alloc, 0, &DEFAULT_POLICY)?;
-    let served = serve_timed(
-        rt,
+    let service = Service {
         alloc,
-        &unrecorded(&log),
-        &mut err,
-        &NoSensors,
-        sleeping,
-        &counting,
+        records: &unrecorded(&log),
+        sensors: &NoSensors,
         timers,
-        slots,
-        extent,
-    );
+        extent: extent_of(workers, 3),
+    };
+    let slots = slots_without_store(alloc, 0, &DEFAULT_POLICY)?;
+    let served = serve_at(rt, &mut err, service, slots, sleeping, &counting);
     assert!(rt;
         served.is_some_and(|sleeping| sleeping.long == 0),
         "{workers}"

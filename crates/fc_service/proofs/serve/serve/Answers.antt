@@ -5,5 +5,5 @@ use Rattle.fc_service.proofs.serve.serve.Goals as goal
 
 pub returns-after-listening-clause-served : goal.returns-after-listening-clause-served
 returns-after-listening-clause-served g c done =
-    let some : is_some c.serve_timed.result ≡ true = search rules in
-    when_some c.serve_timed.result some c.serve_timed.ensures.served (λ left served. served)
+    let some : is_some c.serve_at.result ≡ true = search rules in
+    when_some c.serve_at.result some c.serve_at.ensures.served (λ left served. served)
