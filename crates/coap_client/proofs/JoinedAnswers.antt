@@ -17,8 +17,6 @@ use Rattle.coap_client.specs.Fetching.{State, Out, Ended, Outdated, Lost, after_
 use Rattle.coap_client.specs.Joined.{AreBlocksInOrder, BeginsAt, IsLastBlock, IsOneAnswer, payloads}
 use Rattle.coap_client.specs.Parts.{first_part, has_more}
 use Rattle.coap_client.specs.Replies.{block1_of, block2_of, by_more, by_option, by_part, etag_of, is_continue, is_final, fits_place, is_success, is_understood, next_by_code, next_block, next_number, next_of_answer, next_of_body, next_of_whole, next_size}
-use Rattle.coap_client.specs.Representations.{joined}
-use Rattle.coap_client.specs.Representations.{begun as begun_by}
 use Rattle.coap_client.proofs.NextParts.{either, place_is}
 
 -- the response so far has the bytes `body` from the latest of these replies, with the ETag `etag`.
@@ -45,7 +43,7 @@ JoinsAt offset count value (next.Ask other) = offset ≡ 0
 JoinsAt offset count value next.Refused = ⊥
 JoinsAt offset count value other = Unit {0}
 
-option_joins : (n szx count offset : ℕ) (value : Option (List ℕ)) → block_size szx * n ≡ offset → JoinsAt offset count value (by_option n szx count value)
+pub option_joins : (n szx count offset : ℕ) (value : Option (List ℕ)) → block_size szx * n ≡ offset → JoinsAt offset count value (by_option n szx count value)
 option_joins n szx count offset None at =
     either (JoinsAt offset count None) (n == 0) next.Last next.Malformed
     (λ zero. let none : n ≡ 0 = eqb-true _ _ zero in (sym at ∙ (ap (λ k. block_size szx * k) none ∙ omega arith), tt)) (λ _. tt)
@@ -126,7 +124,7 @@ Joins m ms (Ended code body) = is_success code ≡ true → IsOneAnswer body m m
 Joins m ms other = HasJoined (m ∷ ms) other
 
 -- if a reply begins a response, the response so far is that reply's payload.
-begun : (m : Message) (ms : List Message) (body etag : List ℕ) (n : Next) → body ≡ [] → JoinsAt 0 (length m.payload) (block2_of m) n → Joins m ms (moved_on n body etag m)
+pub begun : (m : Message) (ms : List Message) (body etag : List ℕ) (n : Next) → body ≡ [] → JoinsAt 0 (length m.payload) (block2_of m) n → Joins m ms (moved_on n body etag m)
 begun m ms body etag (next.Ask Whole) none j = none
 begun m ms body etag (next.Ask (Body n szx)) none j = none
 begun m ms body etag (next.Ask (Answer n szx)) none j =
@@ -168,7 +166,7 @@ part_joins count (Answer n szx) body etag m ms so =
     (either (JoinsAt (length body) (length m.payload) (block2_of m)) (is_continue m) next.Malformed (next_of_answer n szx m) (λ _. tt) (λ _. option_joins n szx (length m.payload) (length body) (block2_of m) so.1)))
     (λ _. tt)
 
-reply_joins : (count : ℕ) (part : Part) (body etag : List ℕ) (m : Message) (ms : List Message) → HasJoined ms (Out part body etag) →
+pub reply_joins : (count : ℕ) (part : Part) (body etag : List ℕ) (m : Message) (ms : List Message) → HasJoined ms (Out part body etag) →
     Joins m ms (after_reply count m (Out part body etag))
 reply_joins count part body etag m ms so =
     let P : Next → Type 0 = λ n. Joins m ms (moved_on n body etag m) in
@@ -178,13 +176,13 @@ reply_joins count part body etag m ms so =
     (λ failed success. absurd (cc (failed, success))))
     (λ _. tt)
 
-weaker : (m : Message) (ms : List Message) (s : State) → Joins m ms s → HasJoined (m ∷ ms) s
+pub weaker : (m : Message) (ms : List Message) (s : State) → Joins m ms s → HasJoined (m ∷ ms) s
 weaker m ms (Out part body etag) j = j
 weaker m ms (Ended code body) j = tt
 weaker m ms Outdated j = tt
 weaker m ms Lost j = tt
 
-step_joins : (count : ℕ) (m : Message) (ms : List Message) (s : State) → HasJoined ms s → HasJoined (m ∷ ms) (after_reply count m s)
+pub step_joins : (count : ℕ) (m : Message) (ms : List Message) (s : State) → HasJoined ms s → HasJoined (m ∷ ms) (after_reply count m s)
 step_joins count m ms (Out part body etag) so = weaker m ms (after_reply count m (Out part body etag)) (reply_joins count part body etag m ms so)
 step_joins count m ms (Ended code body) so = tt
 step_joins count m ms Outdated so = tt
@@ -206,24 +204,3 @@ one_answer e m ms part body etag answer code out ends success =
     let so = subst (HasJoined ms) out (has_joined e ms) in
     let is = sym (ap (after_reply (length e.payload.now) m) out) ∙ ends in
     subst (Joins m ms) is (reply_joins (length e.payload.now) part body etag m ms so) success
-
--- ---- a state of an observed resource
-
-first_of : (m : Message) → Joins m [] (begun_by m)
-first_of m = begun m [] [] [] (next_of_answer 0 6 m) refl (option_joins 0 6 (length m.payload) 0 (block2_of m) (omega arith))
-
-state_joins : (m : Message) (rs : List Message) → HasJoined (rs ++ m ∷ []) (joined m rs)
-state_joins m [] = weaker m [] (begun_by m) (first_of m)
-state_joins m (r ∷ rs) = step_joins 0 r (rs ++ m ∷ []) (joined m rs) (state_joins m rs)
-
-ended_by : (r : Message) (ms : List Message) (s : State) (code : ℕ) (body : List ℕ) → HasJoined ms s → after_reply 0 r s ≡ Ended code body → is_success code ≡ true → ((c : ℕ) (b : List ℕ) → s ≡ Ended c b → ⊥)
-    → IsOneAnswer body r ms
-ended_by r ms (Out part so_far etag) code body h ends success out = subst (Joins r ms) ends (reply_joins 0 part so_far etag r ms h) success
-ended_by r ms (Ended c b) code body h ends success out = absurd (out c b refl)
-ended_by r ms Outdated code body h ends success out = absurd (cc ends)
-ended_by r ms Lost code body h ends success out = absurd (cc ends)
-
--- if a state of several blocks ends by a success, it is joined from blocks with the same ETag.
-pub one_body : (m r : Message) (rs : List Message) (code : ℕ) (body : List ℕ) → ((c : ℕ) (b : List ℕ) → joined m rs ≡ Ended c b → ⊥) → joined m (r ∷ rs) ≡ Ended code body → is_success code ≡ true
-    → IsOneAnswer body r (rs ++ m ∷ [])
-one_body m r rs code body out ends success = ended_by r (rs ++ m ∷ []) (joined m rs) code body (state_joins m rs) ends success out

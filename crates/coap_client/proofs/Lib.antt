@@ -6,12 +6,8 @@ pub mod NextParts
 pub mod Sizes
 pub mod Splitting
 pub mod SentBodies
-mod JoinedAnswers
+pub mod JoinedAnswers
 mod TakenBlocks
 pub mod Scheduled
 pub mod Resets
 pub mod Pinging
-pub mod Observes
-pub mod ObserverCalls
-pub mod Watching
-pub mod Joinings

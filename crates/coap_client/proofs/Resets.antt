@@ -2,19 +2,16 @@
 use Rattle.std.proofs.Common.{◌≡◌, ℕ, Bool, true, false, List, ◌++◌, inl, inr, ap, ◌∙◌}
 use Rattle.coap_client.specs.declared.transmission.ReplyClass.{ReplyClass}
 use Rattle.coap_client.specs.declared.transmission.ReplyClass.TheVariants.{Rejected}
-use Rattle.coap_client.specs.Faults.{EndsRejected, IsRejectedBy, IsRejectedLeaving, IsRejection}
+use Rattle.coap_client.specs.Faults.{EndsRejected, IsRejectedBy, IsRejection}
 use Rattle.coap_client.specs.Handled.{IsReadAs, Tells}
 use Rattle.coap_client.specs.Listening.{EndsOn}
-use Rattle.coap_client.specs.Notes.{TellsObserver}
-use Rattle.coap_client.specs.ObserverCalls.{IsPassedOverLeaving}
 use Rattle.coap_client.specs.PeerCalls.{PeerCall}
 use Rattle.coap_client.specs.Pings.{IsPinged}
 use Rattle.coap_client.specs.Replies.{IsReset}
 use Rattle.coap_client.specs.Schedules.{EndsByReset}
-use Rattle.coap_client.specs.Transmissions.{IsLastSending}
 
 -- if a wait ends on a Reset message, the newest call received that message.
-ended_by_reset : (passes : List ℕ → List PeerCall → Type 0) (id : ℕ) (bytes : List ℕ) (handled : List PeerCall) → IsReadAs bytes (IsReset id) → EndsOn passes bytes handled → EndsByReset id handled
+pub ended_by_reset : (passes : List ℕ → List PeerCall → Type 0) (id : ℕ) (bytes : List ℕ) (handled : List PeerCall) → IsReadAs bytes (IsReset id) → EndsOn passes bytes handled → EndsByReset id handled
 ended_by_reset passes id bytes handled rejects e = record {
   bytes = bytes;
   older = e.older;
@@ -24,7 +21,7 @@ ended_by_reset passes id bytes handled rejects e = record {
   rejects = rejects.holds;
 }
 
-behind : (id : ℕ) (newer older calls : List PeerCall) → EndsByReset id newer → calls ≡ newer ++ older → EndsByReset id calls
+pub behind : (id : ℕ) (newer older calls : List PeerCall) → EndsByReset id newer → calls ≡ newer ++ older → EndsByReset id calls
 behind id newer older calls r is = record {
   bytes = r.bytes;
   older = r.older ++ older;
@@ -49,14 +46,6 @@ module _ (tells : List ℕ → ReplyClass → Type 0) (id : ℕ) (resets : (byte
 
 pub reset_requesting : (confirmable : Bool) (id : ℕ) (earlier request : List ℕ) (calls : List PeerCall) → IsRejection confirmable (Tells confirmable id earlier) request calls → EndsByReset id calls
 reset_requesting confirmable id earlier request calls s = reset_of (Tells confirmable id earlier) id (λ bytes told. told) confirmable request calls s
-
-pub reset_registering : (token : List ℕ) (id : ℕ) (request : List ℕ) (calls : List PeerCall) → IsRejection true (TellsObserver token id) request calls → EndsByReset id calls
-reset_registering token id request calls s = reset_of (TellsObserver token id) id (λ bytes told. told) true request calls s
-
-pub reset_leaving : (token : List ℕ) (id : ℕ) (request : List ℕ) (calls : List PeerCall) → IsLastSending (IsPassedOverLeaving token id) request (IsRejectedLeaving token id) calls → EndsByReset id calls
-reset_leaving token id request calls s =
-    let ends = s.sending.ends in
-    behind id s.last s.older calls (behind id s.sending.handled _ s.last (ended_by_reset _ id ends.bytes s.sending.handled ends.rejects ends.ends) s.sending.is) s.is
 
 pub reset_ponging : (id : ℕ) (calls : List PeerCall) → IsPinged id calls → EndsByReset id calls
 reset_ponging id calls s =

@@ -13,14 +13,12 @@ use Rattle.coap_client.specs.declared.transmission.ReplyClass.{ReplyClass}
 use Rattle.coap_client.specs.declared.transmission.ReplyClass.TheVariants.{Reply, Separate, Repeat, Acknowledged, Rejected, Other}
 use Rattle.coap_client.specs.Listening.{ArePassedOver, EndsOn, IsOver, IsPassedOver, acknowledges, acknowledges_kind, acknowledges_read, sent_behind}
 use Rattle.coap_client.specs.PeerCalls.{PeerCall, Sends, Waits, Receives}
-use Rattle.coap_client.specs.ObserverCalls.{AwaitsNotification, IsAcknowledgedLeaving, IsPassedOverLeaving, IsPassedOverWatching, Dated, dates}
-use Rattle.coap_client.specs.declared.watch.Observation.{Observation}
-use Rattle.coap_client.specs.Faults.{EndsRejected, IsRejectedLeaving, IsRejection}
+use Rattle.coap_client.specs.Faults.{EndsRejected, IsRejection}
 use Rattle.coap_client.specs.Schedules.{AwaitsResponse, BeginsSchedule, full_schedule, has_code, is_scheduled, schedule, seconds_in, seconds_of}
 use Rattle.coap_client.specs.Transmissions.{ack_timeout, acknowledges_answer, AreInVain, EndsAnswered, EndsAwaited, IsAcknowledgedFirst, IsLastSending, IsSending, IsTransmission}
 
 -- the schedule of two joined lists of calls is the schedules of both, joined.
-both : (xs ys newer older : List PeerCall) → schedule xs ≡ newer → schedule ys ≡ older → schedule (xs ++ ys) ≡ newer ++ older
+pub both : (xs ys newer older : List PeerCall) → schedule xs ≡ newer → schedule ys ≡ older → schedule (xs ++ ys) ≡ newer ++ older
 both xs ys newer older x y = filter-append is_scheduled xs ys ∙ ap (λ (l : List PeerCall). l ++ schedule ys) x ∙ ap (λ (l : List PeerCall). newer ++ l) y
 
 -- an acknowledgement isn't part of a schedule.
@@ -34,7 +32,7 @@ acknowledgement_read : (r : Result Message Bad) → schedule (acknowledges_read 
 acknowledgement_read (Ok m) = acknowledgement_of m.kind m.id
 acknowledgement_read (Err bad) = refl
 
-acknowledgement : (bytes : List ℕ) → schedule (acknowledges bytes) ≡ []
+pub acknowledgement : (bytes : List ℕ) → schedule (acknowledges bytes) ≡ []
 acknowledgement bytes = acknowledgement_read (reading_of bytes)
 
 acknowledgement_behind : (handled : ReplyClass) (bytes : List ℕ) → schedule (sent_behind handled bytes) ≡ []
@@ -50,21 +48,11 @@ acknowledgement_of_answer None = refl
 acknowledgement_of_answer (Some answer) = acknowledgement answer
 
 -- the calls after a skipped datagram aren't part of a schedule.
-abbrev IsQuiet : (List ℕ → List PeerCall → Type 0) → Type 0
+abbrev pub IsQuiet : (List ℕ → List PeerCall → Type 0) → Type 0
 IsQuiet passes = (bytes : List ℕ) (sent : List PeerCall) → passes bytes sent → schedule sent ≡ []
 
 request_is_quiet : (tells : List ℕ → ReplyClass → Type 0) (awaited : Bool) → IsQuiet (IsPassedOver tells awaited)
 request_is_quiet tells awaited bytes sent p = ap schedule p.sent_is ∙ acknowledgement_behind p.handled bytes
-
-leaving_is_quiet : (token : List ℕ) (id : ℕ) → IsQuiet (IsPassedOverLeaving token id)
-leaving_is_quiet token id bytes sent p = elim p.notification as (λ _. schedule sent ≡ []) [
-  | inl own ↦ ap schedule own.1 ∙ acknowledgement bytes
-  | inr other ↦ ap schedule other.1
-]
-
-watching_is_quiet : (told : ℕ → Type 0) (token : List ℕ) (w : Observation) → IsQuiet (IsPassedOverWatching told token w)
-watching_is_quiet told token w bytes sent (inl older) = ap schedule older.sent_is ∙ acknowledgement bytes
-watching_is_quiet told token w bytes sent (inr none) = ap schedule none.1
 
 -- the calls for skipped datagrams during a wait aren't part of a schedule.
 passed : (passes : List ℕ → List PeerCall → Type 0) → IsQuiet passes → (n : ℕ) (calls : List PeerCall) → ArePassedOver passes n calls → schedule calls ≡ []
@@ -73,22 +61,14 @@ passed passes quiet (suc n) calls one =
     ap schedule one.is
     ∙ both one.sent (Receives (Some one.bytes) ∷ one.older) [] [] (quiet one.bytes one.sent one.passed) (passed passes quiet n one.older one.before)
 
-over : (passes : List ℕ → List PeerCall → Type 0) → IsQuiet passes → (calls : List PeerCall) → IsOver passes calls → schedule calls ≡ []
+pub over : (passes : List ℕ → List PeerCall → Type 0) → IsQuiet passes → (calls : List PeerCall) → IsOver passes calls → schedule calls ≡ []
 over passes quiet calls o = elim o.is as (λ _. schedule calls ≡ []) [
   | inl timed ↦ ap schedule timed ∙ passed passes quiet o.n o.older o.before
   | inr full ↦ ap schedule full.0 ∙ passed passes quiet o.n o.older o.before
 ]
 
-ended : (passes : List ℕ → List PeerCall → Type 0) → IsQuiet passes → (bytes : List ℕ) (calls : List PeerCall) → EndsOn passes bytes calls → schedule calls ≡ []
+pub ended : (passes : List ℕ → List PeerCall → Type 0) → IsQuiet passes → (bytes : List ℕ) (calls : List PeerCall) → EndsOn passes bytes calls → schedule calls ≡ []
 ended passes quiet bytes calls e = ap schedule e.is ∙ passed passes quiet e.n e.older e.before
-
--- the calls during a wait for the next notification aren't part of a schedule.
-pub noted_quietly : (told : ℕ → Type 0) (token : List ℕ) (w : Observation) (answer : Option Dated) (calls : List PeerCall) → AwaitsNotification token (IsPassedOverWatching told token w) answer calls
-    → schedule calls ≡ []
-noted_quietly told token w None calls o = over (IsPassedOverWatching told token w) (watching_is_quiet told token w) calls o
-noted_quietly told token w (Some (bytes, time)) calls x =
-    ap schedule x.is
-    ∙ both (dates bytes time) x.handled [] [] (acknowledgement bytes) (ended (IsPassedOverWatching told token w) (watching_is_quiet told token w) bytes x.handled x.ends)
 
 -- the calls during a wait for a separate response aren't part of a schedule.
 awaited : (tells : List ℕ → ReplyClass → Type 0) (answer : Option (List ℕ)) (handled : List PeerCall) → EndsAwaited tells answer handled → schedule handled ≡ []
@@ -142,7 +122,7 @@ module _ (m : Message) (coded : m.code ≡ 0 → ⊥) where
       ∙ append_assoc newer (Waits (ack_timeout n) ∷ Sends request ∷ []) (first_of n)
       ∙ ap (λ (l : List PeerCall). newer ++ l) (one_more n few)
 
-  in_vain : (passes : List ℕ → List PeerCall → Type 0) → IsQuiet passes → (n : ℕ) (calls : List PeerCall) → n < 6 → AreInVain passes request n calls → schedule calls ≡ first_of n
+  pub in_vain : (passes : List ℕ → List PeerCall → Type 0) → IsQuiet passes → (n : ℕ) (calls : List PeerCall) → n < 6 → AreInVain passes request n calls → schedule calls ≡ first_of n
   in_vain passes quiet zero calls few none = ap schedule none
   in_vain passes quiet (suc n) calls few again =
       once_more n (IsOver passes) calls again.older again.last [] (omega (arith, few)) (in_vain passes quiet n again.older (omega (arith, few)) again.before) again.in_vain
@@ -162,7 +142,7 @@ module _ (m : Message) (coded : m.code ≡ 0 → ⊥) where
 
   -- if the calls after a last sending add nothing to the schedule, the schedule is the first
   -- transmissions, at least one.
-  begun : (passes : List ℕ → List PeerCall → Type 0) → IsQuiet passes → (P : List PeerCall → Type 0) (calls : List PeerCall) (s : IsLastSending passes request P calls)
+  pub begun : (passes : List ℕ → List PeerCall → Type 0) → IsQuiet passes → (P : List PeerCall → Type 0) (calls : List PeerCall) (s : IsLastSending passes request P calls)
       → schedule s.sending.handled ≡ [] → BeginsSchedule request (schedule calls)
   begun passes quiet P calls s handled = subst (BeginsSchedule request) (sym (last passes quiet P calls [] s handled)) (begins s.n s.few)
 
@@ -200,13 +180,6 @@ module _ (m : Message) (coded : m.code ≡ 0 → ⊥) where
   sent_once tells answer calls t =
       taken false tells request answer calls t ∙ sent 32 (EndsAwaited tells answer) t.asked [] t.is_asked (awaited tells answer t.is_asked.handled t.is_asked.ends)
 
-  pub acknowledged_at_last : (token : List ℕ) (id : ℕ) (calls : List PeerCall) → IsLastSending (IsPassedOverLeaving token id) request (IsAcknowledgedLeaving token id) calls
-      → BeginsSchedule request (schedule calls)
-  acknowledged_at_last token id calls s =
-      let passes = IsPassedOverLeaving token id in
-      let quiet = leaving_is_quiet token id in
-      begun passes quiet (IsAcknowledgedLeaving token id) calls s (ended passes quiet s.sending.ends.bytes s.sending.handled s.sending.ends.ends)
-
   -- ---- rejections, and requests without a response
 
   rejected_at : (tells : List ℕ → ReplyClass → Type 0) (handled : List PeerCall) → EndsRejected tells handled → (schedule handled ≡ []) ⊎ (schedule handled ≡ Waits 93 ∷ [])
@@ -226,16 +199,6 @@ module _ (m : Message) (coded : m.code ≡ 0 → ⊥) where
         | inl at_once ↦ inl (begun passes quiet (EndsRejected tells) calls s at_once)
         | inr later ↦ inr (begun_later passes quiet (EndsRejected tells) calls s later)
       ]
-
-  pub silent_leaving : (token : List ℕ) (id : ℕ) (calls : List PeerCall) → AreInVain (IsPassedOverLeaving token id) request 5 calls → schedule calls ≡ full_schedule request
-  silent_leaving token id calls all = in_vain (IsPassedOverLeaving token id) (leaving_is_quiet token id) 5 calls (omega arith) all
-
-  pub rejected_leaving : (token : List ℕ) (id : ℕ) (calls : List PeerCall) → IsLastSending (IsPassedOverLeaving token id) request (IsRejectedLeaving token id) calls
-      → BeginsSchedule request (schedule calls)
-  rejected_leaving token id calls s =
-      let passes = IsPassedOverLeaving token id in
-      let quiet = leaving_is_quiet token id in
-      begun passes quiet (IsRejectedLeaving token id) calls s (ended passes quiet s.sending.ends.bytes s.sending.handled s.sending.ends.ends)
 
   -- if no response arrived, the waits are at least 62 seconds together.
   pub waited_for : (calls : List PeerCall) → (schedule calls ≡ full_schedule request) ⊎ AwaitsResponse request (schedule calls) → 62 ≤ seconds_in calls

@@ -10,11 +10,6 @@ pub mod Listening
 pub mod Transmissions
 pub mod Fetching
 pub mod Joined
-pub mod Notices
-pub mod Notes
-pub mod ObserverCalls
 pub mod Schedules
 pub mod Faults
 pub mod Pings
-pub mod Representations
-pub mod Completions

@@ -189,7 +189,7 @@ impl<'a> ClientRequest<'a> {
     ///
     /// # Errors
     /// Returns `AllocError` if memory can't be allocated for the list of options.
-    pub(crate) fn write_block(
+    pub fn write_block(
         &self,
         alloc: Global,
         number: u32,
@@ -368,7 +368,7 @@ fn push_option<'a>(
 
 // Appends an option with this number for each value. Returns `AllocError` if memory can't be
 // allocated.
-pub(crate) fn push_options<'a>(
+pub fn push_options<'a>(
     options: &mut Vec<(u16, &'a [u8])>,
     number: u16,
     values: &'a [&'a [u8]],

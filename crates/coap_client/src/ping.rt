@@ -1,14 +1,13 @@
 //! Pings: checks that a server responds, without a request (RFC 7252, section 4.3).
-ghost use Rattle.std.specs.Prelude.{◌≡◌, IfErr, IfOk, OnErr, OnOk};
+ghost use Rattle.std.specs.Prelude.{◌≡◌, IfErr, IfOk, OnOk};
 ghost use Rattle.std.specs.Bool.{OnTrue};
 ghost use Rattle.coap_client.specs.Faults.{IsOfPeer};
 ghost use Rattle.coap_client.specs.Pings.{CamePong, HasPong, IsOverUnlessPong, IsPingFault, IsPinged, ping_bytes};
 ghost use Rattle.coap_client.specs.Transmissions.{MakesCalls};
 
 use crate::fetcher::FetchFault;
-use crate::observing::tells_reset;
 use crate::peer::{BUFFER, Buffer, Peer};
-use crate::transmission::{SENDINGS, ack_timeout, send};
+use crate::transmission::{SENDINGS, ack_timeout, send, tells_reset};
 use coap_msg::{Code, Datagram, MessageType, Outgoing, write};
 
 /// Pings the server with an empty confirmable message with the message ID `id`.

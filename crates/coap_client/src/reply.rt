@@ -142,7 +142,7 @@ pub fn next_of(
 
 // Returns the next step after the response to a request for a further block, if the blocks of a
 // state are joined. `etag` is the ETag of the blocks before it.
-pub(crate) fn next_of_block(number: u32, szx: u8, etag: &[u8], message: &Message<'_>) -> Next
+pub fn next_of_block(number: u32, szx: u8, etag: &[u8], message: &Message<'_>) -> Next
     requires { IsBlock number szx }
     ensures next { result ≡ spec.next_of 0 (Answer number szx) etag.now message.now }
     ensures further { (part : Piece) → result ≡ Ask part → IsFurther part }
@@ -169,7 +169,7 @@ pub fn etag_of<'a>(message: &Message<'a>) -> &'a [u8]
 }
 
 // Returns whether a message has no unknown critical option, and at most one Block1 and one Block2.
-pub(crate) fn is_understood(message: &Message<'_>) -> bool
+pub fn is_understood(message: &Message<'_>) -> bool
     ensures { result ≡ spec.is_understood message.now }
 {
     are_known(message) && is_single(BLOCK1, message) && is_single(BLOCK2, message)
@@ -301,7 +301,7 @@ fn next_of_further(number: u32, szx: u8, etag: &[u8], message: &Message<'_>) -> 
 
 // Returns the next step after a success in response to a request for this block. A success without
 // Block2 is whole if block 0 was requested, and else malformed.
-pub(crate) fn next_of_answer(number: u32, szx: u8, message: &Message<'_>) -> Next
+pub fn next_of_answer(number: u32, szx: u8, message: &Message<'_>) -> Next
     requires { IsBlock number szx }
     ensures next { result ≡ spec.next_of_answer number szx message.now }
     ensures further { (part : Piece) → result ≡ Ask part → IsFurther part }

@@ -1,16 +1,16 @@
 //! The transmission of a request until a response or an acknowledgement arrives.
 //!
 //! [`ask`] is for a fetch. Observers and pings use the functions that [`ask`] calls.
-ghost use Rattle.std.specs.Prelude.{◌≡◌, ◌<◌, ◌≤◌, [], ◌∷◌, IfErr, IfOk, IfSome, OnOk, false, length, take, true};
+ghost use Rattle.std.specs.Prelude.{◌≡◌, ◌↔◌, ◌<◌, ◌≤◌, [], ◌∷◌, IfErr, IfOk, IfSome, IsTrue, OnOk, false, length, take, true};
 ghost use Rattle.coap_msg.specs.Wire.{message_bytes};
 ghost use Rattle.coap_msg.specs.Reading.{reading_of};
 ghost use Rattle.coap_msg.specs.Wire as wire;
 ghost use Rattle.coap_msg.specs.declared.types.MessageType.TheVariants.{Confirmable};
 ghost use Rattle.coap_client.specs.Faults.{IsOfPeer, IsRejectedBy, IsRejection};
-ghost use Rattle.coap_client.specs.Handled.{AcknowledgesRepeat, Listens, HasResponse, IsAwaitedAnswer, IsHandledAs, TellsSent};
+ghost use Rattle.coap_client.specs.Handled.{AcknowledgesRepeat, Listens, HasResponse, IsAwaitedAnswer, IsHandledAs, IsReadAs, TellsSent};
 ghost use Rattle.coap_client.specs.Listening.{IsHandled, acknowledges, acknowledges_kind, is_passed_over, sent_behind};
 ghost use Rattle.coap_client.specs.PeerCalls.{Adds, Sends, Waits, received_bytes};
-ghost use Rattle.coap_client.specs.Replies.{is_taken};
+ghost use Rattle.coap_client.specs.Replies.{IsReset};
 ghost use Rattle.coap_client.specs.Transmissions.{ack_timeout, most_sendings, non_wait, MakesCalls, IsTransmissionWith, IsTransmitted, IsAskedAgain, EndsAwaited, IsSending};
 ghost use Rattle.coap_client.specs.Requests.{acknowledgement};
 
@@ -22,7 +22,7 @@ use coap_msg::{Code, Datagram, Message, MessageType, Outgoing, read, write};
 /// Maximum number of transmissions of a confirmable request.
 ///
 /// It is one transmission and MAX_RETRANSMIT retransmissions (RFC 7252, section 4.8).
-pub(crate) const SENDINGS: u32 = 5;
+pub const SENDINGS: u32 = 5;
 
 /// Wait for the response to the first transmission, in seconds.
 ///
@@ -33,7 +33,7 @@ const ACK_TIMEOUT: u64 = 2;
 ///
 /// It is MAX_TRANSMIT_WAIT, the longest time that a sender waits for an acknowledgement (RFC 7252,
 /// section 4.8.2).
-pub(crate) const SEPARATE_WAIT: u64 = 93;
+pub const SEPARATE_WAIT: u64 = 93;
 
 /// Wait for the response to a non-confirmable request, in seconds.
 const NON_WAIT: u64 = 32;
@@ -79,7 +79,7 @@ pub enum WaitOutcome {
 /// Returns the wait in seconds after a transmission that follows `sendings` others.
 ///
 /// Each wait is twice the wait before (RFC 7252, section 4.2, without the random part).
-pub(crate) fn ack_timeout(sendings: u32) -> u64
+pub fn ack_timeout(sendings: u32) -> u64
     requires { sendings < most_sendings }
     ensures { result ≡ ack_timeout sendings }
 {
@@ -184,11 +184,7 @@ fn ask_once<P: Peer>(
 
 // Sends a request, and begins a wait of `seconds` seconds. Returns `FetchFault::Socket` if the peer
 // returns an error.
-pub(crate) fn send<P: Peer>(
-    peer: &mut P,
-    request: &Datagram,
-    seconds: u64,
-) -> Result<(), FetchFault>
+pub fn send<P: Peer>(peer: &mut P, request: &Datagram, seconds: u64) -> Result<(), FetchFault>
     ensures went { OnOk result (P.went request.now.items) }
     ensures tried { P.tried request.now.items }
     ensures called { OnOk result (Adds (P.called peer.old) (P.called peer.new) (Waits seconds ∷ Sends request.now.items ∷ [])) }
@@ -253,7 +249,7 @@ fn listen<P: Peer>(
 // Returns whether a datagram of this class is skipped, so that the wait goes on. A separate
 // response ends the wait only if one is awaited. An acknowledgement ends the wait only if no
 // separate response is awaited.
-pub(crate) fn is_passed_over(awaited: bool, handled: ReplyClass) -> bool
+pub fn is_passed_over(awaited: bool, handled: ReplyClass) -> bool
     ensures { result ≡ is_passed_over awaited handled }
 {
     match handled {
@@ -286,6 +282,16 @@ fn handle_from<P: Peer>(
     Ok(handled)
 }
 
+/// Returns whether a datagram rejects the request with this message ID.
+pub fn tells_reset(id: u16, bytes: &[u8]) -> bool
+    ensures { IsTrue result ↔ IsReadAs bytes.now (IsReset id) }
+{
+    match read(bytes) {
+        Ok(message) => is_reset(id, &message),
+        Err(_) => false,
+    }
+}
+
 // Classifies a message with respect to a request. A non-confirmable request has no piggybacked
 // response.
 fn handle_message(request: &SentRequest<'_>, message: &Message<'_>) -> ReplyClass
@@ -307,7 +313,7 @@ fn handle_message(request: &SentRequest<'_>, message: &Message<'_>) -> ReplyClas
 }
 
 // Acknowledges a confirmable message (RFC 7252, section 4.2). Sends nothing for any other datagram.
-pub(crate) fn acknowledge<P: Peer>(peer: &mut P, bytes: &[u8]) -> Result<(), FetchFault>
+pub fn acknowledge<P: Peer>(peer: &mut P, bytes: &[u8]) -> Result<(), FetchFault>
     ensures went { OnOk result ((m : wire.Message) → reading_of bytes.now ≡ Ok m → m.kind ≡ Confirmable
         → P.went (message_bytes (acknowledgement m.id))) }
     ensures called { OnOk result (Adds (P.called peer.old) (P.called peer.new) (acknowledges bytes.now)) }

@@ -3,8 +3,8 @@
 //! See RFC 7252, sections 6.1 and 6.4.
 use coap_client::Fetched;
 use coap_msg::Code;
+use coap_uri::address::{Address, AddressError};
 use fc_fetch::Shown;
-use fc_fetch::address::{Address, AddressError};
 use fc_fetch::printer::write_answer;
 use std::net::{Ipv4Addr, SocketAddrV4};
 use std::test::Fail;

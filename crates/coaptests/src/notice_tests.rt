@@ -2,13 +2,11 @@
 //!
 //! The datagrams are worked out by hand.
 use crate::scripted::{Scripted, check_sent, comes, comes_at, follows};
-use coap_client::notice::{is_newer, notice_of};
 use coap_client::peer::BUFFER;
-use coap_client::{
-    ClientRequest, Completion, FetchFault, Joining, NotificationClass, Observation, Observer, Path,
-    RequestTarget, Unfetched,
-};
+use coap_client::{ClientRequest, FetchFault, Path, RequestTarget};
 use coap_msg::read;
+use coap_observer::notice::{is_newer, notice_of};
+use coap_observer::{Completion, Joining, NotificationClass, Observation, Observer, Unfetched};
 use coap_opts::Method;
 use fc_cli::Status;
 use fc_fetch::observer::{NotesError, ObservationExtent, print_notes, print_to_end};

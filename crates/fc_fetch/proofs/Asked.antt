@@ -7,11 +7,11 @@ use Rattle.fc_fetch.specs.declared.client.FetchOptions.{FetchOptions}
 use Rattle.std.specs.declared.net.socket_addr.SocketAddrV4.{SocketAddrV4}
 use Rattle.coap_client.specs.PeerCalls.{PeerCall, PeerError}
 use Rattle.fc_fetch.specs.Connecting.{IsDrawnId}
-use Rattle.fc_fetch.specs.Addresses.{IsAddress}
-use Rattle.fc_fetch.specs.declared.address.Address.{Address}
+use Rattle.coap_uri.specs.Addresses.{IsAddress}
+use Rattle.coap_uri.specs.declared.address.Address.{Address}
 use Rattle.fc_fetch.specs.Fetching.{HasResource, IsAsking, IsFetchStop, IsOfConnecting, IsOfInput, IsOfRandom, IsTargetStop, NamesNoResource}
 use Rattle.fc_fetch.specs.Observing.{IsClientRequestStop, IsObserveStop}
-use Rattle.fc_fetch.specs.Resources.{IsResourceOf}
+use Rattle.coap_uri.specs.Resources.{IsResourceOf}
 use Rattle.fc_fetch.specs.declared.observer.Observing.{Observing}
 use Rattle.fc_fetch.specs.Pinging.{IsPingEndpoint, IsPingStop}
 use Rattle.fc_fetch.specs.declared.client.FetchStop.{FetchStop}

@@ -1,22 +1,23 @@
 -- Failures of an observer.
 use Rattle.std.proofs.Common.{◌≡◌, ◌⊎◌, ◌++◌, ℕ, Bool, false, true, List, ◌∷◌, Option, Some, None, Result, Ok, Err, IfErr, OnErr, OnOk, is_some, inl, inr, refl, ap, sym, subst, ◌∙◌, append_assoc, if◌then◌else◌}
-use Rattle.coap_client.specs.Faults.{EndsOnNotification, IsLeavingFault, IsNewState, IsNotificationFault, IsOfPeer, IsRegistrationFault, UnfitCame, deregistration_of}
-use Rattle.coap_client.specs.ObserverCalls.{IsDatedRegistration, IsDeregistration}
-use Rattle.coap_client.specs.Notes.{IsRegistered, IsResponseWith, IsWatching}
-use Rattle.coap_client.specs.Notices.{by_sequence, by_success, can_be_shown, is_unobserved, notice_of, sequence_of}
+use Rattle.coap_observer.specs.ObserverFaults.{EndsOnNotification, IsLeavingFault, IsNewState, IsNotificationFault, IsRegistrationFault, UnfitCame, deregistration_of}
+use Rattle.coap_client.specs.Faults.{IsOfPeer}
+use Rattle.coap_observer.specs.ObserverCalls.{IsDatedRegistration, IsDeregistration}
+use Rattle.coap_observer.specs.Notes.{IsRegistered, IsResponseWith, IsWatching}
+use Rattle.coap_observer.specs.Notices.{by_sequence, by_success, can_be_shown, is_unobserved, notice_of, sequence_of}
 use Rattle.coap_client.specs.Replies.{is_success}
 use Rattle.coap_client.specs.PeerCalls.{PeerCall, PeerError}
-use Rattle.coap_client.specs.Completions.{Superseded}
-use Rattle.coap_client.specs.Representations.{IsFollowingFault}
+use Rattle.coap_observer.specs.Completions.{Superseded}
+use Rattle.coap_observer.specs.Representations.{IsFollowingFault}
 use Rattle.coap_client.specs.Transmissions.{AreBehind, MakesCalls}
 use Rattle.coap_client.specs.declared.fetcher.FetchFault.{FetchFault}
 use Rattle.coap_client.specs.declared.fetcher.FetchFault.TheVariants as fault
-use Rattle.coap_client.specs.declared.notice.NotificationClass.{NotificationClass}
-use Rattle.coap_client.specs.declared.notice.NotificationClass.TheVariants as notice
-use Rattle.coap_client.specs.declared.observing.NotedMessage.{NotedMessage}
-use Rattle.coap_client.specs.declared.observing.Observer.{Observer}
-use Rattle.coap_client.specs.declared.watch.Observation.{Observation}
-use Rattle.coap_client.proofs.Failing.{unfit_notice}
+use Rattle.coap_observer.specs.declared.notice.NotificationClass.{NotificationClass}
+use Rattle.coap_observer.specs.declared.notice.NotificationClass.TheVariants as notice
+use Rattle.coap_observer.specs.declared.observing.NotedMessage.{NotedMessage}
+use Rattle.coap_observer.specs.declared.observing.Observer.{Observer}
+use Rattle.coap_observer.specs.declared.watch.Observation.{Observation}
+use Rattle.coap_observer.proofs.ObserverFailing.{unfit_notice}
 use Rattle.coap_client.proofs.Transmitting.{Calls, both, does_both, does_of}
 use Rattle.coap_msg.specs.Reading.{reading_of}
 use Rattle.coap_msg.specs.Wire.{Message}

@@ -1,5 +1,3 @@
-pub mod Segments
-pub mod Addressing
 pub mod Texts
 pub mod Lines
 pub mod Timing

@@ -5,25 +5,25 @@ use Rattle.std.proofs.KnownBytes.{Appends-nil, Appends-trans}
 use Rattle.coap_msg.specs.Reading.{reading_of}
 use Rattle.coap_msg.specs.Wire.{Message, message_bytes}
 use Rattle.coap_msg.specs.declared.code.Code.{Code}
-use Rattle.coap_client.proofs.Watching.{first_note, next_note, only_note}
+use Rattle.coap_observer.proofs.Watching.{first_note, next_note, only_note}
 use Rattle.coap_client.specs.Fetching.{Out, moved_on}
-use Rattle.coap_client.specs.Notices.{by_sequence, first_marks, is_first_part, is_last_part, notice_of, observe_request, sequence_of}
-use Rattle.coap_client.specs.Notes.{AreNotes, IsNextNote, IsRegistered, IsWatching, Note, Watches}
+use Rattle.coap_observer.specs.Notices.{by_sequence, first_marks, is_first_part, is_last_part, notice_of, observe_request, sequence_of}
+use Rattle.coap_observer.specs.Notes.{AreNotes, IsNextNote, IsRegistered, IsWatching, Note, Watches}
 use Rattle.coap_client.specs.Parts.{largest_szx}
 use Rattle.coap_client.specs.PeerCalls.{PeerCall}
 use Rattle.coap_client.specs.Replies.{is_success, is_understood, next_of_answer}
-use Rattle.coap_client.specs.Completions.{AreOutcomes, Joined, Missing, StateEnd, Superseded}
-use Rattle.coap_client.specs.Representations.{begun, state_of}
-use Rattle.coap_client.specs.declared.joining.Joining.{Joining}
-use Rattle.coap_client.specs.declared.notice.NotificationClass.TheVariants as notice
-use Rattle.coap_client.specs.declared.observing.NotedMessage.{NotedMessage}
-use Rattle.coap_client.specs.declared.observing.Observer.{Observer}
-use Rattle.coap_client.specs.declared.notice.ObserveOption.TheVariants.{Register}
+use Rattle.coap_observer.specs.Completions.{AreOutcomes, Joined, Missing, StateEnd, Superseded}
+use Rattle.coap_observer.specs.Representations.{begun, state_of}
+use Rattle.coap_observer.specs.declared.joining.Joining.{Joining}
+use Rattle.coap_observer.specs.declared.notice.NotificationClass.TheVariants as notice
+use Rattle.coap_observer.specs.declared.observing.NotedMessage.{NotedMessage}
+use Rattle.coap_observer.specs.declared.observing.Observer.{Observer}
+use Rattle.coap_observer.specs.declared.notice.ObserveOption.TheVariants.{Register}
 use Rattle.coap_client.specs.declared.part.Part.{Part}
 use Rattle.coap_client.specs.declared.part.Part.TheVariants.{Answer}
 use Rattle.coap_client.specs.declared.reply.Next.{Next}
 use Rattle.coap_client.specs.declared.reply.Next.TheVariants as next
-use Rattle.coap_client.specs.declared.watch.Observation.{Observation}
+use Rattle.coap_observer.specs.declared.watch.Observation.{Observation}
 use Rattle.fc_fetch.specs.declared.observer.ObservationEnd.{ObservationEnd}
 use Rattle.fc_fetch.specs.declared.observer.ObservationEnd.TheVariants.{Counted, Over, Last}
 use Rattle.fc_fetch.specs.declared.printer.Shown.{Shown}

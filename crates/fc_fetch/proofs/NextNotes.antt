@@ -1,10 +1,10 @@
 -- The notes of an observer with their calls, one after the other.
 use Rattle.std.proofs.Common.{◌≡◌, ◌+◌, ◌<◌, ℕ, Bool, false, List, Option, Some, None, take, is_none, is_some, ap, subst, sym, ◌∙◌}
 use Rattle.coap_client.specs.Transmissions.{MakesCalls}
-use Rattle.coap_client.specs.Completions.{Missing, Superseded}
-use Rattle.coap_client.specs.declared.observing.NotedMessage.{NotedMessage}
-use Rattle.coap_client.specs.declared.observing.Observer.{Observer}
-use Rattle.coap_client.specs.declared.watch.Observation.{Observation}
+use Rattle.coap_observer.specs.Completions.{Missing, Superseded}
+use Rattle.coap_observer.specs.declared.observing.NotedMessage.{NotedMessage}
+use Rattle.coap_observer.specs.declared.observing.Observer.{Observer}
+use Rattle.coap_observer.specs.declared.watch.Observation.{Observation}
 use Rattle.coap_client.proofs.Transmitting.{Calls}
 use Rattle.fc_fetch.specs.Observing.{AwaitsNext, AwaitsNote, EndsNotes, HasCalled, HasShown, IsBeforeNext, IsLineOrEnd, IsNextNoted, IsPending, IsRenderedAs, ObservesNotes}
 use Rattle.fc_fetch.specs.declared.observer.ObservationEnd.TheVariants.{Over}

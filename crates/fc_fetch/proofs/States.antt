@@ -1,14 +1,14 @@
 -- The rendering of a state of several blocks.
 use Rattle.std.proofs.Common.{◌≡◌, ℕ, true, List, length, Option, refl, sym, subst}
 use Rattle.coap_msg.specs.Wire.{Message}
-use Rattle.coap_client.specs.Completions.{AreOutcomes, IsCompletion, IsStateEnd, end_of, state_from}
+use Rattle.coap_observer.specs.Completions.{AreOutcomes, IsCompletion, IsStateEnd, end_of, state_from}
 use Rattle.coap_client.specs.Fetching.{State}
 use Rattle.coap_client.specs.PeerCalls.{PeerCall}
-use Rattle.coap_client.specs.Representations.{begun}
+use Rattle.coap_observer.specs.Representations.{begun}
 use Rattle.coap_client.specs.Transmissions.{MakesCalls}
-use Rattle.coap_client.specs.declared.joining.Completion.{Completion}
-use Rattle.coap_client.specs.declared.observing.Observer.{Observer}
-use Rattle.coap_client.specs.declared.watch.Observation.{Observation}
+use Rattle.coap_observer.specs.declared.joining.Completion.{Completion}
+use Rattle.coap_observer.specs.declared.observing.Observer.{Observer}
+use Rattle.coap_observer.specs.declared.watch.Observation.{Observation}
 use Rattle.coap_client.proofs.Transmitting.{Calls, does_of}
 use Rattle.fc_fetch.specs.Observing.{BeginsRest, IsOverAtRest, IsOverBy, IsRenderedBy, IsRenderingOf, IsStateRequested}
 use Rattle.fc_fetch.specs.Rendering.{Blocks, has_further}

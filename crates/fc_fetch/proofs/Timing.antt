@@ -2,20 +2,20 @@
 use Rattle.std.proofs.Common.{◌≡◌, ℕ, zero, suc, ◌+◌, ◌≤◌, ◌^◌, ◌⊎◌, inl, inr, Bool, true, false, if◌then◌else◌, List, [], ◌∷◌, ◌++◌, length, Option, Some, None, is_some, refl, sym, ap, subst, ◌∙◌, append_assoc, length-append, arith}
 use Rattle.std.specs.List.{All}
 use Rattle.std.proofs.lemmas.List.Elements.{All-append, All-cons, All-nil, filter-append}
-use Rattle.coap_client.specs.Faults.{EndsOnNotification}
+use Rattle.coap_observer.specs.ObserverFaults.{EndsOnNotification}
 use Rattle.coap_client.specs.Listening.{ArePassedOver, IsOver}
-use Rattle.coap_client.specs.ObserverCalls.{AwaitsNotification, Dated, IsDatedRegistration, IsObserving, IsRegistration, IsPassedOverWatching}
+use Rattle.coap_observer.specs.ObserverCalls.{AwaitsNotification, Dated, IsDatedRegistration, IsObserving, IsRegistration, IsPassedOverWatching}
 use Rattle.coap_client.specs.PeerCalls.{Adds, PeerCall, Reads, Receives, Waits}
-use Rattle.coap_client.specs.Completions.{BlockOutcome, IsFollowing, Joined, Missing, StateEnd, Superseded}
+use Rattle.coap_observer.specs.Completions.{BlockOutcome, IsFollowing, Joined, Missing, StateEnd, Superseded}
 use Rattle.coap_client.specs.Fetching.{State}
-use Rattle.coap_client.specs.Notes.{Note}
+use Rattle.coap_observer.specs.Notes.{Note}
 use Rattle.coap_client.specs.Schedules.{is_scheduled, schedule}
 use Rattle.coap_client.specs.Transmissions.{AreBehind, MakesCalls}
-use Rattle.coap_client.specs.declared.notice.NotificationClass.{NotificationClass}
-use Rattle.coap_client.specs.declared.observing.Observer.{Observer}
-use Rattle.coap_client.specs.declared.watch.Observation.{Observation}
-use Rattle.coap_client.proofs.ObserverCalls.{awaited_steps, observed, waiting_step}
-use Rattle.coap_client.proofs.Scheduled.{noted_quietly}
+use Rattle.coap_observer.specs.declared.notice.NotificationClass.{NotificationClass}
+use Rattle.coap_observer.specs.declared.observing.Observer.{Observer}
+use Rattle.coap_observer.specs.declared.watch.Observation.{Observation}
+use Rattle.coap_observer.proofs.ObserverCalls.{awaited_steps, observed, waiting_step}
+use Rattle.coap_observer.proofs.ObserverSchedules.{noted_quietly}
 use Rattle.coap_client.proofs.Transmitting.{Calls, Passes, does_both, does_nothing, does_of, does_then}
 use Rattle.fc_fetch.specs.declared.observer.ObservationEnd.{ObservationEnd}
 use Rattle.fc_fetch.specs.declared.observer.ObservationEnd.TheVariants.{Counted, Last, Over}

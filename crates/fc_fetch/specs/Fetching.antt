@@ -18,13 +18,13 @@ use Rattle.fc_cli.specs.Ending.{IsEnding}
 use Rattle.coap_msg.specs.Codes.{code_text}
 use Rattle.fc_cli.specs.declared.status.Status.{Status}
 use Rattle.fc_cli.specs.declared.status.Status.TheVariants.{Done, Refused, Bad, Failed}
-use Rattle.fc_fetch.specs.Addresses.{IsAddress, IsNoAddress}
+use Rattle.coap_uri.specs.Addresses.{IsAddress, IsNoAddress}
 use Rattle.fc_fetch.specs.Connecting.{IsDrawnId}
-use Rattle.fc_fetch.specs.Resources.{IsNoResource, IsResourceOf}
-use Rattle.fc_fetch.specs.declared.resource.ResourceError.TheVariants as resource_error
-use Rattle.fc_fetch.specs.declared.address.Address.{Address}
-use Rattle.fc_fetch.specs.declared.address.AddressError.{AddressError}
-use Rattle.fc_fetch.specs.declared.address.AddressError.TheVariants as address_error
+use Rattle.coap_uri.specs.Resources.{IsNoResource, IsResourceOf}
+use Rattle.coap_uri.specs.declared.resource.ResourceError.TheVariants as resource_error
+use Rattle.coap_uri.specs.declared.address.Address.{Address}
+use Rattle.coap_uri.specs.declared.address.AddressError.{AddressError}
+use Rattle.coap_uri.specs.declared.address.AddressError.TheVariants as address_error
 use Rattle.fc_fetch.specs.declared.client.FetchStop.{FetchStop}
 use Rattle.fc_fetch.specs.declared.client.FetchStop.TheVariants as stop
 use Rattle.coap_client.specs.declared.path.PathError.{PathError}

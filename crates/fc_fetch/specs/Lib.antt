@@ -1,5 +1,3 @@
-pub mod Addresses
-pub mod Resources
 pub mod Connecting
 pub mod Printing
 pub mod Fetching

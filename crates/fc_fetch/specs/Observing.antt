@@ -2,23 +2,24 @@
 use Rattle.std.specs.Prelude.{◌≡◌, ℕ, ◌+◌, ◌-◌, ◌*◌, ◌/◌, ◌<◌, ◌≤◌, ◌^◌, ◌⊎◌, ◌++◌, max, Bool, true, false, List, [], ◌∷◌, length, take, Ok, Option, Some, None, is_none, is_some, codes, if◌then◌else◌}
 use Rattle.std.specs.List.{All}
 use Rattle.std.specs.Io.KnownBytes.{Appends}
-use Rattle.coap_client.specs.Faults.{EndsOnNotification, IsLeavingFault, IsNewState, IsRegistrationFault, IsRejection, IsSilence, UnfitCame, deregistration_of, registration_of}
-use Rattle.coap_client.specs.Notes.{AreNotes, HasArrived, HasDeregistered, IsNextNote, IsResponseWith, IsWatching, Note, TellsObserver, Watches}
-use Rattle.coap_client.specs.Notices.{is_unobserved, notice_of, observe_request}
-use Rattle.coap_client.specs.ObserverCalls.{IsDatedRegistration, IsDeregistration, IsObserving}
+use Rattle.coap_observer.specs.ObserverFaults.{EndsOnNotification, IsLeavingFault, IsNewState, IsRegistrationFault, UnfitCame, deregistration_of, registration_of}
+use Rattle.coap_client.specs.Faults.{IsRejection, IsSilence}
+use Rattle.coap_observer.specs.Notes.{AreNotes, HasArrived, HasDeregistered, IsNextNote, IsResponseWith, IsWatching, Note, TellsObserver, Watches}
+use Rattle.coap_observer.specs.Notices.{is_unobserved, notice_of, observe_request}
+use Rattle.coap_observer.specs.ObserverCalls.{IsDatedRegistration, IsDeregistration, IsObserving}
 use Rattle.coap_client.specs.PeerCalls.{PeerCall, PeerError, Reads, Receives, Waits}
-use Rattle.coap_client.specs.Completions.{AreOutcomes, BlockOutcome, IsFollowing, IsStateEnd, Missing, StateEnd, Superseded, state_from}
+use Rattle.coap_observer.specs.Completions.{AreOutcomes, BlockOutcome, IsFollowing, IsStateEnd, Missing, StateEnd, Superseded, state_from}
 use Rattle.coap_client.specs.Fetching.{State}
-use Rattle.coap_client.specs.Representations.{IsFollowingFault, begun}
-use Rattle.coap_client.specs.declared.joining.Unfetched.{Unfetched}
+use Rattle.coap_observer.specs.Representations.{IsFollowingFault, begun}
+use Rattle.coap_observer.specs.declared.joining.Unfetched.{Unfetched}
 use Rattle.coap_client.specs.Schedules.{schedule}
 use Rattle.coap_client.specs.Transmissions.{AreBehind}
-use Rattle.coap_client.specs.declared.notice.ObserveOption.TheVariants.{Register}
-use Rattle.coap_client.specs.declared.notice.NotificationClass.{NotificationClass}
-use Rattle.coap_client.specs.declared.notice.NotificationClass.TheVariants as notice
-use Rattle.coap_client.specs.declared.observing.NotedMessage.{NotedMessage}
-use Rattle.coap_client.specs.declared.observing.Observer.{Observer}
-use Rattle.coap_client.specs.declared.watch.Observation.{Observation}
+use Rattle.coap_observer.specs.declared.notice.ObserveOption.TheVariants.{Register}
+use Rattle.coap_observer.specs.declared.notice.NotificationClass.{NotificationClass}
+use Rattle.coap_observer.specs.declared.notice.NotificationClass.TheVariants as notice
+use Rattle.coap_observer.specs.declared.observing.NotedMessage.{NotedMessage}
+use Rattle.coap_observer.specs.declared.observing.Observer.{Observer}
+use Rattle.coap_observer.specs.declared.watch.Observation.{Observation}
 use Rattle.coap_msg.specs.Reading.{reading_of}
 use Rattle.coap_msg.specs.Wire.{Message, message_bytes}
 use Rattle.fc_cli.specs.declared.status.Status.{Status}
@@ -33,10 +34,10 @@ use Rattle.coap_client.specs.declared.fetcher.FetchFault.TheVariants as fault
 use Rattle.std.specs.declared.net.socket_addr.SocketAddrV4.{SocketAddrV4}
 use Rattle.coap_client.specs.Transmissions.{MakesCalls}
 use Rattle.coap_client.specs.declared.client_request.ClientRequest.{ClientRequest}
-use Rattle.fc_fetch.specs.Addresses.{IsAddress}
+use Rattle.coap_uri.specs.Addresses.{IsAddress}
 use Rattle.fc_fetch.specs.Connecting.{IsDrawnId}
-use Rattle.fc_fetch.specs.Resources.{IsResourceOf}
-use Rattle.fc_fetch.specs.declared.address.Address.{Address}
+use Rattle.coap_uri.specs.Resources.{IsResourceOf}
+use Rattle.coap_uri.specs.declared.address.Address.{Address}
 use Rattle.fc_fetch.specs.declared.observer.Observing.{Observing}
 use Rattle.fc_fetch.specs.declared.observer.NotesError.{NotesError}
 use Rattle.fc_fetch.specs.declared.observer.NotesError.TheVariants as notes_error

@@ -10,10 +10,10 @@ use Rattle.coap_client.specs.Transmissions.{MakesCalls}
 use Rattle.coap_client.specs.declared.fetcher.FetchFault.{FetchFault}
 use Rattle.fc_cli.specs.declared.status.Status.{Status}
 use Rattle.fc_cli.specs.declared.status.Status.TheVariants.{Done}
-use Rattle.fc_fetch.specs.Addresses.{IsAddress, IsNoAddress}
+use Rattle.coap_uri.specs.Addresses.{IsAddress, IsNoAddress}
 use Rattle.fc_fetch.specs.Connecting.{IsDrawnId}
 use Rattle.fc_fetch.specs.Fetching.{HasStopped, IsUnconnected}
-use Rattle.fc_fetch.specs.declared.address.Address.{Address}
+use Rattle.coap_uri.specs.declared.address.Address.{Address}
 use Rattle.fc_fetch.specs.declared.client.FetchStop.{FetchStop}
 use Rattle.fc_fetch.specs.declared.client.FetchStop.TheVariants as stop
 use Rattle.fc_fetch.specs.declared.ping.Pinging.{Pinging}

@@ -1,14 +1,14 @@
 -- The rendering of an observer's notes: a line of output, a line on standard error, or none.
 use Rattle.std.specs.Prelude.{◌≡◌, ℕ, ◌+◌, ◌%◌, ◌++◌, map, Bool, true, false, List, [], ◌∷◌, length, Ok, Option, codes, if◌then◌else◌}
-use Rattle.coap_client.specs.Completions.{AreOutcomes, BlockOutcome, IsStateEnd, Joined, Missing, StateEnd, Superseded, id_after, state_from}
-use Rattle.coap_client.specs.Notes.{AreNotes, IsWatching, Note}
-use Rattle.coap_client.specs.Notices.{is_first_part}
+use Rattle.coap_observer.specs.Completions.{AreOutcomes, BlockOutcome, IsStateEnd, Joined, Missing, StateEnd, Superseded, id_after, state_from}
+use Rattle.coap_observer.specs.Notes.{AreNotes, IsWatching, Note}
+use Rattle.coap_observer.specs.Notices.{is_first_part}
 use Rattle.coap_client.specs.Parts.{largest_szx}
 use Rattle.coap_client.specs.Replies.{next_of_answer}
-use Rattle.coap_client.specs.Representations.{begun, unfetched_text}
-use Rattle.coap_client.specs.declared.joining.Unfetched.{Unfetched}
-use Rattle.coap_client.specs.declared.observing.Observer.{Observer}
-use Rattle.coap_client.specs.declared.watch.Observation.{Observation}
+use Rattle.coap_observer.specs.Representations.{begun, unfetched_text}
+use Rattle.coap_observer.specs.declared.joining.Unfetched.{Unfetched}
+use Rattle.coap_observer.specs.declared.observing.Observer.{Observer}
+use Rattle.coap_observer.specs.declared.watch.Observation.{Observation}
 use Rattle.coap_msg.specs.Codes.{code_text}
 use Rattle.coap_msg.specs.Reading.{reading_of}
 use Rattle.coap_msg.specs.Wire.{Message}

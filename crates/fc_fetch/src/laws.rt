@@ -1,32 +1,26 @@
 //! Laws about the definitions.
 //!
 //! Each law is the contract of an empty function.
-ghost use Rattle.std.specs.Prelude.{◌≡◌, ◌⊎◌, ◌+◌, ◌++◌, ◌<◌, ◌≤◌, ◌^◌, ℕ, [], ◌∷◌, List, None, Ok, Option, Some, codes, false, length, true};
-ghost use Rattle.std.specs.List.{All, after_first, before_first};
-ghost use Rattle.std.specs.Net.Addr.{ipv4_octets};
-ghost use Rattle.std.specs.Net.Socket.{v4_ip, v4_port};
+ghost use Rattle.std.specs.Prelude.{◌≡◌, ◌+◌, ◌++◌, ◌<◌, ◌≤◌, ◌^◌, ℕ, [], ◌∷◌, List, None, Ok, Option, Some, codes, false, length, true};
+ghost use Rattle.std.specs.List.{All};
 ghost use Rattle.clap.specs.Matches.{first_value};
 ghost use Rattle.clap.specs.declared.parser.matches.Found.{Found};
-ghost use Rattle.url.specs.Parts.{Parts};
 ghost use Rattle.coap_opts.specs.declared.request.Method.{Method};
 ghost use Rattle.coap_opts.specs.declared.request.Method.TheVariants.{Delete, Get, Post, Put};
-ghost use Rattle.fc_fetch.specs.Addresses.{HasParts, IsNoAddress, IsNoUri, is_question, plain_pieces};
-ghost use Rattle.fc_fetch.specs.declared.address.AddressError.{AddressError};
-ghost use Rattle.fc_fetch.specs.declared.address.AddressError.TheVariants.{NoMemory, NoPort, TwoPorts};
 ghost use Rattle.fc_fetch.specs.Operations.{IsFormatNamed, IsOperationError, body_at};
 ghost use Rattle.fc_fetch.specs.declared.operation.OperationError.TheVariants.{Missing};
 ghost use Rattle.fc_fetch.specs.declared.operation.BodySource.TheVariants as source;
-ghost use Rattle.coap_client.specs.Completions.{BlockOutcome, IsFollowing, Joined, Missing, StateEnd, Superseded, following_id, state_from};
+ghost use Rattle.coap_observer.specs.Completions.{BlockOutcome, IsFollowing, Joined, Missing, StateEnd, Superseded, following_id, state_from};
 ghost use Rattle.coap_client.specs.Fetching.{Ended};
-ghost use Rattle.coap_client.specs.Notices.{notice_of};
+ghost use Rattle.coap_observer.specs.Notices.{notice_of};
 ghost use Rattle.coap_client.specs.PeerCalls.{PeerCall, Reads, Waits};
-ghost use Rattle.coap_client.specs.declared.notice.NotificationClass.TheVariants as notice;
-ghost use Rattle.coap_client.specs.Representations.{begun};
+ghost use Rattle.coap_observer.specs.declared.notice.NotificationClass.TheVariants as notice;
+ghost use Rattle.coap_observer.specs.Representations.{begun};
 ghost use Rattle.coap_client.specs.Schedules.{schedule};
 ghost use Rattle.coap_client.specs.declared.fetcher.FetchFault.{FetchFault};
-ghost use Rattle.coap_client.specs.declared.observing.Observer.{Observer};
-ghost use Rattle.coap_client.specs.Notes.{IsAfter, Note};
-ghost use Rattle.coap_client.specs.declared.watch.Observation.{Observation};
+ghost use Rattle.coap_observer.specs.declared.observing.Observer.{Observer};
+ghost use Rattle.coap_observer.specs.Notes.{IsAfter, Note};
+ghost use Rattle.coap_observer.specs.declared.watch.Observation.{Observation};
 ghost use Rattle.coap_msg.specs.Reading.{reading_of};
 ghost use Rattle.coap_msg.specs.Wire.{Message};
 ghost use Rattle.coap_msg.specs.declared.code.Code.{Code};
@@ -35,35 +29,12 @@ ghost use Rattle.fc_fetch.specs.Fetching.{ending_of};
 ghost use Rattle.fc_fetch.specs.Observing.{IsEnd, IsRenderedBy, IsStoppedBy, IsStoppedJoining, IsTimedObservation, IsWaitedFor, ObservesNotes, lines_wanted, rest_wait};
 ghost use Rattle.fc_fetch.specs.Rendering.{AreRendered, AreWhole, Blocks, IsRendering, RenderedNote, Rendering, Whole, errors_text, has_line, ids_after, lines_in, missing_text, notes_text, rendered_error};
 ghost use Rattle.fc_fetch.specs.declared.printer.Shown.TheVariants.{Text};
-ghost use Rattle.coap_client.specs.declared.joining.Unfetched.{Unfetched};
-ghost use Rattle.coap_client.specs.declared.joining.Unfetched.TheVariants.{Changed};
+ghost use Rattle.coap_observer.specs.declared.joining.Unfetched.{Unfetched};
+ghost use Rattle.coap_observer.specs.declared.joining.Unfetched.TheVariants.{Changed};
 ghost use Rattle.fc_fetch.specs.declared.observer.ObservationEnd.{ObservationEnd};
 ghost use Rattle.fc_fetch.specs.declared.observer.ObservationEnd.TheVariants.{Counted, Last, Over};
-ghost use Rattle.fc_fetch.specs.declared.address.Address.{Address};
 
 use coap_client::Peer;
-
-/// A URI without a port has port 5683 (RFC 7252, section 6.1).
-pub fn a_uri_without_a_port_is_of_port_5683()
-    ensures { (uri : Parts) (a : Address) → HasParts uri a → uri.port ≡ None → v4_port a.server ≡ 5683 }
-{}
-
-/// `localhost` is 127.0.0.1, and no other address.
-pub fn localhost_is_one_address()
-    ensures { (uri : Parts) (a : Address) (h : HasParts uri a) → h.name ≡ codes "localhost"
-        → ipv4_octets (v4_ip a.server) ≡ 127 ∷ 0 ∷ 0 ∷ 1 ∷ [] }
-{}
-
-/// A path is given with a port, and a URI without one.
-///
-/// `/r/1` and `/a://b` are paths, and `coap://[::1]/r/1` is a URI.
-pub fn a_path_has_a_port_and_a_uri_has_none()
-    ensures path { (error : AddressError) → IsNoAddress (codes "/r/1") None error → error ≡ NoPort }
-    ensures slashed { (error : AddressError) → IsNoAddress (codes "/a://b") None error → error ≡ NoPort }
-    ensures with_port { (error : AddressError) → IsNoAddress (codes "/a://b") (Some 7) error → error ≡ NoMemory }
-    ensures uri { (error : AddressError) → IsNoAddress (codes "coap://[::1]/r/1") (Some 7) error → error ≡ TwoPorts }
-    ensures alone { (error : AddressError) → IsNoAddress (codes "coap://[::1]/r/1") None error → IsNoUri (codes "coap://[::1]/r/1") error }
-{}
 
 /// The waits of an observation, with and without `--seconds`.
 ///
@@ -172,16 +143,6 @@ pub fn each_note_is_rendered_once()
     ensures missing { (n : Note) (first : ℕ) (w : Observation) (outcomes : List BlockOutcome)
         → let r : RenderedNote = record { note = n; rendering = Blocks first w outcomes (Missing Changed) } in
         (notes_text Text (r ∷ []) ≡ []) × ((errors_text (r ∷ []) ≡ codes "a state isn't printed: it changed while its blocks were fetched" ++ (10 ∷ [])) × (lines_in (r ∷ []) ≡ 0)) }
-{}
-
-/// In a path at a port, the path ends before the first `?`.
-///
-/// After the `?`, `&` separates the arguments of the query. `/r/1?a=1&b?` is the path `/r/1` with
-/// the arguments `a=1` and `b?`.
-pub fn a_path_ends_at_its_query()
-    ensures path { before_first is_question (codes "/r/1?a=1&b?") ≡ codes "/r/1" }
-    ensures query { plain_pieces 38 (after_first is_question (codes "/r/1?a=1&b?")) ≡ codes "a=1" ∷ codes "b?" ∷ [] }
-    ensures none { plain_pieces 38 (after_first is_question (codes "/r/1")) ≡ [] }
 {}
 
 /// `ping` has all words that it needs, and so has `observe` with a target.

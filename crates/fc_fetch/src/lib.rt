@@ -1,5 +1,7 @@
 //! The client: command line, requests, observations, pings and their output.
 //!
+//! The server and the resource of a target are read by `coap_uri`.
+//!
 //! # What is proved
 //!
 //! - The operation of a command line, from the words that clap found. A request has a method, a
@@ -26,18 +28,7 @@
 //!   random bytes, for `--count` lines and `--seconds` seconds. Otherwise it stops for a reason of
 //!   the same kind. If the reason is a failed observation, the deregistration is as described
 //!   below.
-//! - The server and the resource of a target. A target is a path with its query, without escapes,
-//!   at a port of this host, or a URI of the scheme coap, read as the URL Standard says. A URI
-//!   gives the host, the port, the segments of its path and the arguments of its query, each with
-//!   its escapes decoded (RFC 7252, section 6.4). Such a URI has no user, no password, no fragment,
-//!   and no slash in a segment. Without a port it has port 5683, and `localhost` is 127.0.0.1.
-//! - A text with `://` that doesn't begin with a slash is read as a URI, and any other as a path. A
-//!   text that is no address is reported with the first of these faults that it has. It is a path
-//!   without a port, or a URI with a port. It is no URI, or is a URI of another scheme. It has
-//!   other parts. Its host is no IPv4 address. An escaped slash is in its path.
 //! - The printed form of a response, in hex or as text. The client is done only at a success.
-//! - An argument of a query has at most 255 bytes. A target that names no resource has a bad path
-//!   or a longer argument.
 //! - An observer renders each note of a list, once, and writes nothing else. Its registration was
 //!   sent, and each note came with its token. Each state is newer than the one before it (RFC 7641,
 //!   section 3.4). No message is a duplicate, by its message ID within 247 s, of one before it.
@@ -78,12 +69,11 @@
 //!   [`System`] connects and draws as documented.
 //!
 //! By the contracts of `operation_of`, `Asking::at_terminal`, `asking::ask_by`,
-//! `address::Address::parse`, `resource_of`, `printer::write_answer`, `write_note`,
-//! `client::fetch_by`, `fetch_to_by`, `fetch_from`, `ping::ping_by`, `body_of`, `print_answer`,
-//! `observer::observe_by`, `print_notes`, `print_to_end`; `laws`.
+//! `printer::write_answer`, `write_note`, `client::fetch_by`, `fetch_to_by`, `fetch_from`,
+//! `ping::ping_by`, `body_of`, `print_answer`, `observer::observe_by`, `print_notes`,
+//! `print_to_end`; `laws`.
 #![tactic(auto)]
 
-pub mod address;
 pub mod asking;
 pub mod client;
 pub mod connector;
@@ -94,7 +84,6 @@ pub mod operation;
 pub mod ping;
 pub mod printer;
 mod rendering;
-pub mod resource;
 mod waits;
 
 pub use client::{FetchOptions, fetch};

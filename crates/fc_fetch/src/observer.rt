@@ -4,7 +4,7 @@
 //! system's sockets. [`observe_by`] uses any [`Connector`], and has the contract.
 ghost use Rattle.std.specs.Prelude.{◌≡◌, ◌≤◌, IfErr, IfOk, OnErr, OnOk};
 ghost use Rattle.std.specs.Io.KnownBytes.{Appends};
-ghost use Rattle.coap_client.specs.Faults.{IsLeavingFault, deregistration_of};
+ghost use Rattle.coap_observer.specs.ObserverFaults.{IsLeavingFault, deregistration_of};
 ghost use Rattle.coap_client.specs.Transmissions.{MakesCalls};
 ghost use Rattle.fc_fetch.specs.Observing.{HasEnded, HasLeft, HasShown, IsEndFault, IsClientRequestStop, IsFirstBy, IsFirstFault, IsFirstShown, IsLeaving, IsNotesFault, IsObserveStop, IsObserved, IsObservedAt, IsObservedIn, IsTimedObservation, IsToldEnd, LeavesAtFault, ObservesToEnd, lines_wanted, unfit_error, unobserved_text};
 ghost use Rattle.fc_fetch.specs.Observing as spec;
@@ -15,13 +15,12 @@ use crate::connector::{Connector, System};
 use crate::printer::{PrintError, Shown, write_note};
 use crate::rendering::print_line;
 use crate::waits::{TimeLimit, begin_wait, first_wait, time};
-use coap_client::notice::{is_unobserved, notice_of};
-use coap_client::observing::TOKEN;
 use coap_client::peer::{BUFFER, Buffer};
-use coap_client::{
-    ClientRequest, FetchFault, NotedMessage, NotificationClass, Observation, Observer, Peer,
-};
+use coap_client::{ClientRequest, FetchFault, Peer};
 use coap_msg::{Code, Datagram, Message, read};
+use coap_observer::notice::{is_unobserved, notice_of};
+use coap_observer::observing::TOKEN;
+use coap_observer::{NotedMessage, NotificationClass, Observation, Observer};
 use coap_opts::Method;
 use fc_cli::status::{Status, tell};
 use std::alloc::{AllocError, Global};

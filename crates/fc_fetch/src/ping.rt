@@ -2,10 +2,10 @@
 ghost use Rattle.std.specs.Prelude.{◌≡◌, IfErr, IfOk, OnOk};
 ghost use Rattle.fc_fetch.specs.Pinging.{HasEndedPing, IsNoEndpoint, IsPingEndpoint, IsPingStop, IsPingedAt, names_resource};
 
-use crate::address::Address;
 use crate::client::{FetchStop, connect, first_id};
 use crate::connector::{Connector, System};
 use coap_client::ping::ping as ping_peer;
+use coap_uri::address::Address;
 use fc_cli::status::{Status, tell};
 use std::alloc::Global;
 use std::io::Write;

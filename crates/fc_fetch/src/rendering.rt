@@ -3,7 +3,7 @@
 //! The blocks of a state of several blocks are joined before it is printed.
 ghost use Rattle.std.specs.Prelude.{◌≡◌, ℕ, IfErr, IfOk, IfSome, None, OnErr, OnOk, true, take};
 ghost use Rattle.std.specs.Io.KnownBytes.{Appends};
-ghost use Rattle.coap_client.specs.Representations.{IsBegun, begun, state_of};
+ghost use Rattle.coap_observer.specs.Representations.{IsBegun, begun, state_of};
 ghost use Rattle.coap_client.specs.Requests.{IsBlock};
 ghost use Rattle.coap_client.specs.Transmissions.{MakesCalls};
 ghost use Rattle.coap_msg.specs.Reading.{reading_of};
@@ -15,10 +15,9 @@ use crate::observer::{NotesError, ObservationEnd};
 use crate::printer::{PrintError, Shown, write_note};
 use crate::waits::{TimeLimit, await_note, begin_rest};
 use coap_client::peer::Buffer;
-use coap_client::{
-    Completion, FetchFault, Joining, NotedMessage, Observation, Observer, Peer, Unfetched,
-};
+use coap_client::{FetchFault, Peer};
 use coap_msg::{Message, read};
+use coap_observer::{Completion, Joining, NotedMessage, Observation, Observer, Unfetched};
 use std::alloc::Global;
 use std::io;
 use std::io::Write;

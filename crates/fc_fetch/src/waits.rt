@@ -1,14 +1,15 @@
 //! The waits of an observer: for its next note, and how long.
 ghost use Rattle.std.specs.Prelude.{◌≡◌, ◌∷◌, [], IfErr, IfOk, OnOk, is_none};
 ghost use Rattle.coap_client.specs.Faults.{IsOfPeer};
-ghost use Rattle.coap_client.specs.Notes.{Watches};
+ghost use Rattle.coap_observer.specs.Notes.{Watches};
 ghost use Rattle.coap_client.specs.PeerCalls.{Adds, Reads, Waits};
 ghost use Rattle.coap_client.specs.Transmissions.{MakesCalls};
 ghost use Rattle.fc_fetch.specs.Observing.{AwaitsNote, BeginsRest, IsAwaitFault};
 ghost use Rattle.fc_fetch.specs.Observing as spec;
 
 use coap_client::peer::Buffer;
-use coap_client::{FetchFault, NotedMessage, Observation, Observer, Peer};
+use coap_client::{FetchFault, Peer};
+use coap_observer::{NotedMessage, Observation, Observer};
 
 /// Length of each wait of an observation without a time limit, in seconds: a day.
 const DAY: u64 = 86_400;

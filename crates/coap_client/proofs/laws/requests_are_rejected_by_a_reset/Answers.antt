@@ -1,7 +1,7 @@
 use Rattle.std.proofs.Common.{true}
 use Rattle.coap_client.specs.Handled.{Tells}
 use Rattle.coap_client.proofs.Scheduled.{rejected}
-use Rattle.coap_client.proofs.Resets.{reset_leaving, reset_registering, reset_requesting}
+use Rattle.coap_client.proofs.Resets.{reset_requesting}
 use Rattle.coap_client.proofs.laws.requests_are_rejected_by_a_reset.Goals as goal
 
 pub returns-clause-reset : goal.returns-clause-reset
@@ -9,9 +9,3 @@ returns-clause-reset c = λ confirmable id earlier request calls s. reset_reques
 
 pub returns-clause-schedule : goal.returns-clause-schedule
 returns-clause-schedule c = λ id earlier m calls coded s. rejected m coded (Tells true id earlier) calls s
-
-pub returns-clause-registration : goal.returns-clause-registration
-returns-clause-registration c = λ token id request calls s. reset_registering token id request calls s
-
-pub returns-clause-deregistration : goal.returns-clause-deregistration
-returns-clause-deregistration c = λ token id request calls s. reset_leaving token id request calls s

@@ -1,6 +1,6 @@
 use Rattle.std.proofs.Common.{◌≡◌, ℕ, inl, inr, [], ◌∷◌, List, Some, subst}
-use Rattle.coap_client.specs.Notices.{notice_of}
-use Rattle.coap_client.specs.declared.notice.NotificationClass.TheVariants as notice
+use Rattle.coap_observer.specs.Notices.{notice_of}
+use Rattle.coap_observer.specs.declared.notice.NotificationClass.TheVariants as notice
 use Rattle.fc_fetch.specs.Observing.{IsAtFirst, IsState, IsWaitedFor}
 use Rattle.fc_fetch.specs.Rendering.{RenderedNote}
 use Rattle.fc_fetch.specs.declared.observer.ObservationEnd.{ObservationEnd}

@@ -1,7 +1,7 @@
 use Rattle.std.proofs.Common.{refl, subst, sym}
 use Rattle.coap_client.proofs.Failing.{raised}
 use Rattle.fc_fetch.specs.Observing.{IsClientRequestStop, IsObserveStop, IsObservedAt, IsObservedIn}
-use Rattle.fc_fetch.specs.Resources.{IsResourceOf}
+use Rattle.coap_uri.specs.Resources.{IsResourceOf}
 use Rattle.fc_fetch.proofs.Asked.{err_of, nothing_named, observed_client_request, observed_nothing, ok_of}
 use Rattle.fc_fetch.proofs.observer.observe_to_end.Goals as goal
 

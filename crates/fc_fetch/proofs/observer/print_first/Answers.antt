@@ -1,5 +1,5 @@
 use Rattle.std.proofs.Common.{ap, take, sym, refl, ◌∙◌}
-use Rattle.coap_client.specs.declared.notice.NotificationClass.TheVariants as notice
+use Rattle.coap_observer.specs.declared.notice.NotificationClass.TheVariants as notice
 use Rattle.coap_client.proofs.Failing.{raised}
 use Rattle.coap_client.specs.Transmissions.{MakesCalls}
 use Rattle.fc_fetch.specs.declared.observer.NotesError.TheVariants as notes_error

@@ -2,10 +2,10 @@ use Rattle.std.proofs.Common.{◌≡◌, ℕ, List, take, true, refl, subst}
 use Rattle.std.specs.Io.KnownBytes.{Appends}
 use Rattle.std.proofs.KnownBytes.{Appends-nil}
 use Rattle.coap_client.proofs.Failing.{raised}
-use Rattle.coap_client.specs.Completions.{IsCompletion, Joined, Missing, Superseded}
-use Rattle.coap_client.specs.Representations.{begun, state_of}
+use Rattle.coap_observer.specs.Completions.{IsCompletion, Joined, Missing, Superseded}
+use Rattle.coap_observer.specs.Representations.{begun, state_of}
 use Rattle.coap_client.specs.Transmissions.{MakesCalls}
-use Rattle.coap_client.specs.declared.joining.Completion.TheVariants as completion
+use Rattle.coap_observer.specs.declared.joining.Completion.TheVariants as completion
 use Rattle.coap_msg.specs.Wire.{Message}
 use Rattle.fc_fetch.specs.Observing.{IsRenderFault}
 use Rattle.fc_fetch.specs.Rendering.{Blocks, has_further, note_text}

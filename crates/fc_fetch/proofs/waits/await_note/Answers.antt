@@ -1,6 +1,6 @@
 use Rattle.std.proofs.Common.{None, false, true, refl, subst, ◌∙◌, arith}
-use Rattle.coap_client.specs.Notes.{Watches}
-use Rattle.coap_client.specs.ObserverCalls.{AwaitsNotification, IsPassedOverWatching, noted_in}
+use Rattle.coap_observer.specs.Notes.{Watches}
+use Rattle.coap_observer.specs.ObserverCalls.{AwaitsNotification, IsPassedOverWatching, noted_in}
 use Rattle.coap_client.specs.Transmissions.{MakesCalls}
 use Rattle.coap_client.proofs.Failing.{raised}
 use Rattle.fc_fetch.specs.Observing.{IsAwaitFault}
