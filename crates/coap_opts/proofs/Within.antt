@@ -18,7 +18,7 @@ use Rattle.coap_opts.specs.declared.request.Action.{Action}
 use Rattle.coap_opts.specs.declared.request.Action.TheVariants as actions
 use Rattle.coap_opts.specs.Path.{method_of}
 use Rattle.coap_opts.specs.Values.{Place, place_in, uint_value}
-use Rattle.coap_opts.specs.Verdict.{Asked, IsAsked, IsRefused, IsSilent, IsReset, IsSignal, IsIgnored, Verdict, asked, accepted, resource, verdict, verdict_by, request_verdict, verdict_by_check, refusal_verdict, refusal_code, action, checks, asked_with, first_failing, first_of, is_request, is_reserved, has_bad_value, query, values, number_in, block_in, etags, observe_at}
+use Rattle.coap_opts.specs.Verdict.{Asked, IsAsked, IsRefused, IsSilent, IsReset, IsSignal, IsIgnored, Verdict, asked, accepted, resource, verdict, verdict_by, request_verdict, verdict_by_check, refusal_verdict, refusal_code, action, checks, asked_with, first_failing, first_of, is_request, is_reserved, has_bad_value, query, values, etags, observe_at}
 use Rattle.coap_opts.specs.Classified.{IsErrorCode}
 use Rattle.coap_opts.specs.Fields.{IsMadeOf, method_in, IsAskedWithin, IsBlockFor, is_get}
 use Rattle.coap_opts.specs.Served.{action_of, resource_in}
@@ -75,6 +75,13 @@ made_by m r (Some found) e h =
       method_is = parts.method;
       resource_is = parts.resource;
       path_is = (path_only (values option.URI_PATH m) (resource_in found) parts.resource).0;
+      query_is = refl;
+      content_format_is = refl;
+      etags_are = refl;
+      observe_is = refl;
+      block1_is = refl;
+      block2_is = refl;
+      payload_is = refl;
       request_is = refl;
     })
 
@@ -144,22 +151,18 @@ fields_within m r made p =
     let sizes = or_false _ _ good.0 in
     let in_get : m.code ≡ GET.byte → method ≡ Get = λ c. method_is m method Get GET.byte made.method_is c refl in
     let in_put : m.code ≡ PUT.byte → method ≡ Put = λ c. method_is m method Put PUT.byte made.method_is c refl in
-    let query_is : r.query ≡ query m = ap (λ (q : Asked). q.query) made.request_is in
     let etags_are : r.etags ≡ etags m = ap (λ (q : Asked). q.etags) made.request_is in
-    let observe_is : r.observe ≡ observe_at r.action (number_in option.OBSERVE m) = ap (λ (q : Asked). q.observe) made.request_is in
-    let block1_is : r.block1 ≡ block_in option.BLOCK1 m = ap (λ (q : Asked). q.block1) made.request_is in
-    let block2_is : r.block2 ≡ block_in option.BLOCK2 m = ap (λ (q : Asked). q.block2) made.request_is in
     record {
       method = made.method_is;
       resource = (path_only (values option.URI_PATH m) (resource_in r.action) made.resource_is).1;
       served = action_served r.action;
-      query = rw query_is (ltb-false 64 (length (query m)) good.1);
-      etags = rw etags_are (at_most 4 _);
-      etags_in_get = λ n. etags_are ∙ no_tags method (values option.ETAG m) (λ v h. in_get (etag_in_get m v h)) n;
-      observe = rw observe_is (observe_by r.action (first_of (values option.OBSERVE m)) (λ v h. in_get (observe_in_get m v h)));
-      block1 = rw block1_is (block_by Put method (first_of (values option.BLOCK1 m)) sizes.0 (λ v h. in_put (block1_in_put m v h)));
-      block2 = rw block2_is (block_by Get method (first_of (values option.BLOCK2 m)) sizes.1 (λ v h. in_get (block2_in_get m v h)));
-      payload_is = ap (λ (q : Asked). q.payload) made.request_is;
+      query = rw made.query_is (ltb-false 64 (length (query m)) good.1);
+      etags = rw made.etags_are (at_most 4 _);
+      etags_in_get = λ n. made.etags_are ∙ no_tags method (values option.ETAG m) (λ v h. in_get (etag_in_get m v h)) n;
+      observe = rw made.observe_is (observe_by r.action (first_of (values option.OBSERVE m)) (λ v h. in_get (observe_in_get m v h)));
+      block1 = rw made.block1_is (block_by Put method (first_of (values option.BLOCK1 m)) sizes.0 (λ v h. in_put (block1_in_put m v h)));
+      block2 = rw made.block2_is (block_by Get method (first_of (values option.BLOCK2 m)) sizes.1 (λ v h. in_get (block2_in_get m v h)));
+      payload_is = made.payload_is;
       short = ltb-false 1024 (length m.payload) p.payload;
     }
 

@@ -7,7 +7,7 @@ use Rattle.coap_opts.specs.declared.request.Method.{Method}
 use Rattle.coap_opts.specs.declared.request.Method.TheVariants.{Get, Post, Put, Delete}
 use Rattle.coap_opts.specs.Path.{method_of}
 use Rattle.coap_opts.specs.Served.{resource_in, action_of}
-use Rattle.coap_opts.specs.Verdict.{Asked, asked_with, resource, values}
+use Rattle.coap_opts.specs.Verdict.{Asked, asked_with, block_in, etags, number_in, observe_at, query, resource, values}
 use Rattle.std.specs.Fmt.{decimal}
 use Rattle.coap_opts.specs.declared.request.Resource.{Resource}
 use Rattle.coap_opts.specs.declared.request.Resource.TheVariants.{Run, Program, Core}
@@ -43,12 +43,19 @@ method_code Post = 2
 method_code Put = 3
 method_code Delete = 4
 
--- the method is that of the message's code, the resource is that of its Uri-Path, and each other
--- field is the message's.
+-- the method is that of the message's code, the resource is that of its Uri-Path, and the payload
+-- is the message's; each other field is the value of the options with one number.
 pub record IsMadeOf (m : Message) (r : Asked) : Type 0 where
   pub method_is : method_of m.code ≡ Some (method_in r.action)
   pub resource_is : resource m ≡ Some (resource_in r.action)
   pub path_is : values option.URI_PATH m ≡ path_of (resource_in r.action)
+  pub query_is : r.query ≡ query m
+  pub content_format_is : r.content_format ≡ number_in option.CONTENT_FORMAT m
+  pub etags_are : r.etags ≡ etags m
+  pub observe_is : r.observe ≡ observe_at r.action (number_in option.OBSERVE m)
+  pub block1_is : r.block1 ≡ block_in option.BLOCK1 m
+  pub block2_is : r.block2 ≡ block_in option.BLOCK2 m
+  pub payload_is : r.payload ≡ m.payload
   pub request_is : r ≡ asked_with r.action m
 
 -- the action is a GET of a resource that a program serves.

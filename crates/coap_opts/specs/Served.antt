@@ -11,11 +11,11 @@ use Rattle.coap_opts.specs.declared.request.Resource.TheVariants.{Run, Program, 
 use Rattle.coap_opts.specs.declared.request.Action.{Action}
 use Rattle.coap_opts.specs.declared.request.Action.TheVariants as actions
 
--- an option that may occur once.
+-- a row of an option that may occur once, for the law `options_are_recognised`.
 abbrev pub once : ℕ → ℕ → ℕ → Option Code → Row
 once number least greatest only = record { number = number; least = least; greatest = greatest; repeatable = false; only = only }
 
--- an option that may occur more than once.
+-- a row of an option that may occur more than once, for the law `options_are_recognised`.
 abbrev pub repeatable : ℕ → ℕ → ℕ → Option Code → Row
 repeatable number least greatest only = record { number = number; least = least; greatest = greatest; repeatable = true; only = only }
 

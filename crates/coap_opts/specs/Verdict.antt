@@ -92,7 +92,8 @@ asked_with action m = record {
 unfoldable pub asked : Message → Option Asked
 asked m = action m >>= λ action. Some (asked_with action m)
 
--- the request that the code returns, by value, without the borrow of its payload.
+-- the request that the code returns, by value, without the borrow of its payload. The contracts of
+-- the classifier use it; the verdict doesn't.
 abbrev pub asked_by : Request → Asked
 asked_by r = record {
   action = r.action;

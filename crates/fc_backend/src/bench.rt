@@ -81,7 +81,7 @@ pub trait Bench {
     /// Handles a datagram, at a time in milliseconds.
     ///
     /// A job is written over `job`, a response over `reply`. The result says which of the two was
-    /// written, if either was. See [`Front::handle`](fc_core::Front::handle).
+    /// written, if either was. See [`Front::handle`](fc_front::Front::handle).
     fn handle<R: Wait>(
         &self,
         rt: &R,
@@ -97,13 +97,13 @@ pub trait Bench {
 
     /// Advances the front to a time in milliseconds.
     ///
-    /// See [`Front::tick`](fc_core::Front::tick).
+    /// See [`Front::tick`](fc_front::Front::tick).
     fn tick<R: Wait>(&self, rt: &R, now: u64, log: &mut TrackLog<Self::Book>)
         ensures { logged (AdvancesFront now) log.old log.new };
 
     /// Fires the timer of a slot, at a time in milliseconds. Its job is written over `job`.
     ///
-    /// See [`Front::fire`](fc_core::Front::fire).
+    /// See [`Front::fire`](fc_front::Front::fire).
     fn fire<R: Wait>(
         &self,
         rt: &R,
@@ -117,7 +117,7 @@ pub trait Bench {
 
     /// Draws a message ID of the server's own, at a time in milliseconds.
     ///
-    /// Returns `None` if none is available. See [`Front::fresh_id`](fc_core::Front::fresh_id).
+    /// Returns `None` if none is available. See [`Front::fresh_id`](fc_front::Front::fresh_id).
     fn fresh_id<R: Wait>(&self, rt: &R, now: u64, log: &mut TrackLog<Self::Book>) -> Option<u16>
         ensures drawn { IsSomeDraw now result }
         ensures logged { logged (DrawsId now result) log.old log.new };
@@ -295,7 +295,7 @@ pub trait Bench {
     ///
     /// `now` is in milliseconds. Nothing changes, and the log doesn't have the call. Another thread
     /// may call the front at any time: its state is that at some time during this call. See
-    /// [`Front::gauges`](fc_core::Front::gauges).
+    /// [`Front::gauges`](fc_front::Front::gauges).
     fn gauges<R: Wait>(&self, rt: &R, now: u64) -> FrontGauges
         ensures { called (ReadsGauges now result) };
 
@@ -428,7 +428,7 @@ pub trait Bench {
     ///
     /// The response is written over `reply`. Returns `false` if no response is to be sent: the
     /// request's lifetime has passed, or no message ID is available. See
-    /// [`Front::respond`](fc_core::Front::respond).
+    /// [`Front::respond`](fc_front::Front::respond).
     fn respond<R: Wait>(
         &self,
         rt: &R,

@@ -7,7 +7,9 @@ ghost use Rattle.fc_config.specs.Logs.{ArePeriods, IsReportText};
 use crate::every::LONGEST;
 use crate::options::DEFAULT_EXTENT;
 
-/// By default a server has two workers, and receives without end.
+/// `DEFAULT_EXTENT` has two workers and no limit.
+///
+/// A test shows that these are the defaults of the command line.
 pub fn default_extent_has_two_workers_and_no_end()
     ensures { DEFAULT_EXTENT ≡ record { workers = 2; limit = 0 } }
 {}

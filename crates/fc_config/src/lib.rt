@@ -17,8 +17,8 @@
 //! # What is proved
 //!
 //! - **The options of `fcd serve`** are the values that the command line gives
-//!   (`ServeConfig::from_matches`, by `IsServeConfig`). Tests show their defaults. Those of the
-//!   workers and of the limit are `DEFAULT_EXTENT`, which has two workers and no limit (`laws`).
+//!   (`ServeConfig::from_matches`, by `IsServeConfig`). Tests show their defaults.
+//!   `DEFAULT_EXTENT` has two workers and no limit (`laws`).
 //! - **The policy** is that of `--managers`, `--exchanges`, `--share` and `--confirm-after`. There
 //!   is none exactly if these options give none (`policy_in`).
 //! - **Timers**: each value of `--every` is that of a timer, with a period of 1 ms to a day and a

@@ -60,7 +60,7 @@ pub struct Extent {
     pub limit: u32,
 }
 
-/// The extent of a server whose command line gives none: two workers, and no end.
+/// Two workers and no limit, as the defaults of `--workers` and `--limit`.
 pub const DEFAULT_EXTENT: Extent = Extent {
     workers: 2,
     limit: 0,

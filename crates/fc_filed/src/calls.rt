@@ -1,7 +1,7 @@
 //! The calls of a shard, and the operations that are filed for them.
 //!
-//! [`crate::FiledShard::ask`] makes them. Two calls are methods of `FiledShard`: an advance, which is
-//! filed only if the shard is idle, and a request for a lease, which may begin a track.
+//! [`crate::FiledShard::ask`] makes them. Two calls are methods of `FiledShard`: an advance, which
+//! is filed only if the shard is idle, and a request for a lease, which may begin a track.
 ghost use Rattle.std.specs.Prelude.{◌≡◌, true, false, None, ⊤, refl};
 ghost use Rattle.fc_registry.specs.Slots.{IsOwned};
 ghost use Rattle.fc_linear.specs.Operations.{Logged, ShardPart};

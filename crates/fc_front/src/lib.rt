@@ -1,4 +1,4 @@
-//! The front of the server: exchanges, jobs of datagrams, answers and responses.
+//! The protocol front end: exchanges, jobs of datagrams, answers and responses.
 //!
 //! [`Front`] stores the exchanges. It parses datagrams, makes jobs, and writes responses. Each time
 //! and each byte is an argument; the crate has no clock and no socket.

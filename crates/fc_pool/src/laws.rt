@@ -3,12 +3,14 @@
 //! Each law is the contract of an empty function.
 ghost use Rattle.std.specs.Prelude.{◌≡◌, ℕ, List, None, Option, Some};
 ghost use Rattle.coap_msg.specs.declared.types.Emission.{Emission};
+ghost use Rattle.fc_ticket.specs.declared.job.Ask.TheVariants.{Install, Remove};
+ghost use Rattle.fc_ticket.specs.declared.job.InitialVars.{InitialVars};
 ghost use Rattle.fc_ticket.specs.declared.job.Job.{Job};
 ghost use Rattle.fc_front.specs.Contents.{Content};
 ghost use Rattle.fc_server.specs.States.{ServerState};
 ghost use Rattle.fc_backend.specs.Logs.{TrackedLog as Log};
 ghost use Rattle.fc_locked.specs.SharedStores.{HasSaved};
-ghost use Rattle.fc_record.specs.ProgramRequests.{Requested, change_in};
+ghost use Rattle.fc_record.specs.ProgramRequests.{Requested};
 ghost use Rattle.fc_workers.specs.Outgoing.{GivesAnswer};
 ghost use Rattle.fc_pool.specs.Pooled.{locked_view};
 
@@ -22,13 +24,18 @@ use fc_store::Store;
 /// and the image. The answer of any other job is followed by no record. Nothing is recorded before
 /// a commit.
 pub fn workers_record_answered_changes<D: Device, K: Store, M: TimeSource, W: Wire, C: Recorder>()
-    ensures change { (first : ServerState) (job : Job) (content : Content) (reply : Option Emission) (before after : Log) (image : Option (List ℕ))
+    ensures install { (first : ServerState) (job : Job) (content : Content) (reply : Option Emission) (before after : Log) (image : List ℕ) (initial : InitialVars)
         → (answer : GivesAnswer (locked_view first D.are_readings (HasSaved K.Store) M.is_time M.is_random W.called C.recorded) job content reply before after)
-        → change_in job.ask ≡ Some image
-        → (change : Requested) × (change.slot ≡ job.origin.slot) × (change.image ≡ image) × C.recorded change answer.log.calls after.calls }
+        → job.ask ≡ Install (record { items = image }) initial
+        → (change : Requested) × (change.slot ≡ job.origin.slot) × (change.image ≡ Some image) × C.recorded change answer.log.calls after.calls }
+    ensures removal { (first : ServerState) (job : Job) (content : Content) (reply : Option Emission) (before after : Log)
+        → (answer : GivesAnswer (locked_view first D.are_readings (HasSaved K.Store) M.is_time M.is_random W.called C.recorded) job content reply before after)
+        → job.ask ≡ Remove
+        → (change : Requested) × (change.slot ≡ job.origin.slot) × (change.image ≡ None) × C.recorded change answer.log.calls after.calls }
     ensures other { (first : ServerState) (job : Job) (content : Content) (reply : Option Emission) (before after : Log)
         → (answer : GivesAnswer (locked_view first D.are_readings (HasSaved K.Store) M.is_time M.is_random W.called C.recorded) job content reply before after)
-        → change_in job.ask ≡ None → after.calls ≡ answer.log.calls }
+        → ((image : List ℕ) (initial : InitialVars) → job.ask ≡ Install (record { items = image }) initial → ⊥) → (job.ask ≡ Remove → ⊥)
+        → after.calls ≡ answer.log.calls }
     ensures before_commit { (first : ServerState) (number : ℕ) (before after : Log)
         → (locked_view first D.are_readings (HasSaved K.Store) M.is_time M.is_random W.called C.recorded).between number before after
         → after.calls ≡ before.calls }

@@ -1,5 +1,4 @@
--- Definitions for three kinds of laws: of a slot and its changes, of a ticket and its job, and of a
--- lease's job and observer.
+-- Definitions for two kinds of laws: of a slot and its changes, and of a lease's job and observer.
 use Rattle.std.specs.Prelude.{◌≡◌, ℕ, ◌+◌, ◌<◌, false, if◌then◌else◌, Some, None, List, [], ◌∷◌, ◌++◌, length}
 use Rattle.fc_observe.specs.Views.{Interest}
 use Rattle.fc_ticket.specs.declared.job.Ask.TheVariants.{Run}

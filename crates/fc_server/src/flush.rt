@@ -32,7 +32,7 @@ pub struct Flushing {
     shard: u8,
     // Whether the shard's observers are notified. If not, its notifications are retransmitted.
     notifies: bool,
-    // Whether the shard was called and wasn't idle.
+    // Whether this is the shard at which `begin` stopped. It isn't asked again whether it is idle.
     busy: bool,
 }
 
@@ -65,8 +65,8 @@ impl Flushing {
     /// Takes a step at the current shard.
     ///
     /// The datagram to send, if there is one, is written over `emission`. Returns whether there is
-    /// a datagram to send. If no message ID is available, the step leads to the end. A shard that
-    /// was found busy isn't advanced again before its notifications are retransmitted.
+    /// a datagram to send. If no message ID is available, the step leads to the end. `begin` has
+    /// found that its shard isn't idle, so that shard isn't asked again.
     #[inline(never)]
     pub fn step<N: Ingress>(&mut self, ingress: &mut N, now: u64, emission: &mut Emission) -> bool
         requires { self.old.shard < 8 }

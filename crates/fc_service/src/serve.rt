@@ -125,11 +125,11 @@ fn done_if(done: bool) -> Status
 
 /// Serves datagrams of a source on a server that starts with `slots`.
 ///
-/// The server ends once it has received `service.extent.limit` datagrams. Programs read the milliseconds
-/// since the start, and the sensor readings. This thread answers a datagram with a cheap job before
-/// it receives the next. Workers, each on its own thread, run the jobs whose programs may run long.
-/// If there is one worker and the store isn't persistent, this thread runs all jobs. The same holds
-/// if no thread can be created for a worker, and this is written to `err`.
+/// The server ends once it has received `service.extent.limit` datagrams. Programs read the
+/// milliseconds since the start, and the sensor readings. This thread answers a datagram with a
+/// cheap job before it receives the next. Workers, each on its own thread, run the jobs whose
+/// programs may run long. If there is one worker and the store isn't persistent, this thread runs
+/// all jobs. The same holds if no thread can be created for a worker, and this is written to `err`.
 ///
 /// If the store is persistent, each change of a slot is saved before it is made. Workers, or the
 /// one worker, run the jobs that may change a slot.
@@ -147,8 +147,8 @@ fn done_if(done: bool) -> Status
 /// job of a timer is that of a POST of its slot's resource, which sends nothing. A timer whose last
 /// job is at a worker skips the beat. Each receive ends when the first timer is due.
 ///
-/// If `service.records.reports` has a period, the reporter gets the counts of datagrams and notifications
-/// once in each period, while the server runs: at the first round after they are due.
+/// If `service.records.reports` has a period, the reporter gets the counts of datagrams and
+/// notifications once in each period, while the server runs: at the first round after they are due.
 ///
 /// The recorder gets each program change that is answered, once: an image that is installed or
 /// refused, and a removal. A duplicate request is no change. A block-wise upload is one change, at

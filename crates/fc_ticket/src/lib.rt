@@ -2,7 +2,11 @@
 //!
 //! The front makes a job of each request, and a shard makes one of each observer's lease. A
 //! snapshot of the job's slot gives a ticket. The run of the ticket determines the job's response,
-//! the notification of its lease, and whether the request's client observes the slot.
+//! the notification of its lease, and whether the request's client observes the slot. Any caller
+//! can write the data of a snapshot, so a commit compares the ticket with the slot.
+//!
+//! The crate also has the numbers of slots and the receipts of programs, which jobs and answers
+//! name.
 //!
 //! No function allocates memory.
 //!
@@ -13,8 +17,9 @@
 //!   the readings that were passed to the snapshot.
 //! - An outcome is that of a ticket's run exactly if it is of the ticket's program, request,
 //!   variables and readings, and the ticket's serial isn't above the slot's.
-//! - A run registers the client of a GET that has Observe 0 and names no later block, if it answers
-//!   2.05 (Content). A GET with Observe 1 removes the client. No other run changes the observers.
+//! - A run that has nothing to write registers the client of a GET that has Observe 0 and names no
+//!   later block, if it answers 2.05 (Content) and there is room. A GET with Observe 1 removes the
+//!   client. No other run registers or removes a client.
 //! - The notification of an active lease has the meaning of the run of the lease's ticket. If the
 //!   lease's snapshot found the slot empty, the notification is 4.04. The notification ends the
 //!   lease. A response that isn't 2.05 (Content) has no sequence number, and removes the observer.
