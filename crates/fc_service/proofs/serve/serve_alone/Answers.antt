@@ -1,6 +1,6 @@
 use Rattle.std.proofs.Common.{◌∙◌, ap}
 use Rattle.fc_server.specs.declared.alone.SingleThread.{SingleThread}
-use Rattle.fc_service.proofs.Alone.{served_by}
+use Rattle.fc_service.proofs.ServedAlone.{served_by}
 use Rattle.fc_receive.specs.Rounds.{round_calls}
 use Rattle.fc_service.proofs.serve.serve_alone.Goals as goal
 
