@@ -3,16 +3,36 @@ ghost use Rattle.std.specs.Prelude.{◌≡◌, ◌<◌, IfSome, Some};
 ghost use Rattle.coap_opts.specs.Recognition as spec;
 ghost use Rattle.coap_opts.specs.Verdict.{has};
 
+use crate::number::{
+    BLOCK1, BLOCK2, CONTENT_FORMAT, ETAG, OBSERVE, PROXY_SCHEME, PROXY_URI, URI_HOST, URI_PATH,
+    URI_PORT, URI_QUERY,
+};
 use crate::served::{OPTIONS, ROWS, Row};
 use coap_msg::Code;
 
 /// Returns the place in [`OPTIONS`] of the row with this option number, if there is one.
+///
+/// A search of the table costs more: it is made for each option of each datagram.
 #[tactic(auto, unfolding(crate::specs::Recognition::row_place, crate::specs::Served::rows))]
+#[inline(always)]
 pub(crate) fn row_place(number: u16) -> Option<usize>
     ensures place { result ≡ spec.row_place number }
     ensures within { IfSome result (λ place. place < ROWS) }
 {
-    OPTIONS.iter().position(|row| row.number == number)
+    match number {
+        URI_HOST => Some(0),
+        ETAG => Some(1),
+        OBSERVE => Some(2),
+        URI_PORT => Some(3),
+        URI_PATH => Some(4),
+        CONTENT_FORMAT => Some(5),
+        URI_QUERY => Some(6),
+        BLOCK2 => Some(7),
+        BLOCK1 => Some(8),
+        PROXY_URI => Some(9),
+        PROXY_SCHEME => Some(10),
+        _ => None,
+    }
 }
 
 /// Returns the place of an option's row, if the option is recognised in a message with this code.
