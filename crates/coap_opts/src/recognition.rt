@@ -12,7 +12,7 @@ use coap_msg::Code;
 
 /// Returns the place in [`OPTIONS`] of the row with this option number, if there is one.
 ///
-/// A search of the table costs more: it is made for each option of each datagram.
+/// The numbers stand in the order of the table: a row's place is its index there.
 #[tactic(auto, unfolding(crate::specs::Recognition::row_place, crate::specs::Served::rows))]
 #[inline(always)]
 pub(crate) fn row_place(number: u16) -> Option<usize>
