@@ -12,7 +12,7 @@ use Rattle.coap_opts.specs.declared.request.Resource.{Resource}
 use Rattle.coap_opts.specs.Values.{uint_value}
 use Rattle.coap_opts.specs.Path.{resource_of}
 use Rattle.coap_opts.specs.Recognition.{values_of}
-use Rattle.coap_opts.specs.Firsts.{cons_if, first_at, first_with}
+use Rattle.coap_opts.specs.Firsts.{AreFirsts, cons_if, first_at, first_with}
 use Rattle.coap_opts.specs.Verdict.{first_of, values, query, etags}
 
 -- ---- each part of the collection, with the values of its option number that are left
@@ -70,7 +70,7 @@ IsQuery q all = IsQueryBy q.is_long q.items.items all
 
 -- each part of the collection is the message's value.
 pub record IsCollected (m : Message) (g : Collected) : Type 0 where
-  pub firsts : (number : ℕ) → first_at g.firsts number ≡ first_of (values number m)
+  pub firsts : AreFirsts m g.firsts
   pub etags : g.etags.items ≡ etags m
   pub path : resource_with g.path [] ≡ resource_of (values option.URI_PATH m)
   pub query : IsQuery g.query (query m)

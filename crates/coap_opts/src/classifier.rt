@@ -5,15 +5,15 @@
 //! block sizes and the query's length are next, and the payload's length is last.
 ghost use Rattle.std.specs.Prelude.{◌≡◌, ◌||◌, None, Some};
 ghost use Rattle.coap_msg.specs.Wire.{Message as Stated};
-ghost use Rattle.coap_opts.specs.Verdict.{asked_by, asked_with, query, refusal_verdict, request_verdict, verdict};
+ghost use Rattle.coap_opts.specs.Verdict.{asked_by, asked_with, etags, query, refusal_verdict, request_verdict, verdict};
 ghost use Rattle.coap_opts.specs.Classified.{IsRequestOf, asking_verdict, verdict_of, written_over};
-ghost use Rattle.coap_opts.specs.Collected.{IsCollected};
-ghost use Rattle.coap_opts.specs.Firsts.{AreShort};
+ghost use Rattle.coap_opts.specs.Firsts.{AreFirsts, AreShort};
 ghost use Rattle.coap_opts.specs.Verdict as spec;
 
 use crate::block::Block;
 use crate::collector::{Collected, JoinedQuery, collect};
 use crate::fields::{block_of, resource_of, u16_of, u24_of};
+use crate::firsts::Firsts;
 use crate::number::{BLOCK1, BLOCK2, CONTENT_FORMAT, OBSERVE};
 use crate::path::method_of;
 use crate::request::{Action, Asking, Classified, PAYLOAD, Request};
@@ -115,7 +115,8 @@ fn refused(kind: MessageType, code: Code) -> Asking<()>
 fn write_request<'a>(message: &Message<'a>, request: &mut Request<'a>) -> Result<(), Code>
     ensures { IsRequestOf message.now result request.new }
 {
-    let collected = collect(message);
+    let mut collected = Collected::new();
+    collect(message, &mut collected);
     if collected.names_proxy() {
         return Err(Code::PROXYING_NOT_SUPPORTED);
     }
@@ -140,31 +141,27 @@ fn write_request<'a>(message: &Message<'a>, request: &mut Request<'a>) -> Result
     if payload.len() > PAYLOAD {
         return Err(Code::REQUEST_ENTITY_TOO_LARGE);
     }
-    write_fields(action, collected, payload, request);
+    request.query = collected.query.items;
+    request.etags = collected.etags;
+    request.payload = payload;
+    write_fields(action, &collected.firsts, request);
     Ok(())
 }
 
-/// Writes the fields of an accepted request to `request`, each from its options.
+/// Writes the action, and the fields that have one option each, to `request`.
+///
+/// The other fields of `request` are already written.
 #[tactic(auto, unfolding(crate::specs::Recognition::row_of, crate::specs::Served::rows))]
-fn write_fields<'a>(
-    action: Action,
-    collected: Collected<'a>,
-    payload: &'a [u8],
-    request: &mut Request<'a>,
-)
-    requires { AreShort collected.firsts }
-    ensures { (m : Stated) → IsCollected m collected.entry → collected.entry.query.items.items ≡ query m →
-        payload.now ≡ m.payload → asked_by request.new ≡ asked_with action m }
+fn write_fields<'a>(action: Action, firsts: &Firsts<'a>, request: &mut Request<'a>)
+    requires { AreShort firsts.now }
+    ensures { (m : Stated) → AreFirsts m firsts.now → request.old.query.items ≡ query m →
+        request.old.etags.items ≡ etags m → request.old.payload.now ≡ m.payload → asked_by request.new ≡ asked_with action m }
 {
-    let firsts = &collected.firsts;
+    request.action = action;
     request.content_format = u16_of(firsts, CONTENT_FORMAT);
     request.observe = observe_at(action, u24_of(firsts, OBSERVE));
     request.block1 = block_of(firsts, BLOCK1);
     request.block2 = block_of(firsts, BLOCK2);
-    request.action = action;
-    request.query = collected.query.items;
-    request.etags = collected.etags;
-    request.payload = payload;
 }
 
 /// Returns whether a block has the reserved size, or the query is too long.

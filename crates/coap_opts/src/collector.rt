@@ -93,7 +93,7 @@ pub(crate) struct Collected<'a> {
 
 impl<'a> Collected<'a> {
     /// Returns the empty collection, for the state before the first option.
-    fn new() -> Self
+    pub(crate) fn new() -> Self
         ensures parts { (m : Stated) → IsUncollected m result None m.options }
         ensures unknown { result.has_unknown ≡ false }
     {
@@ -152,16 +152,18 @@ fn take_tag(tags: &mut ArrayVec<u64, ETAGS>, value: &[u8])
     }
 }
 
-/// Collects a message's recognised options in one pass.
+/// Collects a message's recognised options in one pass, in `collected`, which is empty before.
 ///
-/// `has_unknown` of the result is `true` if a critical option isn't recognised.
-pub(crate) fn collect<'a>(message: &Message<'a>) -> Collected<'a>
-    ensures parts { IsCollected message.now result }
-    ensures short { AreShort result.firsts }
-    ensures unknown { result.has_unknown ≡ spec.has_unknown_critical message.now.code None message.now.options }
+/// The caller's collection is filled in place, since a returned one is copied. `has_unknown` is
+/// then `true` if a critical option isn't recognised.
+pub(crate) fn collect<'a>(message: &Message<'a>, collected: &mut Collected<'a>)
+    requires parts { IsUncollected message.now collected.old None message.now.options }
+    requires unknown { collected.old.has_unknown ≡ false }
+    ensures parts { IsCollected message.now collected.new }
+    ensures short { AreShort collected.new.firsts }
+    ensures unknown { collected.new.has_unknown ≡ spec.has_unknown_critical message.now.code None message.now.options }
 {
     let code = message.code();
-    let mut collected = Collected::new();
     let mut before = None;
     for (number, value) in message.options() {
         if let Some(place) = recognised_place(code, before, number, value.len()) {
@@ -171,5 +173,4 @@ pub(crate) fn collect<'a>(message: &Message<'a>) -> Collected<'a>
         }
         before = Some(number);
     }
-    collected
 }

@@ -52,7 +52,7 @@ pub(crate) fn recognised_place(
     ensures within { IfSome result (λ place. place < ROWS) }
 {
     let place = row_place(number)?;
-    if fits(OPTIONS[place], code, before, length) {
+    if fits(&OPTIONS[place], code, before, length) {
         Some(place)
     } else {
         None
@@ -62,8 +62,8 @@ pub(crate) fn recognised_place(
 /// Returns whether an option of `row` with a value of this length is recognised.
 ///
 /// `code` and `before` are as in [`recognised_place`].
-fn fits(row: Row, code: Code, before: Option<u16>, length: usize) -> bool
-    ensures { result ≡ spec.fits row code.byte before length }
+fn fits(row: &Row, code: Code, before: Option<u16>, length: usize) -> bool
+    ensures { result ≡ spec.fits row.now code.byte before length }
 {
     let is_sized = row.least <= length && length <= row.greatest;
     let is_repeat = before == Some(row.number);

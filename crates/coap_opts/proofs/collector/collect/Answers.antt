@@ -11,6 +11,6 @@ pub loop-number-init : goal.loop-number-init
 loop-number-init c =
     let all = c.into_iter-number-iterator.ensures.into_iter_gives ∙ c.options-number-items.ensures in
     record {
-      parts = subst (λ left. IsUncollected c.args.message.now c.new-collected.result None left) (sym all) (c.new-collected.ensures.parts c.args.message.now);
-      unknown = rw (c.new-collected.ensures.unknown, all) refl;
+      parts = subst (λ left. IsUncollected c.args.message.now c.args.collected.now None left) (sym all) c.requires.parts;
+      unknown = rw (c.requires.unknown, all) refl;
     }
