@@ -16,7 +16,7 @@ use fc_front::heads::{head_word, is_present, serial_in};
 use fc_isa::Fault;
 use fc_machine::Outcome;
 use fc_observe::Turn;
-use fc_registry::{Committed, Made, Removal, Taken, Took};
+use fc_registry::{Committed, Made, Removal, Taken};
 use fc_ticket::{Ask, Job, Receipt, SlotSnapshot, Ticket};
 use fc_verify::{Refusal, Verified};
 use std::marker::Model;
@@ -160,18 +160,6 @@ impl Stage {
         } else {
             self.step = Step::ToTake(0);
         }
-    }
-
-    /// Continues after a snapshot; `count` is the number of snapshots before it.
-    ///
-    /// See [`Step::took`].
-    pub fn took(&mut self, count: u8, given: Took)
-        requires { count < 8 }
-        ensures { self.new ≡ stages.took count given }
-    {
-        let Took { taken, found } = given;
-        self.found = found;
-        self.step = Step::took(count, taken, &mut self.answer);
     }
 
     /// Continues after an install; `receipt` has no version yet.

@@ -10,11 +10,11 @@ use Rattle.fc_book.specs.declared.view.Track.{Track}
 use Rattle.fc_book.specs.declared.view.BookView.{BookView}
 use Rattle.fc_book.specs.Tracks.{EntryKeys, HasKey, entries_at, entries_of, entries_with, is_on, with_entry}
 use Rattle.fc_book.proofs.Keys.{has-with, is_off, keeps-key}
-use Rattle.fc_calls.specs.Logged.{HandlesDatagram, AdvancesFront, FiresTimer, DrawsId, AnswersRequest, TellsReceipt, GivesReadings, ReadsCost, LooksAt, RaisesWord}
-use Rattle.fc_calls.specs.Logged.{TakesForJob, CommitsRun, InstallsProgram, RemovesProgram, HandsSignal, AdvancesIdle, SkipsIdle, AdvancesShard, GivesTurn, NotesTurn, GivesUpTurn}
+use Rattle.fc_calls.specs.Logged.{HandlesDatagram, AdvancesFront, FiresTimer, GivesReadings, ReadsCost}
+use Rattle.fc_calls.specs.Logged.{HandsSignal, AdvancesIdle, SkipsIdle, AdvancesShard, GivesTurn}
 use Rattle.fc_core.specs.Stage.{Stage}
 use Rattle.fc_core.specs.Stages.{first_stage}
-use Rattle.fc_linear.specs.Operations.{Operation, Logged, RejectsImage, RefusesInstall, FailsToSave, IsOfServer, StageMoves, is_for_job, job_brought, part_of}
+use Rattle.fc_linear.specs.Operations.{Operation, Logged, IsOfServer, StageMoves, is_for_job, job_brought, part_of}
 use Rattle.fc_linear.specs.Parts.{FollowsStages}
 use Rattle.fc_filed.specs.declared.entry.FiledEntry.{FiledEntry}
 use Rattle.fc_filed.specs.Books.{IsRightForJob}
@@ -36,27 +36,14 @@ pub of_old_job : (operation : Operation) (job : Job) (s t : Stage) → StageMove
 of_old_job (Logged (HandlesDatagram now from bytes brings)) job s t m = absurd m
 of_old_job (Logged (AdvancesFront now)) job s t m = absurd m
 of_old_job (Logged (FiresTimer slot now)) job s t m = absurd m
-of_old_job (Logged (DrawsId now id)) job s t m = record { for = refl; of_server = tt; none = refl }
-of_old_job (Logged (AnswersRequest now j content sent)) job s t m = record { for = refl; of_server = tt; none = refl }
-of_old_job (Logged (TellsReceipt j receipt)) job s t m = record { for = refl; of_server = tt; none = refl }
 of_old_job (Logged (GivesReadings readings)) job s t m = absurd m
 of_old_job (Logged (ReadsCost slot cost)) job s t m = absurd m
-of_old_job (Logged (LooksAt slot word)) job s t m = record { for = refl; of_server = tt; none = refl }
-of_old_job (Logged (TakesForJob j readings taken)) job s t m = record { for = refl; of_server = tt; none = refl }
-of_old_job (Logged (CommitsRun now ran ticket committed)) job s t m = record { for = refl; of_server = tt; none = refl }
-of_old_job (Logged (InstallsProgram j program answer)) job s t m = record { for = refl; of_server = tt; none = refl }
-of_old_job (Logged (RemovesProgram j removal)) job s t m = record { for = refl; of_server = tt; none = refl }
 of_old_job (Logged (HandsSignal shard from id reset)) job s t m = absurd m
 of_old_job (Logged (AdvancesIdle shard now)) job s t m = absurd m
 of_old_job (Logged (SkipsIdle shard now)) job s t m = absurd m
 of_old_job (Logged (AdvancesShard shard now ticked)) job s t m = absurd m
 of_old_job (Logged (GivesTurn shard now turn)) job s t m = absurd m
-of_old_job (Logged (NotesTurn turn id now random told noted)) job s t m = record { for = refl; of_server = tt; none = refl }
-of_old_job (Logged (GivesUpTurn turn now)) job s t m = record { for = refl; of_server = tt; none = refl }
-of_old_job (Logged (RaisesWord slot word)) job s t m = record { for = refl; of_server = tt; none = refl }
-of_old_job (RejectsImage j content) job s t m = record { for = refl; of_server = tt; none = refl }
-of_old_job (RefusesInstall j) job s t m = record { for = refl; of_server = tt; none = refl }
-of_old_job (FailsToSave update) job s t m = record { for = refl; of_server = tt; none = refl }
+of_old_job other job s t m = record { for = refl; of_server = tt; none = refl }
 
 -- ---- the entries on a track, after an entry is filed
 

@@ -4,44 +4,28 @@ use Rattle.std.specs.Prelude.{if◌then◌else◌}
 use Rattle.fc_book.specs.declared.view.Track.{Track}
 use Rattle.fc_book.specs.declared.view.BookView.{BookView}
 use Rattle.fc_book.specs.Tracks.{HasKey}
-use Rattle.fc_calls.specs.Logged.{HandlesDatagram, AdvancesFront, FiresTimer, DrawsId, AnswersRequest, TellsReceipt, GivesReadings, ReadsCost, LooksAt, RaisesWord}
-use Rattle.fc_calls.specs.Logged.{TakesForJob, CommitsRun, InstallsProgram, RemovesProgram, HandsSignal, AdvancesIdle, SkipsIdle, AdvancesShard, GivesTurn, NotesTurn, GivesUpTurn}
-use Rattle.fc_linear.specs.Operations.{Operation, Logged, RejectsImage, RefusesInstall, FailsToSave, ServerPart, FrontPart, ShardPart, WordsPart, NoPart, IsOfServer, part_of}
+use Rattle.fc_calls.specs.Logged.{HandsSignal, AdvancesIdle, AdvancesShard, GivesTurn}
+use Rattle.fc_linear.specs.Operations.{Operation, Logged, ServerPart, FrontPart, ShardPart, WordsPart, NoPart, IsOfServer, part_of}
 use Rattle.fc_filed.specs.declared.entry.FiledEntry.{FiledEntry}
 use Rattle.fc_store.specs.Recovery.{Save}
 use Rattle.fc_filed.specs.Entries.{AreKeyed, IsKeyed, IsOfSavedSlot, also_key, entry_keys, is_of_job, part_key}
 use Rattle.fc_filed.specs.Threads.{MayFile, entry_by, entry_with, key_of_first}
 
+-- the index of a shard, or 0 for any other part.
+abbrev pub index_in : ServerPart → ℕ
+index_in (ShardPart index) = index
+index_in other = 0
+
 -- if the part is a shard, its index is below 8.
 abbrev pub IsLow : ServerPart → Type 0
-IsLow (ShardPart index) = index < 8
-IsLow other = Unit {0}
+IsLow part = index_in part < 8
 
 pub low_of : (operation : Operation) → IsOfServer operation → IsLow (part_of operation)
-low_of (Logged (HandlesDatagram now from bytes brings)) p = tt
-low_of (Logged (AdvancesFront now)) p = tt
-low_of (Logged (FiresTimer slot now)) p = tt
-low_of (Logged (DrawsId now id)) p = tt
-low_of (Logged (AnswersRequest now job content sent)) p = tt
-low_of (Logged (TellsReceipt job receipt)) p = omega arith
-low_of (Logged (GivesReadings readings)) p = tt
-low_of (Logged (ReadsCost slot cost)) p = omega arith
-low_of (Logged (LooksAt slot word)) p = tt
-low_of (Logged (TakesForJob job readings taken)) p = omega arith
-low_of (Logged (CommitsRun now ran ticket committed)) p = omega arith
-low_of (Logged (InstallsProgram job program made)) p = omega arith
-low_of (Logged (RemovesProgram job removal)) p = omega arith
 low_of (Logged (HandsSignal shard from id reset)) p = p
 low_of (Logged (AdvancesIdle shard now)) p = p
-low_of (Logged (SkipsIdle shard now)) p = tt
 low_of (Logged (AdvancesShard shard now ticked)) p = p
 low_of (Logged (GivesTurn shard now turn)) p = p
-low_of (Logged (NotesTurn turn id now random told noted)) p = omega arith
-low_of (Logged (GivesUpTurn turn now)) p = omega arith
-low_of (Logged (RaisesWord slot word)) p = tt
-low_of (RejectsImage job content) p = tt
-low_of (RefusesInstall job) p = tt
-low_of (FailsToSave update) p = omega arith
+low_of other p = omega arith
 
 -- the key of a part's or a thread's track is less than the key of the first job's track.
 pub part_below : (p : ServerPart) (who first_job : ℕ) → IsLow p → 10 ≤ who → who < first_job → part_key who p < first_job

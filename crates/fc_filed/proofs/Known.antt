@@ -10,8 +10,8 @@ use Rattle.fc_book.specs.declared.view.Track.{Track}
 use Rattle.fc_book.specs.declared.view.BookView.{BookView}
 use Rattle.fc_book.specs.Tracks.{AreOn, HasKey, IsViewOf, entries_with, is_on, with_entry}
 use Rattle.fc_front.specs.Heads.{word_at}
-use Rattle.fc_calls.specs.Logged.{HandlesDatagram, AdvancesFront, FiresTimer, DrawsId, AnswersRequest, TellsReceipt, GivesReadings, LooksAt, RaisesWord, TakesForJob, CommitsRun, InstallsProgram, RemovesProgram, HandsSignal, AdvancesIdle, AdvancesShard, GivesTurn, NotesTurn, GivesUpTurn, ReadsCost, SkipsIdle}
-use Rattle.fc_linear.specs.Operations.{Operation, Logged, RejectsImage, RefusesInstall, FailsToSave}
+use Rattle.fc_calls.specs.Logged.{LooksAt, RaisesWord}
+use Rattle.fc_linear.specs.Operations.{Operation, Logged}
 use Rattle.fc_filed.specs.declared.entry.FiledEntry.{FiledEntry}
 use Rattle.fc_filed.specs.Entries.{ChangesWords, OperationsLead, entry_keys}
 use Rattle.fc_filed.specs.Threads.{greatest_word, known_word, word_in}
@@ -52,31 +52,10 @@ module _ (slot : ℕ) where
   })
 
   kept : (operation : Operation) (ws vs : List ℕ) → slot < length ws → ChangesWords operation ws vs → IsKept operation ws vs
-  kept (Logged (HandlesDatagram now from bytes brings)) ws vs lt d = unchanged (Logged (HandlesDatagram now from bytes brings)) ws vs lt d (omega arith)
-  kept (Logged (AdvancesFront now)) ws vs lt d = unchanged (Logged (AdvancesFront now)) ws vs lt d (omega arith)
-  kept (Logged (FiresTimer n now)) ws vs lt d = unchanged (Logged (FiresTimer n now)) ws vs lt d (omega arith)
-  kept (Logged (DrawsId now id)) ws vs lt d = unchanged (Logged (DrawsId now id)) ws vs lt d (omega arith)
-  kept (Logged (AnswersRequest now job content sent)) ws vs lt d = unchanged (Logged (AnswersRequest now job content sent)) ws vs lt d (omega arith)
-  kept (Logged (TellsReceipt job receipt)) ws vs lt d = unchanged (Logged (TellsReceipt job receipt)) ws vs lt d (omega arith)
-  kept (Logged (GivesReadings readings)) ws vs lt d = unchanged (Logged (GivesReadings readings)) ws vs lt d (omega arith)
-  kept (Logged (ReadsCost n cost)) ws vs lt d = unchanged (Logged (ReadsCost n cost)) ws vs lt d (omega arith)
   kept (Logged (LooksAt n word)) ws vs lt d = unchanged (Logged (LooksAt n word)) ws vs lt d.1
       (if_same (n == slot) n slot word (word_at ws slot) refl (λ same. let e = d.0 in let s = ap (λ (k : ℕ). word_at ws k) same in omega (arith, e, s)))
-  kept (Logged (TakesForJob job readings taken)) ws vs lt d = unchanged (Logged (TakesForJob job readings taken)) ws vs lt d (omega arith)
-  kept (Logged (CommitsRun now ran ticket committed)) ws vs lt d = unchanged (Logged (CommitsRun now ran ticket committed)) ws vs lt d (omega arith)
-  kept (Logged (InstallsProgram job program made)) ws vs lt d = unchanged (Logged (InstallsProgram job program made)) ws vs lt d (omega arith)
-  kept (Logged (RemovesProgram job removal)) ws vs lt d = unchanged (Logged (RemovesProgram job removal)) ws vs lt d (omega arith)
-  kept (Logged (HandsSignal shard from id reset)) ws vs lt d = unchanged (Logged (HandsSignal shard from id reset)) ws vs lt d (omega arith)
-  kept (Logged (AdvancesIdle shard now)) ws vs lt d = unchanged (Logged (AdvancesIdle shard now)) ws vs lt d (omega arith)
-  kept (Logged (SkipsIdle shard now)) ws vs lt d = unchanged (Logged (SkipsIdle shard now)) ws vs lt d (omega arith)
-  kept (Logged (AdvancesShard shard now ticked)) ws vs lt d = unchanged (Logged (AdvancesShard shard now ticked)) ws vs lt d (omega arith)
-  kept (Logged (GivesTurn shard now turn)) ws vs lt d = unchanged (Logged (GivesTurn shard now turn)) ws vs lt d (omega arith)
-  kept (Logged (NotesTurn turn id now random told noted)) ws vs lt d = unchanged (Logged (NotesTurn turn id now random told noted)) ws vs lt d (omega arith)
-  kept (Logged (GivesUpTurn turn now)) ws vs lt d = unchanged (Logged (GivesUpTurn turn now)) ws vs lt d (omega arith)
   kept (Logged (RaisesWord n word)) ws vs lt d = raised n word ws vs lt d
-  kept (RejectsImage job content) ws vs lt d = unchanged (RejectsImage job content) ws vs lt d (omega arith)
-  kept (RefusesInstall job) ws vs lt d = unchanged (RefusesInstall job) ws vs lt d (omega arith)
-  kept (FailsToSave update) ws vs lt d = unchanged (FailsToSave update) ws vs lt d (omega arith)
+  kept other ws vs lt d = unchanged other ws vs lt d (omega arith)
 
   -- ---- a history
 

@@ -1,9 +1,8 @@
 -- Skips: each shard that is skipped in a history is idle at that place of it.
 use Rattle.std.proofs.Common.{◌≡◌, ◌⊎◌, Bool, true, false, List, [], ◌∷◌, ◌++◌, refl, sym, ap, subst, ⊎_elim, inl, inr}
 use Rattle.std.specs.Prelude.{◌||◌}
-use Rattle.fc_calls.specs.Logged.{HandlesDatagram, AdvancesFront, FiresTimer, DrawsId, AnswersRequest, TellsReceipt, GivesReadings, ReadsCost, LooksAt, RaisesWord}
-use Rattle.fc_calls.specs.Logged.{TakesForJob, CommitsRun, InstallsProgram, RemovesProgram, HandsSignal, AdvancesIdle, SkipsIdle, AdvancesShard, GivesTurn, NotesTurn, GivesUpTurn}
-use Rattle.fc_linear.specs.Operations.{Operation, Logged, RejectsImage, RefusesInstall, FailsToSave, ServerPart, FrontPart, ShardPart, WordsPart, NoPart, is_for_job, is_locked, is_words, part_of}
+use Rattle.fc_calls.specs.Logged.{SkipsIdle}
+use Rattle.fc_linear.specs.Operations.{Operation, Logged, ServerPart, FrontPart, ShardPart, WordsPart, NoPart, is_for_job, is_locked, is_words, part_of}
 use Rattle.fc_server.specs.States.{ServerState}
 use Rattle.fc_filed.specs.declared.entry.FiledEntry.{FiledEntry}
 use Rattle.fc_filed.specs.Idle.{AreSkipsIdle, IsIdleIfSkipped}
@@ -19,30 +18,8 @@ locked_no_words NoPart is = refl
 module _ (begin : ServerState) (log : List FiledEntry) where
   -- an operation of a part with a lock, or for a job, skips no shard.
   skips_none : (operation : Operation) → (is_locked (part_of operation) || is_for_job operation) ≡ true → IsIdleIfSkipped begin log operation
-  skips_none (Logged (HandlesDatagram now from bytes brings)) is = tt
-  skips_none (Logged (AdvancesFront now)) is = tt
-  skips_none (Logged (FiresTimer slot now)) is = tt
-  skips_none (Logged (DrawsId now id)) is = tt
-  skips_none (Logged (AnswersRequest now job content sent)) is = tt
-  skips_none (Logged (TellsReceipt job receipt)) is = tt
-  skips_none (Logged (ReadsCost slot cost)) is = tt
-  skips_none (Logged (GivesReadings readings)) is = tt
-  skips_none (Logged (LooksAt slot word)) is = tt
-  skips_none (Logged (TakesForJob job readings taken)) is = tt
-  skips_none (Logged (CommitsRun now ran ticket committed)) is = tt
-  skips_none (Logged (InstallsProgram job program made)) is = tt
-  skips_none (Logged (RemovesProgram job removal)) is = tt
-  skips_none (Logged (HandsSignal shard from id reset)) is = tt
-  skips_none (Logged (AdvancesIdle shard now)) is = tt
   skips_none (Logged (SkipsIdle shard now)) is = absurd (cc is)
-  skips_none (Logged (AdvancesShard shard now ticked)) is = tt
-  skips_none (Logged (GivesTurn shard now turn)) is = tt
-  skips_none (Logged (NotesTurn turn id now random told noted)) is = tt
-  skips_none (Logged (GivesUpTurn turn now)) is = tt
-  skips_none (Logged (RaisesWord slot word)) is = tt
-  skips_none (RejectsImage job content) is = tt
-  skips_none (RefusesInstall job) is = tt
-  skips_none (FailsToSave update) is = tt
+  skips_none other is = tt
 
   or_right : (a b : Bool) → b ≡ true → (a || b) ≡ true
   or_right true b is = refl

@@ -332,7 +332,8 @@ impl<J: ServerName, P: Part> FiledShard<J, P> {
     /// Leases the first pending notification at `now` ms, and files that.
     ///
     /// See [`Shard::write_due`]. Returns whether a lease was granted. Its job is then written to
-    /// `job`, and begins a track.
+    /// `job`, and begins a track. The call is filed in both cases, on the track of the thread with
+    /// the key `who`.
     pub fn next_due(
         &mut self,
         book: &ServerBook<J>,

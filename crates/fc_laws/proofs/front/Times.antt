@@ -44,6 +44,7 @@ step_handed : (k : ℕ) (c : Step) (job : Job) (slot : Slot) (ws : Around) (m : 
 step_handed k (steps.Commits now n t) job slot ws m ms is = ap (λ (x : ℕ). max x now) is
 step_handed k (steps.Notes now random turn found id) job slot ws m ms is = ap (λ (x : ℕ). max x now) is
 step_handed k (steps.GivesUp now turn needs) job slot ws m ms is = ap (λ (x : ℕ). max x now) is
+step_handed k (steps.Refuses refusal) job slot ws m ms is = is ∙ ap (λ (l : List ℕ). greatest (l ++ ms)) (sym (refusal.times k))
 step_handed k other job slot ws m ms is = is
 
 transition_handed : (e : Event) (job : Job) (slot : Slot) (ws : Around) (st : Stage) (m : ℕ) (ms : List ℕ) → m ≡ greatest ms → handed (transition e (at job slot ws st)).hands m ≡ greatest (transition_time e st ++ ms)

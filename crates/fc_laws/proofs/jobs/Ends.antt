@@ -18,7 +18,7 @@ use Rattle.fc_core.specs.History.{around, Entry, History, Then, Seen, seen, and_
 use Rattle.fc_core.specs.Laws.{HasCome, Snapshot, answers_of, gives, is_answered, is_named, followed_by, slot_of, snapshots_of}
 use Rattle.fc_core.specs.Stages.{first_by, took}
 use Rattle.fc_core.specs.Transitions.{Around, Inputs, transition}
-use Rattle.fc_core.proofs.ByStep.{Step, by_effect, by_step, event_by, effect_by, stage_by}
+use Rattle.fc_core.proofs.ByStep.{Step, IsUnanswered, by_effect, by_step, event_by, effect_by, stage_by}
 use Rattle.fc_core.proofs.ByStep as steps
 use Rattle.fc_laws.proofs.jobs.Along.{IsTold, along}
 use Rattle.fc_laws.proofs.jobs.Others.{is_here, kept_by, kept_later, named_stage, still_here}
@@ -46,10 +46,15 @@ never_yet : (s : Stage) (n : ℕ) → n ≡ 0 → FitsAnswers n s
 never_yet Gone n is = omega arith
 never_yet other n is = is
 
+none_yet : (s : Stage) (n : ℕ) → IsUnanswered s → FitsAnswers n s → n ≡ 0
+none_yet Gone n none f = absurd none
+none_yet other n none f = f
+
 -- a step of a job that isn't answered yet keeps the number of answers fitting.
 step_answers : (k : ℕ) (c : Step) (job : Job) (slot : Slot) (ws : Around) (n : ℕ) → FitsAnswers n (stage_by c) → FitsAnswers (if is_answered (event_by k c) (stage_by c) then n + 1 else n) (effect_by c job slot ws).stage
 step_answers k (steps.Answers now content) job slot ws n f = omega (arith, f)
 step_answers k (steps.Loses needs) job slot ws n f = at_most_once needs n f
+step_answers k (steps.Refuses refusal) job slot ws n f = subst (λ (b : Bool). FitsAnswers (if b then n + 1 else n) (ToAnswer Unavailable)) (sym (refusal.answered k)) (none_yet refusal.stage n refusal.unanswered f)
 step_answers k other job slot ws n f = never_yet (effect_by other job slot ws).stage n f
 
 transition_answers : (e : Event) (job : Job) (slot : Slot) (ws : Around) (s : Stage) (n : ℕ) → FitsAnswers n s → FitsAnswers (if is_answered e s then n + 1 else n) (transition e (at job slot ws s)).stage
@@ -146,6 +151,7 @@ step_settled : (c : Step) (job : Job) (slot : Slot) (ws : Around) → IsImmediat
 step_settled (steps.Raises word content) job slot ws f = tt
 step_settled (steps.Answers now content) job slot ws f = tt
 step_settled (steps.Loses needs) job slot ws f = tt
+step_settled (steps.Refuses refusal) job slot ws f = tt
 step_settled other job slot ws f = absurd f
 
 transition_settled : (e : Event) (job : Job) (slot : Slot) (ws : Around) (s : Stage) → IsImmediate s → IsImmediate (transition e (at job slot ws s)).stage

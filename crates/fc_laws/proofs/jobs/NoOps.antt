@@ -1,24 +1,23 @@
 -- A no-op event changes nothing.
-use Rattle.std.proofs.Common.{◌≡◌, ℕ, [], ◌++◌, set, Bool, true, false, Option, Some, None, refl, ap, ◌∙◌, if◌then◌else◌}
+use Rattle.std.proofs.Common.{◌≡◌, ℕ, [], ◌++◌, set, Bool, true, false, Option, Some, None, refl, sym, ap, ◌∙◌, if◌then◌else◌}
 use Rattle.std.specs.Prelude.{◌==◌, ◌%◌, length, not, List}
 use Rattle.std.proofs.lemmas.List.{append-nil, set-get_or}
 use Rattle.coap_msg.specs.declared.types.Emission.{Emission}
 use Rattle.fc_ticket.specs.declared.job.Job.{Job}
-use Rattle.fc_registry.specs.Calls.{wants}
 use Rattle.fc_registry.specs.Slots.{Slot}
 use Rattle.fc_core.specs.declared.event.Event.{Event}
-use Rattle.fc_core.specs.declared.event.Event.TheVariants.{Deliver, Peek, Take, Commit, Install, Remove, Refuse, Receipt, Raise, Answer, Signal, Tick, ShardTick, Lose, Fresh, Note, GiveUp, Due, Fire}
+use Rattle.fc_core.specs.declared.event.Event.TheVariants.{Deliver, Answer, Signal, Tick, ShardTick, Fresh, Note, Due, Fire}
 use Rattle.fc_core.specs.Stage.{Stage}
 use Rattle.fc_core.specs.Stage.{ToAnswer, Gone, ToTell}
 use Rattle.fc_core.specs.TurnStage as turns
 use Rattle.fc_front.specs.Contents.{Content}
-use Rattle.fc_core.specs.Stages.{content_at, is_refusable, needs_id}
-use Rattle.fc_core.specs.Steps.{Call, RefusesChange, next_stage}
+use Rattle.fc_core.specs.Stages.{content_at, needs_id}
+use Rattle.fc_core.specs.Steps.{Call, next_stage}
 use Rattle.fc_core.specs.declared.stage.Task.{Task}
 use Rattle.fc_core.specs.Transitions.{Around, Effect, Inputs, call_if, effect_of, handed, task_moved, goes_to, names, notification, transition, words_after}
-use Rattle.fc_core.specs.History.{Entry, Seen, and_then, calls_named, changes_after, did, job, no_task, inputs, shard_time_after, stage, task_at, tasks_brought, tasks_moved, words_seen, at_front, time_by, exchanges_by, additions_by, ids_by, at_shard, hands_by, calls_by}
+use Rattle.fc_core.specs.History.{AtFront, AtShard, Calm, Entry, Rests, Seen, and_then, calls_named, changes_after, did, job, no_task, inputs, shard_time_after, stage, task_at, tasks_brought, tasks_by, tasks_moved, turns_by, words_seen, at_front, time_by, exchanges_by, additions_by, ids_by, at_shard, hands_by, calls_by}
 use Rattle.coap_block.specs.Transfers.{Addition}
-use Rattle.fc_core.specs.Laws.{is_noop, is_noop_at}
+use Rattle.fc_core.specs.Laws.{is_noop, is_noop_at, own_of_named, stage_named}
 use Rattle.fc_core.specs.Legal.{Emits, AnswerEmits}
 use Rattle.fc_front.specs.Exchanges.{FrontState}
 use Rattle.fc_core.proofs.ByStep.{Step, by_step, event_by, effect_by, stage_by, IsAsked}
@@ -38,12 +37,12 @@ asked_isnt false is e = false_isnt is
 step_still : (k : ℕ) (c : Step) (job : Job) (slot : Slot) (ws : Around) → IsAsked c job → is_noop_at (event_by k c) job.origin.slot (stage_by c) ≡ true → effect_by c job slot ws ≡ goes_to (stage_by c)
 step_still k (steps.Matches n) job slot ws asked e = absurd (asked_isnt (n == job.origin.slot) asked e)
 step_still k (steps.Lists n seen) job slot ws asked e = absurd (asked_isnt (n == length seen.items) asked e)
-step_still k (steps.RefusesRun count t) job slot ws asked e = absurd (asked_isnt (wants t) asked e)
+step_still k (steps.Refuses refusal) job slot ws asked e = absurd (false_isnt (sym (refusal.needed k job.origin.slot) ∙ e))
 step_still k (steps.Loses Gone) job slot ws asked e = refl
 step_still k other job slot ws asked e = absurd (false_isnt e)
 
 -- a call that changes its job's stage alone, under a condition.
-call_moves : (e : Event) (x : Inputs) (c : Call) → effect_of e x (Some c) ≡ goes_to (next_stage c) → (b : Bool) → effect_of e x (call_if b c) ≡ goes_to (effect_of e x (call_if b c)).stage
+pub call_moves : (e : Event) (x : Inputs) (c : Call) → effect_of e x (Some c) ≡ goes_to (next_stage c) → (b : Bool) → effect_of e x (call_if b c) ≡ goes_to (effect_of e x (call_if b c)).stage
 call_moves e x c idle true = idle
 call_moves e x c idle false = refl
 
@@ -95,23 +94,54 @@ module _ (s : Seen) (e : Event) (k : ℕ) (st : Stage) (still : transition e (in
 all_same : (a b : Seen) → a.policy ≡ b.policy → a.stored ≡ b.stored → a.time ≡ b.time → a.exchanges ≡ b.exchanges → a.additions ≡ b.additions → a.ids ≡ b.ids → a.tasks ≡ b.tasks → ((n : ℕ) → a.changes n ≡ b.changes n) → ((n : ℕ) → a.shard_time n ≡ b.shard_time n) → ((n : ℕ) → a.calls n ≡ b.calls n) → a.words ≡ b.words → a ≡ b
 all_same a b o f m x p d t c h v w = λ i. record { policy = o i; stored = f i; time = m i; exchanges = x i; additions = p i; ids = d i; tasks = t i; changes = λ n. c n i; shard_time = λ n. h n i; calls = λ n. v n i; words = w i }
 
--- if an event of a job changes the job's stage alone, and leaves the front and the shards
--- unchanged, it leaves everything else unchanged.
-named_moves : (s : Seen) (e : Event) (o : Option Emission) (k : ℕ) (st : Stage) → names e ≡ Some k → transition e (inputs s k) ≡ goes_to st → time_by (at_front e) s ≡ s.time → exchanges_by (at_front e) o s ≡ s.exchanges → additions_by (at_front e) s ≡ [] → ids_by (at_front e) s ≡ s.ids → tasks_brought e s ≡ [] → ((i : ℕ) → hands_by (at_shard e) i ≡ None) → ((n : ℕ) → calls_by (at_shard e) s n ≡ []) → and_then (did e o) s ≡ with_stage s k st
-named_moves s e o k st is still m x p d b g q =
-    all_same (and_then (did e o) s) (with_stage s k st) refl refl m x (ap (λ (l : List Addition). l ++ s.additions) p) d
-    ((λ i. tasks_moved (is i) e s ++ b i) ∙ (append-nil (tasks_moved (Some k) e s) ∙ tasks_still s e k st still))
+-- the event leaves the front unchanged, brings no job, and has no effect at a shard of its own.
+pub record IsCalm (s : Seen) (e : Event) (o : Option Emission) : Type 0 where
+  time : time_by (at_front e) s ≡ s.time
+  exchanges : exchanges_by (at_front e) o s ≡ s.exchanges
+  additions : additions_by (at_front e) s ≡ []
+  ids : ids_by (at_front e) s ≡ s.ids
+  brought : tasks_brought e s ≡ []
+  hands : (i : ℕ) → hands_by (at_shard e) i ≡ None
+  calls : (n : ℕ) → calls_by (at_shard e) s n ≡ []
+
+-- an event without an effect on the front, and without one at a shard of its own, is calm.
+pub calm_at_rest : (s : Seen) (e : Event) (o : Option Emission) → at_front e ≡ Rests → at_shard e ≡ Calm → IsCalm s e o
+calm_at_rest s e o rests calm = record {
+  time = ap (λ (x : AtFront). time_by x s) rests;
+  exchanges = ap (λ (x : AtFront). exchanges_by x o s) rests;
+  additions = ap (λ (x : AtFront). additions_by x s) rests;
+  ids = ap (λ (x : AtFront). ids_by x s) rests;
+  brought = λ i. turns_by (calm i) s ++ tasks_by (rests i) s;
+  hands = λ n. ap (λ (x : AtShard). hands_by x n) calm;
+  calls = λ n. ap (λ (x : AtShard). calls_by x s n) calm;
+}
+
+-- if a calm event of a job changes the job's stage alone, it leaves everything else unchanged.
+pub named_moves : (s : Seen) (e : Event) (o : Option Emission) (k : ℕ) (st : Stage) → names e ≡ Some k → transition e (inputs s k) ≡ goes_to st → IsCalm s e o → and_then (did e o) s ≡ with_stage s k st
+named_moves s e o k st is still calm =
+    all_same (and_then (did e o) s) (with_stage s k st) refl refl calm.time calm.exchanges (ap (λ (l : List Addition). l ++ s.additions) calm.additions) calm.ids
+    ((λ i. tasks_moved (is i) e s ++ calm.brought i) ∙ (append-nil (tasks_moved (Some k) e s) ∙ tasks_still s e k st still))
     (λ n. (λ i. changes_after (is i) e s n) ∙ changes_still s e k st still n)
-    (λ n. (λ i. handed (g n i) (shard_time_after (is i) e s n)) ∙ shard_still s e k st still n)
-    (λ n. (λ i. calls_named (is i) e s n ++ (q n i ++ s.calls n)) ∙ calls_still s e k st still n)
+    (λ n. (λ i. handed (calm.hands n i) (shard_time_after (is i) e s n)) ∙ shard_still s e k st still n)
+    (λ n. (λ i. calls_named (is i) e s n ++ (calm.calls n i ++ s.calls n)) ∙ calls_still s e k st still n)
     ((λ i. words_seen (is i) e s) ∙ words_still s e k st still)
 
--- if a no-op event of a job leaves the front and the shards unchanged, it leaves everything
--- unchanged.
-named_still : (s : Seen) (e : Event) (o : Option Emission) (k : ℕ) → names e ≡ Some k → is_noop_at e (job s k).origin.slot (stage s k) ≡ true → time_by (at_front e) s ≡ s.time → exchanges_by (at_front e) o s ≡ s.exchanges → additions_by (at_front e) s ≡ [] → ids_by (at_front e) s ≡ s.ids → tasks_brought e s ≡ [] → ((i : ℕ) → hands_by (at_shard e) i ≡ None) → ((n : ℕ) → calls_by (at_shard e) s n ≡ []) → and_then (did e o) s ≡ s
-named_still s e o k is noop m x p d b g q =
+-- a calm event that names no job leaves everything unchanged.
+unnamed_stays : (s : Seen) (e : Event) (o : Option Emission) → names e ≡ None → IsCalm s e o → and_then (did e o) s ≡ s
+unnamed_stays s e o is calm =
+    all_same (and_then (did e o) s) s refl refl calm.time calm.exchanges (ap (λ (l : List Addition). l ++ s.additions) calm.additions) calm.ids
+    ((λ i. tasks_moved (is i) e s ++ calm.brought i) ∙ append-nil s.tasks)
+    (λ n i. changes_after (is i) e s n)
+    (λ n i. handed (calm.hands n i) (shard_time_after (is i) e s n))
+    (λ n i. calls_named (is i) e s n ++ (calm.calls n i ++ s.calls n))
+    (λ i. words_seen (is i) e s)
+
+-- a calm no-op leaves everything unchanged.
+calm_still : (s : Seen) (e : Event) (o : Option Emission) → IsCalm s e o → (n : Option ℕ) → names e ≡ n → is_noop_at e (own_of_named s n) (stage_named s n) ≡ true → and_then (did e o) s ≡ s
+calm_still s e o calm None is noop = unnamed_stays s e o is calm
+calm_still s e o calm (Some k) is noop =
     let still : transition e (inputs s k) ≡ goes_to (stage s k) = transition_still e (job s k) (inputs s k).slot (inputs s k).around (stage s k) noop in
-    named_moves s e o k (stage s k) is still m x p d b g q ∙ ap (λ (ts : List Task). record s { tasks = ts }) (set-get_or s.tasks k no_task)
+    named_moves s e o k (stage s k) is still calm ∙ ap (λ (ts : List Task). record s { tasks = ts }) (set-get_or s.tasks k no_task)
 
 noop_still : (e : Event) (o : Option Emission) (s : Seen) → is_noop s e ≡ true → and_then (did e o) s ≡ s
 noop_still (Deliver now to bytes) o s e = absurd (cc)
@@ -120,34 +150,16 @@ noop_still (Fire slot now) o s e = absurd (cc)
 noop_still (Signal shard to id reset) o s e = absurd (cc)
 noop_still (Due shard now) o s e = absurd (cc)
 noop_still (ShardTick shard now) o s e = absurd (cc)
-noop_still (Peek k n) o s e = named_still s (Peek k n) o k refl e refl refl refl refl refl (λ i. refl) (λ n. refl)
-noop_still (Remove k) o s e = named_still s (Remove k) o k refl e refl refl refl refl refl (λ i. refl) (λ n. refl)
-noop_still (Refuse k) o s e = named_still s (Refuse k) o k refl e refl refl refl refl refl (λ i. refl) (λ n. refl)
-noop_still (Receipt k) o s e = named_still s (Receipt k) o k refl e refl refl refl refl refl (λ i. refl) (λ n. refl)
-noop_still (Take k memory readings) o s e = named_still s (Take k memory readings) o k refl e refl refl refl refl refl (λ i. refl) (λ n. refl)
-noop_still (Commit k now) o s e = named_still s (Commit k now) o k refl e refl refl refl refl refl (λ i. refl) (λ n. refl)
-noop_still (Install k memory) o s e = named_still s (Install k memory) o k refl e refl refl refl refl refl (λ i. refl) (λ n. refl)
-noop_still (Raise k) o s e = named_still s (Raise k) o k refl e refl refl refl refl refl (λ i. refl) (λ n. refl)
-noop_still (GiveUp k now) o s e = named_still s (GiveUp k now) o k refl e refl refl refl refl refl (λ i. refl) (λ n. refl)
-noop_still (Lose k) o s e = named_still s (Lose k) o k refl e refl refl refl refl refl (λ i. refl) (λ n. refl)
 noop_still (Answer k now) o s e =
     let none : content_at (stage s k) ≡ None = none_answered k now (job s k).origin.slot (stage s k) e in
-    named_still s (Answer k now) o k refl e (rw none) (rw none) refl (rw none) refl (λ i. refl) (λ n. refl)
-noop_still (Note k now random) o s e = named_still s (Note k now random) o k refl e refl refl refl refl refl (λ i. refl) (λ n. refl)
+    calm_still s (Answer k now) o (record { time = rw none; exchanges = rw none; additions = refl; ids = rw none; brought = refl; hands = λ i. refl; calls = λ n. refl }) (Some k) refl e
 noop_still (Fresh k now) o s e =
     let none : needs_id (stage s k) ≡ false = none_drawn k now (job s k).origin.slot (stage s k) e in
-    named_still s (Fresh k now) o k refl e (rw none) refl refl (rw none) refl (λ i. refl) (λ n. refl)
+    calm_still s (Fresh k now) o (record { time = rw none; exchanges = refl; additions = refl; ids = rw none; brought = refl; hands = λ i. refl; calls = λ n. refl }) (Some k) refl e
+noop_still other o s e = calm_still s other o (calm_at_rest s other o refl refl) (names other) refl e
 
 pub no_ops_stay : (r : Entry) (s : Seen) → is_noop s r.event ≡ true → and_then r s ≡ s
 no_ops_stay r s e = noop_still r.event r.emitted s e
-
--- ---- a refused change
-
--- a refused change changes the stage of its job alone.
-pub refused_moves : (s : Seen) (k : ℕ) (o : Option Emission) → and_then (did (Refuse k) o) s ≡ with_stage s k (transition (Refuse k) (inputs s k)).stage
-refused_moves s k o =
-    named_moves s (Refuse k) o k (transition (Refuse k) (inputs s k)).stage refl (call_moves (Refuse k) (inputs s k) (RefusesChange (stage s k)) refl (is_refusable (stage s k)))
-    refl refl refl refl refl (λ i. refl) (λ n. refl)
 
 -- ---- emissions
 

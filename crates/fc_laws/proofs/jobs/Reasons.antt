@@ -20,7 +20,7 @@ use Rattle.fc_ticket.specs.Registrations.{is_observed}
 use Rattle.fc_registry.specs.Calls.{clear_by, outcome, outcome_by, put_by, receipt_at, snapshot, wants, readings_if}
 use Rattle.fc_ticket.specs.Runs.{receipt_of, initial_vars_of}
 use Rattle.fc_core.specs.declared.event.Event.{Event}
-use Rattle.fc_core.specs.declared.event.Event.TheVariants.{Peek, Take, Commit, Install, Remove, Refuse, Receipt}
+use Rattle.fc_core.specs.declared.event.Event.TheVariants.{Peek, Take, Commit, Install, Remove, Receipt}
 use Rattle.fc_core.specs.Stage.{Stage}
 use Rattle.fc_core.specs.Stage.{ToMatch, ToTake, ToCommit, ToInstall, ToRemove, ToDescribe, ToList, ToAnswer, ToTell}
 use Rattle.fc_core.specs.TurnStage as turns
@@ -29,7 +29,7 @@ use Rattle.arrayvec.specs.ArrayVec.{ArrayVec}
 use Rattle.fc_front.specs.Contents.{Content, Missing, Unavailable, Made, Rejected, Untyped, Valid, Deleted, Described, Listed}
 use Rattle.fc_core.specs.Fits.{HasNext}
 use Rattle.fc_front.specs.Heads.{is_match, is_present, serial_in, word_at}
-use Rattle.fc_core.specs.AnswerLaws.{HasSerial, IsCause, NoTicket, NoMemory, NothingDescribed, NothingTaken, Overtaken, LastCommit, LastInstall, LastRemoval, Unsaved}
+use Rattle.fc_core.specs.AnswerLaws.{HasSerial, IsCause, NoTicket, NoMemory, NothingDescribed, NothingTaken, Overtaken, LastCommit, LastInstall, LastRemoval}
 use Rattle.fc_core.specs.History.{around, Entry, History, Then, Seen, seen, and_then, did, job, slot_at, stage, task_at}
 use Rattle.fc_core.specs.Laws.{answer_at, slot_of, snapshots_of}
 use Rattle.fc_core.specs.Stages.{first_by, first_or_turn, image_of, made, matched_by, removed, run_content, receipt_content, took, matched}
@@ -189,8 +189,7 @@ step_why (steps.Takes memory readings n) k job slot ws taken c asked f e = inr (
 step_why (steps.TakesTurn memory readings turn) k job slot ws taken c asked f e = absurd (after_turn (λ st. answer_at st ≡ Some c → ⊥) (λ turn needs e. cc e) (λ e. cc e) (readings_if memory readings) turn (at job slot ws (ToTell turn turns.ToTake)) e)
 step_why (steps.Commits now n t) k job slot ws taken c asked f e = inr (committed_why k job slot ws taken now n t (outcome t slot) c f.0 f.1 refl e)
 step_why (steps.Installs memory) k job slot ws taken c asked f e = inr (verified_why k job slot ws taken memory c e)
-step_why (steps.RefusesRun n t) k job slot ws taken c asked f e = inr (so k job slot ws taken (Refuse k) (ToCommit n t) Unavailable c (Unsaved refl asked) e)
-step_why steps.RefusesRemoval k job slot ws taken c asked f e = inr (so k job slot ws taken (Refuse k) ToRemove Unavailable c (Unsaved refl refl) e)
+step_why (steps.Refuses refusal) k job slot ws taken c asked f e = inr (so k job slot ws taken (refusal.event k) refusal.stage Unavailable c (refusal.reason k job slot taken) e)
 step_why (steps.Raises word content) k job slot ws taken c asked f e = inl e
 step_why other k job slot ws taken c asked f e = absurd (none_is_answered e)
 

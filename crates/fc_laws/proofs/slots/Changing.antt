@@ -162,6 +162,7 @@ step_changes (steps.Draws now turn found) job slot ws n f = few_still n f
 step_changes (steps.Notes now random turn found id) job slot ws n f = few_still n f
 step_changes (steps.GivesUp now turn needs) job slot ws n f = few_still n f
 step_changes (steps.Loses needs) job slot ws n f = few_still n (one_change needs n f)
+step_changes (steps.Refuses refusal) job slot ws n f = few_still n (one_change refusal.stage n f)
 step_changes other job slot ws n f = first_change (effect_by other job slot ws).stage n (length (effect_by other job slot ws).changes) f (step_raises other job slot ws)
 
 transition_changes : (e : Event) (job : Job) (slot : Slot) (ws : Around) (s : Stage) (n : ℕ) → FitsChanges n s → FitsChanges (n + length (transition e (at job slot ws s)).changes) (transition e (at job slot ws s)).stage

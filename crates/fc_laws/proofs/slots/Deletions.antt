@@ -95,8 +95,7 @@ step_empties steps.Removes job slot ws e = inr (clear_empties slot (nat_lt slot.
 step_empties steps.Describes job slot ws e = inr (told_empties slot slot.present e)
 step_empties (steps.Matches n) job slot ws e = inr (matched_empties slot (is_match (word_at ws.common.words n) job.etags.items) (word_at ws.common.words n) e)
 step_empties (steps.Lists n seen) job slot ws e = inr (listed_empties slot (nat_lt (length (seen.items ++ word_at ws.common.words n ∷ [])) 64) (seen.items ++ word_at ws.common.words n ∷ []) e)
-step_empties (steps.RefusesRun n t) job slot ws e = absurd (cc e)
-step_empties steps.RefusesRemoval job slot ws e = absurd (cc e)
+step_empties (steps.Refuses refusal) job slot ws e = absurd (cc e)
 step_empties (steps.Raises word content) job slot ws e = inl e
 step_empties other job slot ws e = absurd (none_is_answered e)
 

@@ -10,18 +10,24 @@ use Rattle.fc_core.specs.declared.event.Event.TheVariants.{Refuse}
 use Rattle.fc_core.specs.Stage.{Stage}
 use Rattle.fc_core.specs.Stage.{ToCommit, ToInstall, ToRaise, ToRemove, ToAnswer}
 use Rattle.fc_front.specs.Contents.{Content, Unavailable}
-use Rattle.fc_core.specs.History.{around, Seen, and_then, did, job, slot_at, stage}
+use Rattle.fc_core.specs.History.{around, Seen, and_then, did, inputs, job, slot_at, stage}
 use Rattle.fc_core.specs.Laws.{slot_of}
 use Rattle.fc_core.specs.Stages.{is_refusable}
 use Rattle.fc_core.specs.Steps.{RefusesChange}
 use Rattle.fc_core.specs.Transitions.{Inputs, call_if, effect_of, transition}
-use Rattle.fc_laws.proofs.jobs.NoOps.{no_ops_stay}
+use Rattle.fc_laws.proofs.jobs.NoOps.{call_moves, calm_at_rest, named_moves, no_ops_stay, with_stage}
 use Rattle.fc_laws.proofs.jobs.Others.{is_here, named_stage}
 use Rattle.fc_laws.proofs.slots.Writing.{unwanted, wanted}
 
 -- the inputs of job k at this stage.
 abbrev at_stage : Seen → ℕ → Stage → Inputs
 at_stage s k st = record { job = job s k; slot = slot_at s (slot_of s k); around = around s (slot_of s k); stage = st }
+
+-- a refused change changes the stage of its job alone.
+pub refused_moves : (s : Seen) (k : ℕ) (o : Option Emission) → and_then (did (Refuse k) o) s ≡ with_stage s k (transition (Refuse k) (inputs s k)).stage
+refused_moves s k o =
+    named_moves s (Refuse k) o k (transition (Refuse k) (inputs s k)).stage refl (call_moves (Refuse k) (inputs s k) (RefusesChange (stage s k)) refl (is_refusable (stage s k)))
+    (calm_at_rest s (Refuse k) o refl refl)
 
 pub removal_refused : (s : Seen) (k : ℕ) (o : Option Emission) → stage s k ≡ ToRemove → stage (and_then (did (Refuse k) o) s) k ≡ ToAnswer Unavailable
 removal_refused s k o is = named_stage (did (Refuse k) o) s k (is_here s k ToRemove is (λ e. absurd (cc e))) refl

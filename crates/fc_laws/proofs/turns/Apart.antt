@@ -20,7 +20,7 @@ use Rattle.fc_core.specs.History.{Entry, History, BeginsWith, Then, Seen, seen, 
 use Rattle.fc_core.specs.Laws.{HasCome, followed_by, slot_of}
 use Rattle.fc_core.specs.Stages.{first_or_turn, first_stage, turn_took}
 use Rattle.fc_core.specs.Transitions.{Around, Inputs, names, transition}
-use Rattle.fc_core.proofs.ByStep.{Step, by_effect, effect_by, stage_by}
+use Rattle.fc_core.proofs.ByStep.{Step, IsUnanswered, by_effect, effect_by, stage_by}
 use Rattle.fc_core.proofs.ByStep as steps
 use Rattle.fc_laws.proofs.jobs.Ends.{gone_later, lost_gone}
 use Rattle.fc_laws.proofs.jobs.Others.{is_here, named_stage, still_here}
@@ -60,12 +60,19 @@ taken_apart own turn Missing is = is
 taken_apart own turn Stale is = tt
 taken_apart own turn Refused is = is
 
+-- a request's job without an answer has no lease.
+pub unanswered_apart : (turn : Turn) (s : Stage) → IsUnanswered s → IsToldOf turn s → ⊥
+unanswered_apart turn (ToTell own needs) none w = none
+unanswered_apart turn Gone none w = none
+unanswered_apart turn other none w = w
+
 step_apart : (c : Step) (job : Job) (slot : Slot) (ws : Around) (turn : Turn) → IsToldOf turn (stage_by c) → IsToldOf turn (effect_by c job slot ws).stage
 step_apart (steps.TakesTurn memory readings own) job slot ws turn w = taken_apart own turn _ w
 step_apart (steps.Draws now own found) job slot ws turn w = w
 step_apart (steps.Notes now random own found id) job slot ws turn w = tt
 step_apart (steps.GivesUp now own needs) job slot ws turn w = tt
 step_apart (steps.Loses needs) job slot ws turn w = tt
+step_apart (steps.Refuses refusal) job slot ws turn w = absurd (unanswered_apart turn refusal.stage refusal.unanswered w)
 step_apart other job slot ws turn w = absurd w
 
 pub transition_apart : (e : Event) (job : Job) (slot : Slot) (ws : Around) (turn : Turn) (s : Stage) → IsToldOf turn s → IsToldOf turn (transition e (at job slot ws s)).stage

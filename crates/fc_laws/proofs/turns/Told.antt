@@ -126,6 +126,7 @@ module _ (n confirm_after : ℕ) (calls : List ObserverCall) (common : Common) (
   step_knows (steps.Notes now random mine found id) job slot turn own w = tt
   step_knows (steps.GivesUp now mine needs) job slot turn own w = tt
   step_knows (steps.Loses needs) job slot turn own w = tt
+  step_knows (steps.Refuses refusal) job slot turn own w = tt
   step_knows other job slot turn own w = absurd own
 
   transition_knows : (e : Event) (job : Job) (slot : Slot) (turn : Turn) (s : Stage) → IsToldOf turn s → Knows n confirm_after calls slot.serial s → Knows n confirm_after ((transition e (at job slot ws s)).calls ++ calls) slot.serial (transition e (at job slot ws s)).stage

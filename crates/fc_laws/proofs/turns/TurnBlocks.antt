@@ -113,6 +113,7 @@ step_block (steps.Draws now mine found) j slot ws turn own w = drawn_block mine 
 step_block (steps.Notes now random mine found id) j slot ws turn own w = tt
 step_block (steps.GivesUp now mine needs) j slot ws turn own w = tt
 step_block (steps.Loses needs) j slot ws turn own w = tt
+step_block (steps.Refuses refusal) j slot ws turn own w = tt
 step_block other j slot ws turn own w = absurd own
 
 transition_block : (e : Event) (j : Job) (slot : Slot) (ws : Around) (turn : Turn) (s : Stage) → IsToldOf turn s → HasBlock j s → HasBlock j (transition e (at j slot ws s)).stage

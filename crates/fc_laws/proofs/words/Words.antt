@@ -17,7 +17,7 @@ use Rattle.fc_verify.specs.Judged.{judged}
 use Rattle.fc_core.specs.AnswerLaws.{HasSerial, greatest}
 use Rattle.fc_front.specs.Contents.{Valid}
 use Rattle.fc_core.specs.declared.event.Event.{Event}
-use Rattle.fc_core.specs.declared.event.Event.TheVariants.{Peek, Take, Commit, Install, Remove, Receipt, Raise, Answer, Fresh, Note, GiveUp, Lose, Refuse}
+use Rattle.fc_core.specs.declared.event.Event.TheVariants.{Peek, Raise}
 use Rattle.fc_core.specs.Stage.{Stage}
 use Rattle.fc_core.specs.Stage.{ToMatch, ToInstall, ToRaise, ToAnswer}
 use Rattle.fc_laws.specs.HeadLaws.{raises_of, word_to_raise, words_raised}
@@ -27,7 +27,7 @@ use Rattle.fc_core.specs.Laws.{slot_of}
 use Rattle.fc_core.specs.Stages.{image_of, matched_by, matched}
 use Rattle.fc_core.specs.Transitions.{Around, Inputs, names, transition, call_if, install_call, install_if, effect_of}
 use Rattle.fc_core.specs.Steps.{Matches, word_of_call}
-use Rattle.fc_core.proofs.ByStep.{Step, by_step, event_by, effect_by, stage_by, Rests}
+use Rattle.fc_core.proofs.ByStep.{Step, IsUnanswered, Rests, by_step, event_by, effect_by, stage_by}
 use Rattle.fc_core.proofs.ByStep as steps
 use Rattle.fc_laws.proofs.jobs.Others.{is_here, named_stage}
 
@@ -49,8 +49,14 @@ abbrev raise_by : Event → Stage → Option ℕ
 raise_by (Raise k) (ToRaise word content) = Some word
 raise_by e other = None
 
+unanswered_raises : (e : Event) (s : Stage) → IsUnanswered s → raise_by e s ≡ None
+unanswered_raises (Raise k) (ToRaise word content) none = absurd none
+unanswered_raises (Raise k) other none = refl
+unanswered_raises other s none = refl
+
 step_raises : (k : ℕ) (c : Step) (job : Job) (slot : Slot) (ws : Around) → (effect_by c job slot ws).raises ≡ raise_by (event_by k c) (stage_by c)
 step_raises k (steps.Installs memory) job slot ws = verified_raises memory (at job slot ws ToInstall)
+step_raises k (steps.Refuses refusal) job slot ws = sym (unanswered_raises (refusal.event k) refusal.stage refusal.unanswered)
 step_raises k other job slot ws = refl
 
 rest_raises : (e : Event) (job : Job) (s : Stage) → Rests e job s → None ≡ raise_by e s
@@ -118,21 +124,14 @@ module _ (e : Event) (s : Seen) (k n : ℕ) (lt : n < length s.words) where
   by_none : raise_by e (stage s k) ≡ None → word_at (words_seen (Some k) e s) n ≡ max (word_at s.words n) 0
   by_none is = by_raise ∙ (ap (λ (o : Option ℕ). max (word_at s.words n) (greatest (words_in (slot_of s k == n) o))) is ∙ (sym (none_in (slot_of s k == n) (word_at s.words n)) ∙ above_zero (word_at s.words n)))
 
+-- an event that raises no word leaves the words unchanged.
+none_after : (e : Event) (s : Seen) (n : ℕ) → n < length s.words → ((st : Stage) → raise_by e st ≡ None) → (o : Option ℕ) → word_at (words_seen o e s) n ≡ max (word_at s.words n) 0
+none_after e s n lt none None = above_zero (word_at s.words n)
+none_after e s n lt none (Some k) = by_none e s k n lt (none (stage s k))
+
 word_after : (e : Event) (s : Seen) (n : ℕ) → n < length s.words → word_at (words_seen (names e) e s) n ≡ max (word_at s.words n) (greatest (words_raised n e s))
 word_after (Raise k) s n lt = by_raise (Raise k) s k n lt ∙ ap (λ (l : List ℕ). max (word_at s.words n) (greatest l)) (to_raise (slot_of s k == n) k (stage s k))
-word_after (Peek k i) s n lt = by_none (Peek k i) s k n lt refl
-word_after (Take k memory readings) s n lt = by_none (Take k memory readings) s k n lt refl
-word_after (Commit k now) s n lt = by_none (Commit k now) s k n lt refl
-word_after (Install k memory) s n lt = by_none (Install k memory) s k n lt refl
-word_after (Remove k) s n lt = by_none (Remove k) s k n lt refl
-word_after (Refuse k) s n lt = by_none (Refuse k) s k n lt refl
-word_after (Receipt k) s n lt = by_none (Receipt k) s k n lt refl
-word_after (Answer k now) s n lt = by_none (Answer k now) s k n lt refl
-word_after (Fresh k now) s n lt = by_none (Fresh k now) s k n lt refl
-word_after (Note k now random) s n lt = by_none (Note k now random) s k n lt refl
-word_after (GiveUp k now) s n lt = by_none (GiveUp k now) s k n lt refl
-word_after (Lose k) s n lt = by_none (Lose k) s k n lt refl
-word_after other s n lt = above_zero (word_at s.words n)
+word_after other s n lt = none_after other s n lt (λ st. refl) (names other)
 
 greatest_append : (xs ys : List ℕ) → greatest (xs ++ ys) ≡ max (greatest ys) (greatest xs)
 greatest_append [] ys = above_zero (greatest ys)

@@ -3,8 +3,8 @@ use Rattle.fc_core.specs.declared.event.Event.TheVariants.{Refuse}
 use Rattle.fc_core.specs.History.{Seen, inputs, slot_at, stage}
 use Rattle.fc_core.specs.Steps.{RefusesChange}
 use Rattle.fc_core.specs.Transitions.{call_if, effect_of}
-use Rattle.fc_laws.proofs.jobs.NoOps.{refused_moves, with_stage}
-use Rattle.fc_laws.proofs.slots.Unsaved.{install_stays, made_stays, read_stays, removal_refused, write_refused}
+use Rattle.fc_laws.proofs.jobs.NoOps.{with_stage}
+use Rattle.fc_laws.proofs.slots.Unsaved.{install_stays, made_stays, read_stays, refused_moves, removal_refused, write_refused}
 use Rattle.fc_laws.proofs.laws.unsaved_changes_are_refused.Goals as goal
 
 pub returns-clause-alone : goal.returns-clause-alone
