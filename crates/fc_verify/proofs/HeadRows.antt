@@ -8,7 +8,7 @@ use Rattle.fc_isa.specs.declared.insn.Insn.{Insn}
 use Rattle.fc_isa.specs.declared.insn.Insn.TheVariants.{Alu, JumpAlways, JumpIf, CallHelper, Exit}
 use Rattle.fc_isa.specs.declared.rule.Rule.TheVariants.{BackwardJump, Cost}
 use Rattle.fc_isa.specs.declared.version.ImageVersion.{ImageVersion}
-use Rattle.fc_isa.specs.declared.version.ImageVersion.TheVariants.{One, Two}
+use Rattle.fc_isa.specs.declared.version.ImageVersion.TheVariants.{Two}
 use Rattle.fc_image.specs.Functions.{is_start, frames}
 use Rattle.fc_image.specs.Head.{Head}
 use Rattle.fc_image.specs.Loops.{is_written, has_call, loops_of}

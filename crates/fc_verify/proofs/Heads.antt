@@ -1,10 +1,7 @@
 -- The state at a head, and the parts of it that a body keeps.
-use Rattle.std.proofs.Common.{◌≡◌, ◌≢◌, ◌⊎◌, ℕ, zero, suc, ◌+◌, ◌-◌, ◌==◌, ◌&&◌, ◌||◌, ◌<◌, ◌≤◌, nat_lt, nat_le, max, min, Bool, true, false, if◌then◌else◌, ℤ, pos, Option, Some, None, List, [], ◌∷◌, length, take, drop, refl, sym, ap, ◌∙◌, subst, inl, inr, arith, get_or-set_same, get_or-set_other}
+use Rattle.std.proofs.Common.{◌≡◌, ◌≢◌, ◌⊎◌, ℕ, zero, suc, ◌+◌, ◌-◌, ◌==◌, ◌&&◌, ◌||◌, ◌<◌, ◌≤◌, nat_lt, nat_le, max, min, Bool, true, false, if◌then◌else◌, ℤ, pos, Option, Some, None, List, length, refl, sym, ap, ◌∙◌, subst, inl, inr, arith, get_or-set_same, get_or-set_other}
 use Rattle.std.specs.Prelude.{slice_get, slice_set}
-use Rattle.std.specs.List.{list_any}
 use Rattle.std.proofs.lemmas.List.{get_or_past}
-use Rattle.std.proofs.lemmas.List.Folds.{list_any-from_Any}
-use Rattle.std.proofs.lemmas.Option.{get_or_from_slice_get, slice_get_within}
 use Rattle.std.proofs.lemmas.Bool.Decides.{nat_tests}
 use Rattle.std.proofs.lemmas.Bool.{cases_eq, cases_lt}
 use Rattle.fc_isa.specs.declared.insn.Width.TheVariants.{W64}
@@ -24,9 +21,9 @@ use Rattle.fc_kinds.specs.Kinds.{kind_at, KindWithin, Within}
 use Rattle.fc_kinds.specs.Containing.{IsKind, AreKinds}
 use Rattle.fc_kinds.specs.Transfer.{num, is_number, put_kind, where_met, after_call, are_arguments, helped_kinds, transfer}
 use Rattle.fc_kinds.specs.Refinement.{both_numbers, when}
-use Rattle.fc_kinds.proofs.KindLaws.{kind_within_same, within_then, within_trans}
+use Rattle.fc_kinds.proofs.KindLaws.{kind_within_same, within_trans}
 use Rattle.fc_image.specs.declared.loops.Loop.{Loop}
-use Rattle.fc_image.specs.Loops.{body, is_written, has_call}
+use Rattle.fc_image.specs.Loops.{is_written, has_call}
 use Rattle.fc_isa.specs.Writes.{computes, is_call, is_that, writes}
 use Rattle.fc_verify.specs.Heads.{IsAnyNumber, IsHeadState, any_number, formed_kind, formed, enters, settled, gives_number}
 use Rattle.fc_verify.proofs.Rules.{IsUnder, Settles, SettlesIn, IsSound}

@@ -16,7 +16,7 @@ use Rattle.fc_isa.proofs.Slots.{length-insns_below}
 use Rattle.fc_isa.specs.declared.version.ImageVersion.{ImageVersion}
 use Rattle.fc_isa.specs.declared.version.ImageVersion.TheVariants.{One, Two}
 use Rattle.fc_image.specs.Functions.{frames}
-use Rattle.fc_image.specs.Head.{Head, head_fault, stated, slots_allowed, frames_allowed}
+use Rattle.fc_image.specs.Head.{Head, head_fault, stated, frames_allowed}
 use Rattle.fc_image.specs.Paths.{longest}
 use Rattle.fc_image.specs.ShapeRules.{IsShaped, shape_fault}
 use Rattle.fc_verify.specs.declared.refusal.Refusal.{Refusal}

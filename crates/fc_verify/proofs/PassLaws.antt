@@ -1,6 +1,6 @@
 -- The pass over the slots: the pass's result is a typing, and if the pass has no result, the
 -- program has no typing.
-use Rattle.std.proofs.Common.{◌≡◌, ◌≢◌, ◌⊎◌, ℕ, zero, suc, ◌+◌, ◌<◌, ◌≤◌, ◌&&◌, ◌||◌, not, nat_eq, true, false, Bool, if◌then◌else◌, Option, Some, None, List, [], ◌∷◌, length, map, refl, sym, ap, ◌∙◌, subst, inl, inr, arith, length-set, get_or-set_same}
+use Rattle.std.proofs.Common.{◌≡◌, ◌≢◌, ◌⊎◌, ℕ, zero, suc, ◌+◌, ◌<◌, ◌≤◌, ◌&&◌, ◌||◌, not, true, false, Bool, if◌then◌else◌, Option, Some, None, List, [], ◌∷◌, length, map, refl, sym, ap, ◌∙◌, subst, inl, inr, arith, length-set, get_or-set_same}
 use Rattle.std.specs.Prelude.{is_some, slice_get, slice_set}
 use Rattle.std.proofs.lemmas.Int.{ints}
 use Rattle.std.proofs.lemmas.Bool.{cases_eq, cases_lt}
@@ -14,15 +14,15 @@ use Rattle.fc_isa.specs.Program.{IsInsn}
 use Rattle.fc_isa.specs.Flow.{Flow, Halts, Goes, Forks, Enters, flow}
 use Rattle.fc_kinds.specs.declared.kind.Kind.{Kind}
 use Rattle.fc_kinds.specs.Kinds.{kind_at, KindWithin, Within}
-use Rattle.fc_kinds.specs.Lattice.{join_kind, joined}
+use Rattle.fc_kinds.specs.Lattice.{joined}
 use Rattle.fc_kinds.specs.Containing.{IsKind, AreKinds}
 use Rattle.fc_kinds.specs.Values.{with_some}
 use Rattle.fc_kinds.specs.Transfer.{transfer, enter, is_number}
 use Rattle.fc_kinds.specs.Refinement.{when}
 use Rattle.fc_kinds.specs.Entry.{entry, fourth_kind}
 use Rattle.fc_verify.specs.Typing.{States, state_at, Leads}
-use Rattle.fc_kinds.proofs.KindLaws.{within_same, within_then, kind_within_same, set_past, within_trans}
-use Rattle.fc_kinds.proofs.JoinLaws.{joined_least, joined_at, joined_kinds, join_least}
+use Rattle.fc_kinds.proofs.KindLaws.{within_same, kind_within_same, set_past, within_trans}
+use Rattle.fc_kinds.proofs.JoinLaws.{joined_at, joined_kinds, join_least}
 use Rattle.fc_kinds.proofs.Monotone.{is_number_follows}
 use Rattle.fc_kinds.proofs.TransferLaws.{transfer_meets, enter_within, enter_kinds}
 use Rattle.fc_kinds.proofs.RefinementLaws.{when_follows, WayFollows}

@@ -5,15 +5,13 @@ use Rattle.fc_isa.specs.declared.insn.AluOp.TheVariants.{Add, Mov}
 use Rattle.fc_isa.specs.declared.insn.Relation.TheVariants.{Eq, Gt}
 use Rattle.fc_isa.specs.declared.insn.Operand.TheVariants.{Imm, Reg}
 use Rattle.fc_isa.specs.declared.insn.Size.TheVariants.{Byte, DoubleWord}
-use Rattle.fc_isa.specs.declared.insn.LoadType.TheVariants.{Unsigned}
 use Rattle.fc_isa.specs.declared.insn.Insn.{Insn}
-use Rattle.fc_isa.specs.declared.insn.Insn.TheVariants.{Alu, LoadWide, WideSecond, Load, StoreImm, Store, JumpIf, CallHelper, CallLocal, Exit}
+use Rattle.fc_isa.specs.declared.insn.Insn.TheVariants.{Alu, LoadWide, WideSecond, StoreImm, Store, JumpIf, CallHelper, CallLocal, Exit}
 use Rattle.fc_isa.specs.declared.insn.Width.{Width}
 use Rattle.fc_kinds.specs.Intervals.{interval_of, alu_interval, refined}
 use Rattle.fc_kinds.specs.Transfer.{transfer, alu_kind}
 use Rattle.fc_kinds.specs.Refinement.{when}
-use Rattle.fc_isa.specs.declared.version.ImageVersion.{ImageVersion}
-use Rattle.fc_isa.specs.declared.version.ImageVersion.TheVariants.{One, Two}
+use Rattle.fc_isa.specs.declared.version.ImageVersion.TheVariants.{One}
 use Rattle.fc_verify.specs.Heads.{settled}
 use Rattle.fc_verify.specs.Pass.{pass_from, is_typable}
 use Rattle.fc_image.specs.Loops.{loops_of}

@@ -117,14 +117,17 @@ fn pass_slots(
         reach = reached(reach, beginning);
         if let Some(found) = &states[slot] {
             regs.copy_from_slice(found);
-            let inside = slot < reach;
-            if !pass(
-                vars_size, code, slot, insn, beginning, inside, &mut regs, states,
-            ) {
+            let point = ProgramPoint {
+                vars_size,
+                code,
+                slot,
+                insn,
+                beginning,
+                inside: slot < reach,
+            };
+            if !pass(&point, &mut regs, states) {
                 match &states[slot] {
-                    Some(found) => {
-                        return Err(untyped(vars_size, code, slot, insn, beginning, inside, found));
-                    }
+                    Some(found) => return Err(untyped(&point, found)),
                     None => unreachable!(),
                 }
             }
@@ -147,37 +150,40 @@ fn reached(reach: usize, beginning: &Option<Loop>) -> usize
     }
 }
 
+/// A program point of the pass: a slot, in its program.
+#[derive(Drop)]
+struct ProgramPoint<'a> {
+    vars_size: u16,
+    code: &'a [Insn],
+    slot: usize,
+    insn: &'a Insn,
+    /// The loop that begins at the slot, if one does.
+    beginning: &'a Option<Loop>,
+    /// Whether the slot is in the body of a loop.
+    inside: bool,
+}
+
 /// Passes over a slot that is found with the state `regs`.
 ///
-/// `beginning` is the loop that begins at the slot, and `inside` says whether the slot is in a
-/// loop's body. At the head of a loop the loop invariant is formed. If the demands of the slot are
-/// met, the states on its branches are joined to those of later slots, and the result is `true`. If
-/// not, or if the loop's counter doesn't start below its bound, the states don't change, and the
-/// result is `false`. `regs` is scratch space after the call.
-fn pass(
-    vars_size: u16,
-    code: &[Insn],
-    slot: usize,
-    insn: &Insn,
-    beginning: &Option<Loop>,
-    inside: bool,
-    regs: &mut Regs,
-    states: &mut [Option<Regs>],
-) -> bool
-    requires counted { IsLoopOf code.now beginning.now }
+/// At the head of a loop the loop invariant is formed. If the demands of the slot are met, the
+/// states on its branches are joined to those of later slots, and the result is `true`. If not, or
+/// if the loop's counter doesn't start below its bound, the states don't change, and the result is
+/// `false`. `regs` is scratch space after the call.
+fn pass(point: &ProgramPoint<'_>, regs: &mut Regs, states: &mut [Option<Regs>]) -> bool
+    requires counted { IsLoopOf point.now.code.now point.now.beginning.now }
     requires kinds { AreKinds regs.old }
     requires levels { AreShallow 1023 regs.old }
-    requires slot { slot < 1024 }
-    requires here { state_at states.old slot ≡ Some regs.old }
-    requires within { IsWithin (length states.old) (flow slot insn.now) }
-    requires insn { IsInsn insn.now }
-    ensures met { result ≡ true → passed_by vars_size code.now beginning.now inside slot insn.now regs.old states.old ≡ Some states.new }
-    ensures refused { result ≡ false → passed_by vars_size code.now beginning.now inside slot insn.now regs.old states.old ≡ None }
+    requires slot { point.now.slot < 1024 }
+    requires here { state_at states.old point.now.slot ≡ Some regs.old }
+    requires within { IsWithin (length states.old) (flow point.now.slot point.now.insn.now) }
+    requires insn { IsInsn point.now.insn.now }
+    ensures met { result ≡ true → passed_by point.now.vars_size point.now.code.now point.now.beginning.now point.now.inside point.now.slot point.now.insn.now regs.old states.old ≡ Some states.new }
+    ensures refused { result ≡ false → passed_by point.now.vars_size point.now.code.now point.now.beginning.now point.now.inside point.now.slot point.now.insn.now regs.old states.old ≡ None }
     ensures kept { result ≡ false → states.new ≡ states.old }
 {
-    match beginning {
-        Some(counted) => { pass_head(vars_size, code, slot, insn, counted, inside, regs, states) }
-        None => pass_on(vars_size, slot, insn, inside, regs, states),
+    match point.beginning {
+        Some(counted) => pass_head(point, counted, regs, states),
+        None => pass_on(point, regs, states),
     }
 }
 
@@ -186,34 +192,30 @@ fn pass(
 /// Returns whether the loop's counter starts below its bound and the demands of the slot's
 /// instruction are met. If not, the states don't change.
 fn pass_head(
-    vars_size: u16,
-    code: &[Insn],
-    slot: usize,
-    insn: &Insn,
+    point: &ProgramPoint<'_>,
     head: &Loop,
-    inside: bool,
     regs: &mut Regs,
     states: &mut [Option<Regs>],
 ) -> bool
-    requires counted { IsLoopOf code.now (Some head.now) }
+    requires counted { IsLoopOf point.now.code.now (Some head.now) }
     requires kinds { AreKinds regs.old }
     requires levels { AreShallow 1023 regs.old }
-    requires slot { slot < 1024 }
-    requires here { slot < length states.old }
-    requires within { IsWithin (length states.old) (flow slot insn.now) }
-    requires insn { IsInsn insn.now }
-    ensures met { result ≡ true → passed_by vars_size code.now (Some head.now) inside slot insn.now regs.old states.old ≡ Some states.new }
-    ensures refused { result ≡ false → passed_by vars_size code.now (Some head.now) inside slot insn.now regs.old states.old ≡ None }
+    requires slot { point.now.slot < 1024 }
+    requires here { point.now.slot < length states.old }
+    requires within { IsWithin (length states.old) (flow point.now.slot point.now.insn.now) }
+    requires insn { IsInsn point.now.insn.now }
+    ensures met { result ≡ true → passed_by point.now.vars_size point.now.code.now (Some head.now) point.now.inside point.now.slot point.now.insn.now regs.old states.old ≡ Some states.new }
+    ensures refused { result ≡ false → passed_by point.now.vars_size point.now.code.now (Some head.now) point.now.inside point.now.slot point.now.insn.now regs.old states.old ≡ None }
     ensures kept { result ≡ false → states.new ≡ states.old }
 {
-    match settled(code, head, regs) {
+    match settled(point.code, head, regs) {
         Some(kinds) => {
             regs.copy_from_slice(&kinds);
-            if !meet_demands(vars_size, insn, inside, regs) {
+            if !meet_demands(point, regs) {
                 return false;
             }
-            states[slot] = Some(kinds);
-            spread(slot, *insn, regs, states);
+            states[point.slot] = Some(kinds);
+            spread(point.slot, *point.insn, regs, states);
             true
         }
         None => false,
@@ -224,47 +226,40 @@ fn pass_head(
 ///
 /// Returns whether the demands of the slot's instruction are met. If they are, the states on its
 /// branches are joined to those of the later slots; if not, the states don't change.
-fn pass_on(
-    vars_size: u16,
-    slot: usize,
-    insn: &Insn,
-    inside: bool,
-    regs: &mut Regs,
-    states: &mut [Option<Regs>],
-) -> bool
+fn pass_on(point: &ProgramPoint<'_>, regs: &mut Regs, states: &mut [Option<Regs>]) -> bool
     requires kinds { AreKinds regs.old }
     requires levels { AreShallow 1023 regs.old }
-    requires slot { slot < 1024 }
-    requires here { state_at states.old slot ≡ Some regs.old }
-    requires within { IsWithin (length states.old) (flow slot insn.now) }
-    requires insn { IsInsn insn.now }
-    ensures met { result ≡ true → met_by vars_size inside slot insn.now regs.old states.old ≡ Some states.new }
-    ensures refused { result ≡ false → met_by vars_size inside slot insn.now regs.old states.old ≡ None }
+    requires slot { point.now.slot < 1024 }
+    requires here { state_at states.old point.now.slot ≡ Some regs.old }
+    requires within { IsWithin (length states.old) (flow point.now.slot point.now.insn.now) }
+    requires insn { IsInsn point.now.insn.now }
+    ensures met { result ≡ true → met_by point.now.vars_size point.now.inside point.now.slot point.now.insn.now regs.old states.old ≡ Some states.new }
+    ensures refused { result ≡ false → met_by point.now.vars_size point.now.inside point.now.slot point.now.insn.now regs.old states.old ≡ None }
     ensures kept { result ≡ false → states.new ≡ states.old }
 {
-    if !meet_demands(vars_size, insn, inside, regs) {
+    if !meet_demands(point, regs) {
         return false;
     }
-    spread(slot, *insn, regs, states);
+    spread(point.slot, *point.insn, regs, states);
     true
 }
 
 /// Applies an instruction to the registers before it, if its demands are met.
 ///
-/// The demands are the preconditions and, in a counted loop's body (`inside`), a number in the
-/// register that the instruction computes. Returns whether they are met. If not, the contract
-/// doesn't say what `regs` contains.
-fn meet_demands(vars_size: u16, insn: &Insn, inside: bool, regs: &mut Regs) -> bool
+/// The demands are the preconditions and, in a counted loop's body, a number in the register that
+/// the instruction computes. Returns whether they are met. If not, the contract doesn't say what
+/// `regs` contains.
+fn meet_demands(point: &ProgramPoint<'_>, regs: &mut Regs) -> bool
     requires kinds { AreKinds regs.old }
-    requires insn { IsInsn insn.now }
-    ensures after { result ≡ true → transfer vars_size insn.now regs.old ≡ Some regs.new }
+    requires insn { IsInsn point.now.insn.now }
+    ensures after { result ≡ true → transfer point.now.vars_size point.now.insn.now regs.old ≡ Some regs.new }
     ensures kinds { result ≡ true → AreKinds regs.new }
-    ensures numbers { result ≡ true → (inside && not (gives_number (computes insn.now) regs.new)) ≡ false }
-    ensures refused { result ≡ false → (slot : ℕ) (states : States) → met_by vars_size inside slot insn.now regs.old states ≡ None }
+    ensures numbers { result ≡ true → (point.now.inside && not (gives_number (computes point.now.insn.now) regs.new)) ≡ false }
+    ensures refused { result ≡ false → (slot : ℕ) (states : States) → met_by point.now.vars_size point.now.inside slot point.now.insn.now regs.old states ≡ None }
 {
     effects_keep_kinds();
-    match after(*insn, regs, vars_size) {
-        Ok(()) => !inside || gives_number(insn, regs),
+    match after(*point.insn, regs, point.vars_size) {
+        Ok(()) => !point.inside || gives_number(point.insn, regs),
         Err(_) => false,
     }
 }
@@ -273,50 +268,42 @@ fn meet_demands(vars_size: u16, insn: &Insn, inside: bool, regs: &mut Regs) -> b
 ///
 /// The slot must be one for which `pass` returns `false`. The result also has the rule that the
 /// slot breaks, and the state that is the evidence.
-fn untyped(
-    vars_size: u16,
-    code: &[Insn],
-    slot: usize,
-    insn: &Insn,
-    beginning: &Option<Loop>,
-    inside: bool,
-    regs: &Regs,
-) -> Untyped
-    requires counted { IsLoopOf code.now beginning.now }
+fn untyped(point: &ProgramPoint<'_>, regs: &Regs) -> Untyped
+    requires counted { IsLoopOf point.now.code.now point.now.beginning.now }
     requires kinds { AreKinds regs.now }
-    requires insn { IsInsn insn.now }
-    requires refused { (states : States) × (passed_by vars_size code.now beginning.now inside slot insn.now regs.now states ≡ None) }
+    requires insn { IsInsn point.now.insn.now }
+    requires refused { (states : States) × (passed_by point.now.vars_size point.now.code.now point.now.beginning.now point.now.inside point.now.slot point.now.insn.now regs.now states ≡ None) }
     ensures rule { IsRuleOf result.demand result.fault.rule }
-    ensures slot { result.fault.slot ≡ slot }
-    ensures stops { Stops vars_size code.now beginning.now inside insn.now regs.now result.known result.demand }
+    ensures slot { result.fault.slot ≡ point.now.slot }
+    ensures stops { Stops point.now.vars_size point.now.code.now point.now.beginning.now point.now.inside point.now.insn.now regs.now result.known result.demand }
 {
-    match beginning {
-        Some(counted) => match settled(code, counted, regs) {
-            Some(kinds) => at_insn(vars_size, slot, insn, inside, &kinds),
-            None => at_head(vars_size, code, slot, insn, counted, regs),
+    match point.beginning {
+        Some(counted) => match settled(point.code, counted, regs) {
+            Some(kinds) => at_insn(point, &kinds),
+            None => at_head(point, counted, regs),
         },
-        None => at_insn(vars_size, slot, insn, inside, regs),
+        None => at_insn(point, regs),
     }
 }
 
 /// Returns the demand that an instruction doesn't meet, its rule and its state.
 ///
-/// Either a precondition doesn't hold, or the instruction is in a loop's body (`inside`) and
-/// computes no number. The state is `kinds`, which is the loop invariant if a loop begins at the
+/// Either a precondition doesn't hold, or the instruction is in a loop's body and computes no
+/// number. The state is `kinds`, which is the loop invariant if a loop begins at the
 /// slot.
-fn at_insn(vars_size: u16, slot: usize, insn: &Insn, inside: bool, kinds: &Regs) -> Untyped
+fn at_insn(point: &ProgramPoint<'_>, kinds: &Regs) -> Untyped
     requires kinds { AreKinds kinds.now }
-    requires insn { IsInsn insn.now }
-    requires refused { (states : States) × (met_by vars_size inside slot insn.now kinds.now states ≡ None) }
+    requires insn { IsInsn point.now.insn.now }
+    requires refused { (states : States) × (met_by point.now.vars_size point.now.inside point.now.slot point.now.insn.now kinds.now states ≡ None) }
     ensures rule { IsRuleOf result.demand result.fault.rule }
-    ensures slot { result.fault.slot ≡ slot }
+    ensures slot { result.fault.slot ≡ point.now.slot }
     ensures known { result.known ≡ kinds.now }
-    ensures fails { Fails vars_size inside insn.now kinds.now result.demand }
+    ensures fails { Fails point.now.vars_size point.now.inside point.now.insn.now kinds.now result.demand }
 {
     let mut next = *kinds;
-    match checked(vars_size, slot, *insn, &mut next) {
-        Ok(()) => match unnumbered(inside, insn, &next) {
-            Some(demand) => against_loop(slot, kinds, demand),
+    match checked(point, &mut next) {
+        Ok(()) => match unnumbered(point.inside, point.insn, &next) {
+            Some(demand) => against_loop(point.slot, kinds, demand),
             None => unreachable!(),
         },
         Err(untyped) => untyped,
@@ -327,25 +314,18 @@ fn at_insn(vars_size: u16, slot: usize, insn: &Insn, inside: bool, kinds: &Regs)
 ///
 /// Either a precondition of the loop's first instruction doesn't hold in the loop's iterations, or
 /// the loop's counter doesn't start below the bound.
-fn at_head(
-    vars_size: u16,
-    code: &[Insn],
-    slot: usize,
-    insn: &Insn,
-    counted: &Loop,
-    regs: &Regs,
-) -> Untyped
-    requires counted { IsLoopOf code.now (Some counted.now) }
-    requires outside { settled code.now (Some counted.now) regs.now ≡ None }
+fn at_head(point: &ProgramPoint<'_>, counted: &Loop, regs: &Regs) -> Untyped
+    requires counted { IsLoopOf point.now.code.now (Some counted.now) }
+    requires outside { settled point.now.code.now (Some counted.now) regs.now ≡ None }
     requires kinds { AreKinds regs.now }
-    requires insn { IsInsn insn.now }
+    requires insn { IsInsn point.now.insn.now }
     ensures rule { IsRuleOf result.demand result.fault.rule }
-    ensures slot { result.fault.slot ≡ slot }
-    ensures stops { (inside : Bool) → Stops vars_size code.now (Some counted.now) inside insn.now regs.now result.known result.demand }
+    ensures slot { result.fault.slot ≡ point.now.slot }
+    ensures stops { (inside : Bool) → Stops point.now.vars_size point.now.code.now (Some counted.now) inside point.now.insn.now regs.now result.known result.demand }
 {
-    let mut turned = formed(code, counted, regs);
-    match checked(vars_size, slot, *insn, &mut turned) {
-        Ok(()) => against_loop(slot, regs, Demand::Counter(*counted)),
+    let mut turned = formed(point.code, counted, regs);
+    match checked(point, &mut turned) {
+        Ok(()) => against_loop(point.slot, regs, Demand::Counter(*counted)),
         Err(untyped) => untyped,
     }
 }
@@ -374,22 +354,25 @@ fn against_loop(slot: usize, known: &Regs, demand: Demand) -> Untyped
 /// # Errors
 /// Returns the rule that the instruction breaks, with the state before the instruction as evidence.
 /// The contract then doesn't say what `regs` contains.
-fn checked(vars_size: u16, slot: usize, insn: Insn, regs: &mut Regs) -> Result<(), Untyped>
+fn checked(point: &ProgramPoint<'_>, regs: &mut Regs) -> Result<(), Untyped>
     requires kinds { AreKinds regs.old }
-    requires insn { IsInsn insn }
-    ensures after { IfOk result (λ u. transfer vars_size insn regs.old ≡ Some regs.new) }
+    requires insn { IsInsn point.now.insn.now }
+    ensures after { IfOk result (λ u. transfer point.now.vars_size point.now.insn.now regs.old ≡ Some regs.new) }
     ensures kinds { IfOk result (λ u. AreKinds regs.new) }
-    ensures refused { IfErr result (λ u. transfer vars_size insn regs.old ≡ None) }
+    ensures refused { IfErr result (λ u. transfer point.now.vars_size point.now.insn.now regs.old ≡ None) }
     ensures rule { IfErr result (λ u. (20 ≤ number_of u.fault.rule) × (number_of u.fault.rule ≤ 27)) }
-    ensures slot { IfErr result (λ u. u.fault.slot ≡ slot) }
+    ensures slot { IfErr result (λ u. u.fault.slot ≡ point.now.slot) }
     ensures known { IfErr result (λ u. u.known ≡ regs.old) }
     ensures demand { IfErr result (λ u. u.demand ≡ Demand.Operands) }
 {
     effects_keep_kinds();
-    match after(insn, regs, vars_size) {
+    match after(*point.insn, regs, point.vars_size) {
         Ok(()) => Ok(()),
         Err(rule) => Err(Untyped {
-            fault: Fault { rule, slot },
+            fault: Fault {
+                rule,
+                slot: point.slot,
+            },
             known: *regs,
             demand: Demand::Operands,
         }),
