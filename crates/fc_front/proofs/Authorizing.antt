@@ -1,5 +1,5 @@
 -- The handling of a request that its endpoint isn't allowed to send.
-use Rattle.std.proofs.Common.{◌≡◌, Bool, true, false, refl, sym, ap, ◌∙◌}
+use Rattle.std.proofs.Common.{◌≡◌, Bool, true, false, sym, ap, ◌∙◌}
 use Rattle.coap_msg.specs.Wire.{Message}
 use Rattle.coap_msg.specs.declared.code.Code.{Code}
 use Rattle.coap_msg.specs.declared.types.Endpoint.{Endpoint}
@@ -10,7 +10,7 @@ use Rattle.coap_opts.specs.Verdict.{asked_by}
 use Rattle.fc_front.specs.Askings.{new_request, authorized}
 use Rattle.fc_front.specs.Exchanges.{FrontState}
 use Rattle.fc_front.specs.Policies.{is_allowed}
-use Rattle.fc_front.specs.Receiving.{Received, Refused, received_if}
+use Rattle.fc_front.specs.Receiving.{Refused, received_if}
 
 -- if a request is refused after the check of its endpoint, the front refuses it by the same code.
 pub is_refused : (f : FrontState) (to : Endpoint) (m : Message) (asking : Asking (Unit {0})) (request : Request) (answer : Code) (allowed : Bool)

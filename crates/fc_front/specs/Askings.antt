@@ -1,5 +1,5 @@
 -- The handling of a new request, by its verdict.
-use Rattle.std.specs.Prelude.{◌≤◌, length, Bool, true, false}
+use Rattle.std.specs.Prelude.{◌≤◌, length, Bool, false}
 use Rattle.coap_msg.specs.Wire.{Message}
 use Rattle.coap_msg.specs.declared.code.TheConstants.Code as registered
 use Rattle.coap_opts.specs.declared.request.Asking.{Asking}

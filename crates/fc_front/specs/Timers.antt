@@ -1,6 +1,6 @@
 -- The job of a timer: a POST of the timer's slot. The server makes it by itself, and no exchange is
 -- opened for it.
-use Rattle.std.specs.Prelude.{ℕ, ◌%◌, false, List, [], ◌∷◌, None}
+use Rattle.std.specs.Prelude.{ℕ, ◌%◌, false, [], ◌∷◌, None}
 use Rattle.coap_msg.specs.declared.types.Endpoint.{Endpoint}
 use Rattle.fc_help.specs.Request.{Request}
 use Rattle.fc_help.specs.declared.request.Method.TheVariants.{Post}

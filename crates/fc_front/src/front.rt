@@ -25,6 +25,7 @@ use crate::job_writer::{NO_OPENING, blank_request, slot_asked, write_job, write_
 use crate::policy::{Managers, Policy, changes_program, is_manager};
 use crate::reply;
 use crate::reply::immediate;
+use crate::request_message::RequestMessage;
 use arrayvec::ArrayVec;
 use coap_block::uploads::TRANSFERS;
 use coap_block::{Added, Uploads};
@@ -273,7 +274,12 @@ impl Front {
         let mut request = Request::blank();
         match classify_over(message, &mut request) {
             Classified::Request(asking) => {
-                self.request(endpoint, message, asking, &request, job, reply)
+                let request = RequestMessage {
+                    endpoint,
+                    message,
+                    fields: &request,
+                };
+                self.request(&request, asking, job, reply)
             }
             Classified::Reset => self.reject(endpoint, message.id(), reply),
             Classified::Signal { reset } => {
@@ -292,35 +298,31 @@ impl Front {
     // request is answered so; any other is ignored.
     fn request(
         &mut self,
-        endpoint: Endpoint,
-        message: &Message<'_>,
+        request: &RequestMessage<'_, '_>,
         asking: Asking<()>,
-        request: &Request<'_>,
         job: &mut Job,
         reply: &mut Emission,
     ) -> Handled
-        requires { IsAsking asking request.now }
+        requires { IsAsking asking request.now.fields.now }
         ensures delivered { let f = front_expired self.old in
-            handled result job.new reply.new ≡ handed_on (asked_in f endpoint message.now asking request.now) f endpoint }
+            handled result job.new reply.new ≡ handed_on (asked_in f request.now.endpoint request.now.message.now asking request.now.fields.now) f request.now.endpoint }
         ensures after { let f = front_expired self.old in
-            self.new ≡ after_received (asked_in f endpoint message.now asking request.now) f endpoint }
+            self.new ≡ after_received (asked_in f request.now.endpoint request.now.message.now asking request.now.fields.now) f request.now.endpoint }
     {
-        match self.exchanges.look(self.now, endpoint, message.id()) {
-            Looked::New => match self.exchanges.room(endpoint.ip) {
-                Room::Free => self.open(endpoint, message, asking, request, job, reply),
+        let message = request.message;
+        match self
+            .exchanges
+            .look(self.now, request.endpoint, message.id())
+        {
+            Looked::New => match self.exchanges.room(request.endpoint.ip) {
+                Room::Free => self.open(request, asking, job, reply),
                 Room::OverShare if message.kind() != MessageType::Confirmable => Handled::Nothing,
                 Room::Full | Room::OverShare => {
-                    replied(self.write_now(
-                        endpoint,
-                        message,
-                        Code::SERVICE_UNAVAILABLE,
-                        None,
-                        reply,
-                    ))
+                    replied(self.write_now(request, Code::SERVICE_UNAVAILABLE, None, reply))
                 }
             },
             Looked::Again(bytes) => {
-                reply.to = endpoint;
+                reply.to = request.endpoint;
                 reply.bytes = bytes;
                 Handled::Reply
             }
@@ -332,40 +334,41 @@ impl Front {
     // code of a refusal, or sends no response. An exchange is opened in each case.
     fn open(
         &mut self,
-        endpoint: Endpoint,
-        message: &Message<'_>,
+        request: &RequestMessage<'_, '_>,
         asking: Asking<()>,
-        request: &Request<'_>,
         job: &mut Job,
         reply: &mut Emission,
     ) -> Handled
-        requires new { look_in self.old endpoint message.now ≡ IsNew }
-        requires asking { IsAsking asking request.now }
-        ensures delivered { let x = new_request self.old endpoint message.now asking request.now in
-            handled result job.new reply.new ≡ handed_on x self.old endpoint }
-        ensures after { let x = new_request self.old endpoint message.now asking request.now in
-            self.new ≡ after_received x self.old endpoint }
+        requires new { look_in self.old request.now.endpoint request.now.message.now ≡ IsNew }
+        requires asking { IsAsking asking request.now.fields.now }
+        ensures delivered { let x = new_request self.old request.now.endpoint request.now.message.now asking request.now.fields.now in
+            handled result job.new reply.new ≡ handed_on x self.old request.now.endpoint }
+        ensures after { let x = new_request self.old request.now.endpoint request.now.message.now asking request.now.fields.now in
+            self.new ≡ after_received x self.old request.now.endpoint }
     {
-        match self.authorize(endpoint, asking, request.action) {
+        match self.authorize(request.endpoint, asking, request.fields.action) {
             Asking::Silent => {
-                self.open_exchange(endpoint, message);
+                self.open_exchange(request);
                 Handled::Nothing
             }
-            Asking::Refuse(code) => self.respond_now(endpoint, message, code, None, reply),
-            Asking::Serve(()) => self.serve(endpoint, message, request, job, reply),
+            Asking::Refuse(code) => self.respond_now(request, code, None, reply),
+            Asking::Serve(()) => self.serve(request, job, reply),
         }
     }
 
     // Opens an exchange for a request, and returns the exchange's number and start time.
-    fn open_exchange(&mut self, endpoint: Endpoint, message: &Message<'_>) -> Opening
-        requires { look_in self.old endpoint message.now ≡ IsNew }
+    fn open_exchange(&mut self, request: &RequestMessage<'_, '_>) -> Opening
+        requires { look_in self.old request.now.endpoint request.now.message.now ≡ IsNew }
         ensures opening { result ≡ next_opening self.old }
-        ensures after { self.new ≡ opening_for self.old endpoint message.now }
+        ensures after { self.new ≡ opening_for self.old request.now.endpoint request.now.message.now }
     {
-        let confirmable = message.kind() == MessageType::Confirmable;
-        let number = self
-            .exchanges
-            .open(self.now, endpoint, message.id(), confirmable);
+        let confirmable = request.message.kind() == MessageType::Confirmable;
+        let number = self.exchanges.open(
+            self.now,
+            request.endpoint,
+            request.message.id(),
+            confirmable,
+        );
         Opening {
             number,
             at: self.now,
@@ -379,27 +382,25 @@ impl Front {
     // `Nothing` if no message ID is available.
     fn serve(
         &mut self,
-        endpoint: Endpoint,
-        message: &Message<'_>,
-        request: &Request<'_>,
+        request: &RequestMessage<'_, '_>,
         job: &mut Job,
         reply: &mut Emission,
     ) -> Handled
-        requires new { look_in self.old endpoint message.now ≡ IsNew }
-        requires limits { IsServable (asked_by request.now) }
-        requires allowed { is_allowed self.old.managers endpoint request.now.action ≡ true }
-        ensures delivered { let x = request_received self.old endpoint message.now (asked_by request.now) in
-            handled result job.new reply.new ≡ handed_on x self.old endpoint }
-        ensures after { let x = request_received self.old endpoint message.now (asked_by request.now) in
-            self.new ≡ after_received x self.old endpoint }
+        requires new { look_in self.old request.now.endpoint request.now.message.now ≡ IsNew }
+        requires limits { IsServable (asked_by request.now.fields.now) }
+        requires allowed { is_allowed self.old.managers request.now.endpoint request.now.fields.now.action ≡ true }
+        ensures delivered { let x = request_received self.old request.now.endpoint request.now.message.now (asked_by request.now.fields.now) in
+            handled result job.new reply.new ≡ handed_on x self.old request.now.endpoint }
+        ensures after { let x = request_received self.old request.now.endpoint request.now.message.now (asked_by request.now.fields.now) in
+            self.new ≡ after_received x self.old request.now.endpoint }
     {
-        match request.block1 {
+        match request.fields.block1 {
             None => {
-                let opening = self.open_exchange(endpoint, message);
-                write_job(job, opening, endpoint, message, request, request.payload);
+                let opening = self.open_exchange(request);
+                write_job(job, opening, request, request.fields.payload);
                 Handled::Job
             }
-            Some(block) => self.serve_block(endpoint, message, request, block, job, reply),
+            Some(block) => self.serve_block(request, block, job, reply),
         }
     }
 
@@ -430,75 +431,54 @@ impl Front {
     #[inline(never)]
     fn serve_block(
         &mut self,
-        endpoint: Endpoint,
-        message: &Message<'_>,
-        request: &Request<'_>,
+        request: &RequestMessage<'_, '_>,
         block: Block,
         job: &mut Job,
         reply: &mut Emission,
     ) -> Handled
-        requires new { look_in self.old endpoint message.now ≡ IsNew }
-        requires limits { IsServable (asked_by request.now) }
-        requires block { request.now.block1 ≡ Some block }
-        requires allowed { is_allowed self.old.managers endpoint request.now.action ≡ true }
-        ensures delivered { let x = request_received self.old endpoint message.now (asked_by request.now) in
-            handled result job.new reply.new ≡ handed_on x self.old endpoint }
-        ensures after { let x = request_received self.old endpoint message.now (asked_by request.now) in
-            self.new ≡ after_received x self.old endpoint }
+        requires new { look_in self.old request.now.endpoint request.now.message.now ≡ IsNew }
+        requires limits { IsServable (asked_by request.now.fields.now) }
+        requires block { request.now.fields.now.block1 ≡ Some block }
+        requires allowed { is_allowed self.old.managers request.now.endpoint request.now.fields.now.action ≡ true }
+        ensures delivered { let x = request_received self.old request.now.endpoint request.now.message.now (asked_by request.now.fields.now) in
+            handled result job.new reply.new ≡ handed_on x self.old request.now.endpoint }
+        ensures after { let x = request_received self.old request.now.endpoint request.now.message.now (asked_by request.now.fields.now) in
+            self.new ≡ after_received x self.old request.now.endpoint }
     {
-        match self.add(endpoint, request, block) {
+        match self.add(request, block) {
             Added::Whole(body) => {
-                let opening = self.open_exchange(endpoint, message);
-                write_job(job, opening, endpoint, message, request, body.as_slice());
+                let opening = self.open_exchange(request);
+                write_job(job, opening, request, body.as_slice());
                 Handled::Job
             }
-            Added::Continue => self.respond_now(
-                endpoint,
-                message,
-                Code::CONTINUE,
-                Some(block),
-                reply,
-            ),
+            Added::Continue => self.respond_now(request, Code::CONTINUE, Some(block), reply),
             Added::Incomplete => {
-                self.respond_now(
-                    endpoint,
-                    message,
-                    Code::REQUEST_ENTITY_INCOMPLETE,
-                    None,
-                    reply,
-                )
+                self.respond_now(request, Code::REQUEST_ENTITY_INCOMPLETE, None, reply)
             }
-            Added::BadLength => self.respond_now(endpoint, message, Code::BAD_REQUEST, None, reply),
+            Added::BadLength => self.respond_now(request, Code::BAD_REQUEST, None, reply),
             Added::TooLarge => {
-                self.respond_now(
-                    endpoint,
-                    message,
-                    Code::REQUEST_ENTITY_TOO_LARGE,
-                    None,
-                    reply,
-                )
+                self.respond_now(request, Code::REQUEST_ENTITY_TOO_LARGE, None, reply)
             }
-            Added::Full => self.respond_now(
-                endpoint,
-                message,
-                Code::SERVICE_UNAVAILABLE,
-                None,
-                reply,
-            ),
+            Added::Full => self.respond_now(request, Code::SERVICE_UNAVAILABLE, None, reply),
         }
     }
 
     // Adds a request's payload to its transfer. Returns the whole body, or why it isn't complete.
-    fn add(&mut self, endpoint: Endpoint, request: &Request<'_>, block: Block) -> Added
-        requires { request.now.block1 ≡ Some block }
-        ensures added { add_seen result ≡ add_in self.old endpoint (asked_by request.now) }
+    fn add(&mut self, request: &RequestMessage<'_, '_>, block: Block) -> Added
+        requires { request.now.fields.now.block1 ≡ Some block }
+        ensures added { add_seen result ≡ add_in self.old request.now.endpoint (asked_by request.now.fields.now) }
         ensures after { self.new ≡ record self.old {
-          transfers = after_addition (addition_of self.old.now endpoint (asked_by request.now)) self.old.transfers;
+          transfers = after_addition (addition_of self.old.now request.now.endpoint (asked_by request.now.fields.now)) self.old.transfers;
         } }
     {
-        let slot = slot_asked(request.action);
-        self.uploads
-            .add(self.now, endpoint, slot, Some(block), request.payload)
+        let slot = slot_asked(request.fields.action);
+        self.uploads.add(
+            self.now,
+            request.endpoint,
+            slot,
+            Some(block),
+            request.fields.payload,
+        )
     }
 
     // Writes the response to a request over `reply`: this code, and the block that the request
@@ -506,24 +486,23 @@ impl Front {
     // isn't stored in the exchange.
     fn write_now(
         &mut self,
-        endpoint: Endpoint,
-        message: &Message<'_>,
+        request: &RequestMessage<'_, '_>,
         code: Code,
         block1: Option<Block>,
         reply: &mut Emission,
     ) -> bool
         requires { 64 ≤ code.byte }
         ensures emission { let response = settled_by code.byte block1 in
-            emission_if result reply.new ≡ reply_sent self.old endpoint message.now response }
+            emission_if result reply.new ≡ reply_sent self.old request.now.endpoint request.now.message.now response }
         ensures after { self.new ≡ record self.old {
-          ids = drawn_for (is_confirmable message.now.kind) self.old.ids self.old.now;
+          ids = drawn_for (is_confirmable request.now.message.now.kind) self.old.ids self.old.now;
         } }
     {
-        let confirmable = message.kind() == MessageType::Confirmable;
-        let Some(id) = self.reply_id(confirmable, message.id()) else {
+        let confirmable = request.message.kind() == MessageType::Confirmable;
+        let Some(id) = self.reply_id(confirmable, request.message.id()) else {
             return false;
         };
-        immediate(id, endpoint, message, code, block1, reply);
+        immediate(id, request, code, block1, reply);
         true
     }
 
@@ -531,20 +510,19 @@ impl Front {
     // message ID is available, the result is `Nothing`, and the exchange stays without a response.
     fn respond_now(
         &mut self,
-        endpoint: Endpoint,
-        message: &Message<'_>,
+        request: &RequestMessage<'_, '_>,
         code: Code,
         block1: Option<Block>,
         reply: &mut Emission,
     ) -> Handled
-        requires new { look_in self.old endpoint message.now ≡ IsNew }
+        requires new { look_in self.old request.now.endpoint request.now.message.now ≡ IsNew }
         requires code { 64 ≤ code.byte }
         ensures handled { let response = settled_by code.byte block1 in
-            (job : Job) → handled result job reply.new ≡ reply_or_nothing (reply_sent self.old endpoint message.now response) }
-        ensures after { self.new ≡ immediate_front self.old endpoint message.now (settled_by code.byte block1) }
+            (job : Job) → handled result job reply.new ≡ reply_or_nothing (reply_sent self.old request.now.endpoint request.now.message.now response) }
+        ensures after { self.new ≡ immediate_front self.old request.now.endpoint request.now.message.now (settled_by code.byte block1) }
     {
-        let opening = self.open_exchange(endpoint, message);
-        let sent = self.write_now(endpoint, message, code, block1, reply);
+        let opening = self.open_exchange(request);
+        let sent = self.write_now(request, code, block1, reply);
         if sent {
             self.exchanges.close(self.now, opening.number, &reply.bytes);
         }

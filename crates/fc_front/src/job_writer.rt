@@ -6,6 +6,7 @@ ghost use Rattle.fc_front.specs.Receiving.{ask_by, etags_by, job_of, observes, r
 ghost use Rattle.fc_front.specs.Receiving as receiving;
 ghost use Rattle.fc_front.specs.Timers.{timer_job, timer_request};
 
+use crate::request_message::RequestMessage;
 use arrayvec::ArrayVec;
 use coap_block::Body;
 use coap_msg::{Endpoint, Message, MessageType, Token};
@@ -60,28 +61,31 @@ fn write_post(ask: &mut Ask, slot: u8)
 pub(crate) fn write_job(
     job: &mut Job,
     opening: Opening,
-    endpoint: Endpoint,
-    message: &Message<'_>,
-    request: &Request<'_>,
+    request: &RequestMessage<'_, '_>,
     body: &[u8],
 )
-    requires request { IsServable (asked_by request.now) }
+    requires request { IsServable (asked_by request.now.fields.now) }
     requires body { length body.now ≤ 8208 }
-    ensures { job.new ≡ job_of opening endpoint message.now (asked_by request.now) body.now }
+    ensures { job.new ≡ job_of opening request.now.endpoint request.now.message.now (asked_by request.now.fields.now) body.now }
 {
+    let RequestMessage {
+        endpoint,
+        message,
+        fields,
+    } = request;
     job.origin = Origin {
         opening,
-        endpoint,
+        endpoint: *endpoint,
         id: message.id(),
-        slot: SlotNumber::new(slot_asked(request.action)),
+        slot: SlotNumber::new(slot_asked(fields.action)),
     };
     job.turn = None;
     job.confirmable = message.kind() == MessageType::Confirmable;
     write_token(&mut job.token, message);
-    write_etags(&mut job.etags, request);
-    job.block = named_block(request);
-    job.observe = request.observe;
-    write_ask(&mut job.ask, request, body);
+    write_etags(&mut job.etags, fields);
+    job.block = named_block(fields);
+    job.observe = fields.observe;
+    write_ask(&mut job.ask, fields, body);
 }
 
 // Returns the block that a request names: the one that a PUT sends or that a GET requests. Returns

@@ -47,6 +47,7 @@ mod ids;
 mod job_writer;
 pub mod policy;
 mod reply;
+mod request_message;
 mod text;
 
 pub use answer::{Answer, End, Words};

@@ -12,6 +12,7 @@ ghost use Rattle.fc_front.specs.Replies as spec;
 ghost use Rattle.fc_front.specs.Replies.{IsReplyTo, link_format, made_response, to_job};
 
 use crate::answer::{Answer, AnswerBody, End};
+use crate::request_message::RequestMessage;
 use crate::text::{fault_line, link_lines, receipt_line};
 use coap_msg::{Code, Datagram, Emission, Endpoint, Message, MessageType};
 use coap_opts::{Block, ReplyOptions};
@@ -160,17 +161,21 @@ fn after_first(bytes: &[u8]) -> &[u8]
 // message ID, this code, and the block that the request sent as Block1.
 pub(crate) fn immediate(
     id: u16,
-    to: Endpoint,
-    message: &Message<'_>,
+    request: &RequestMessage<'_, '_>,
     code: Code,
     block1: Option<Block>,
     emission: &mut Emission,
 )
     requires { 64 ≤ code.byte }
-    ensures { Some emission.new ≡ reply_sent_by (Some id) to message.now (settled_by code.byte block1) }
+    ensures { Some emission.new ≡ reply_sent_by (Some id) request.now.endpoint request.now.message.now (settled_by code.byte block1) }
 {
+    let RequestMessage {
+        endpoint,
+        message,
+        ..
+    } = request;
     let envelope = Envelope {
-        to,
+        to: *endpoint,
         kind: reply_kind(message.kind() == MessageType::Confirmable),
         id,
         token: message.token(),
@@ -179,6 +184,6 @@ pub(crate) fn immediate(
         block1,
         ..ReplyOptions::default()
     };
-    emission.to = to;
+    emission.to = *endpoint;
     respond(&envelope, code, options, &[], &mut emission.bytes);
 }
