@@ -1,6 +1,6 @@
 -- A server whose counts are reported.
-use Rattle.std.proofs.Common.{◌≡◌, ◌∙◌, ◌/◌, ◌%◌, length, map, ℕ, zero, suc, ◌+◌, ◌<◌, ◌≤◌, Bool, false, List, [], ◌∷◌, arith, Option, ap, refl, subst, sym, Bor}
-use Rattle.std.specs.Prelude.{◌==◌, MatchBool, slice_index_or}
+use Rattle.std.proofs.Common.{◌≡◌, ◌∙◌, ◌/◌, ◌%◌, length, ℕ, ◌+◌, ◌≤◌, Bool, false, List, [], ◌∷◌, Option, ap, refl, subst, sym, Bor}
+use Rattle.std.specs.Prelude.{◌==◌, MatchBool}
 use Rattle.std.proofs.lemmas.Bool.{le-ltb}
 use Rattle.coap_msg.specs.declared.types.Emission.{Emission}
 use Rattle.coap_msg.specs.declared.types.Endpoint.{Endpoint}
@@ -8,39 +8,25 @@ use Rattle.fc_front.specs.declared.front.Handled.{Handled}
 use Rattle.fc_host.specs.Sockets.{Receive}
 use Rattle.fc_host.specs.declared.timer.Timer.{Timer}
 use Rattle.fc_record.specs.ProgramRequests.{Requested}
-use Rattle.fc_observe.specs.Observers.{ObserverList, no_observers}
-use Rattle.fc_record.specs.Gauges.{observers_of}
 use Rattle.fc_record.specs.Recording.{Recording, recorded_calls}
 use Rattle.fc_record.specs.Reports.{datagram_counted}
-use Rattle.fc_record.specs.declared.gauges.Gauges.{Gauges}
 use Rattle.fc_record.specs.declared.report.Report.{Report}
 use Rattle.fc_registry.specs.Shards.{shard_at}
-use Rattle.fc_registry.specs.Watches.{observer_counts, watch_at}
+use Rattle.fc_registry.specs.Watches.{watch_at}
+use Rattle.fc_server.specs.Gauges.{observers_of}
 use Rattle.fc_server.specs.Ingresses.{IngressCalls}
+use Rattle.fc_server.specs.declared.gauges.Gauges.{Gauges}
+use Rattle.fc_server.proofs.Counted.{observers_in}
 use Rattle.fc_backend.specs.Answers.{saturated}
 use Rattle.fc_backend.specs.declared.call_log.CallLog.{CallLog}
-use Rattle.fc_receive.specs.Reporting.{AreGaugesOf, MakesReport, Reporting, ReportsIfDue, reported_calls}
+use Rattle.fc_receive.specs.Reporting.{MakesReport, Reporting, ReportsIfDue, reported_calls}
 use Rattle.fc_receive.specs.Rounds.{HasReceivedWith, HasRunTimed, RoundCalls}
 use Rattle.fc_pool.specs.declared.replies.Replies.{Replies}
-
--- eight lists of numbers of observers, each of its shard.
-pub of_eight : {S : Type 0} (calls : IngressCalls S) (s : S) (a b c d e f g h : List ℕ) → calls.tells_observers 0 s a → calls.tells_observers 1 s b → calls.tells_observers 2 s c → calls.tells_observers 3 s d
-    → calls.tells_observers 4 s e → calls.tells_observers 5 s f → calls.tells_observers 6 s g → calls.tells_observers 7 s h
-    → (shard : ℕ) → shard < 8 → calls.tells_observers shard s (slice_index_or (a ∷ b ∷ c ∷ d ∷ e ∷ f ∷ g ∷ h ∷ []) shard [])
-of_eight calls s a b c d e f g h p0 p1 p2 p3 p4 p5 p6 p7 zero lt = p0
-of_eight calls s a b c d e f g h p0 p1 p2 p3 p4 p5 p6 p7 (suc zero) lt = p1
-of_eight calls s a b c d e f g h p0 p1 p2 p3 p4 p5 p6 p7 (suc (suc zero)) lt = p2
-of_eight calls s a b c d e f g h p0 p1 p2 p3 p4 p5 p6 p7 (suc (suc (suc zero))) lt = p3
-of_eight calls s a b c d e f g h p0 p1 p2 p3 p4 p5 p6 p7 (suc (suc (suc (suc zero)))) lt = p4
-of_eight calls s a b c d e f g h p0 p1 p2 p3 p4 p5 p6 p7 (suc (suc (suc (suc (suc zero))))) lt = p5
-of_eight calls s a b c d e f g h p0 p1 p2 p3 p4 p5 p6 p7 (suc (suc (suc (suc (suc (suc zero)))))) lt = p6
-of_eight calls s a b c d e f g h p0 p1 p2 p3 p4 p5 p6 p7 (suc (suc (suc (suc (suc (suc (suc zero))))))) lt = p7
-of_eight calls s a b c d e f g h p0 p1 p2 p3 p4 p5 p6 p7 (suc (suc (suc (suc (suc (suc (suc (suc n)))))))) lt = absurd (omega (arith, lt))
 
 module _ {S : Type 0} (Reported : Report → CallLog → CallLog → Type 0) (calls : IngressCalls S) where
   -- a report that was due was made.
   pub made : (now due : ℕ) (inside old : Reporting S) (gauges : Gauges) (log : CallLog) → inside ≡ old → inside.due ≤ now → due ≡ saturated (now + inside.every)
-      → AreGaugesOf calls now inside.ingress gauges → Reported (record inside.report { gauges = gauges }) inside.log log
+      → calls.tells_gauges now inside.ingress gauges → Reported (record inside.report { gauges = gauges }) inside.log log
       → ReportsIfDue Reported calls now old (record inside { report = record inside.report { gauges = gauges }; due = due; log = log })
   made now due inside old gauges log is le next are w =
       let report : Report = record inside.report { gauges = gauges } in
@@ -70,17 +56,7 @@ run_with (t ∷ ts) every Reported Readies calls e limit before after first last
 
 -- ---- gauges on one thread
 
-counts_at : (ws : List ObserverList) (k : ℕ) → slice_index_or (map (λ w. length w.held) ws) k 0 ≡ length (slice_index_or ws k (no_observers 0 0)).held
-counts_at [] k = refl
-counts_at (w ∷ ws) zero = refl
-counts_at (w ∷ ws) (suc k) = counts_at ws k
-
 -- the observers of a slot of a server on one thread.
-pub one_threads_observers : (Recorded : Requested → CallLog → CallLog → Type 0) (now n : ℕ) (s : Recording) (gauges : Gauges) → AreGaugesOf (recorded_calls Recorded) now s gauges
+pub one_threads_observers : (Recorded : Requested → CallLog → CallLog → Type 0) (now n : ℕ) (s : Recording) (gauges : Gauges) → (recorded_calls Recorded).tells_gauges now s gauges
     → observers_of gauges.observers.shards n ≡ length (watch_at (shard_at s.alone.engine.shards (n % 8)) (n / 8)).held
-one_threads_observers Recorded now n s gauges are =
-    let below : n % 8 < 8 = omega arith in
-    let same : (n % 8) % 8 ≡ n % 8 = omega arith in
-    let shard = are.observers (n % 8) below in
-    ap (λ (counts : List ℕ). slice_index_or counts (n / 8) 0) (shard ∙ ap (λ (k : ℕ). observer_counts (shard_at s.alone.engine.shards k)) same)
-    ∙ counts_at (shard_at s.alone.engine.shards (n % 8)).watches (n / 8)
+one_threads_observers Recorded now n s gauges are = ap (λ (g : Gauges). observers_of g.observers.shards n) are ∙ observers_in s.alone.engine.shards n

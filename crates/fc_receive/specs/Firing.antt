@@ -56,8 +56,6 @@ module _ {S : Type 0} (calls : IngressCalls S) where
     passes_over = λ shard now old new. calls.passes_over shard now old.ingress new.ingress × (new.timers ≡ old.timers);
     notifies = λ shard now old new told. calls.notifies shard now old.ingress new.ingress told × (new.timers ≡ old.timers);
     tells_gauges = λ now state gauges. calls.tells_gauges now state.ingress gauges;
-    tells_observers = λ shard now counts. calls.tells_observers shard now.ingress counts;
-    tells_offloaded = λ now count. calls.tells_offloaded now.ingress count;
     stays_idle = λ shard now until. calls.stays_idle shard now.ingress until;
   }
 

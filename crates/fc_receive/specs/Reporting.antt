@@ -1,10 +1,10 @@
 -- Reports of a server's counts, with a period in milliseconds.
-use Rattle.std.specs.Prelude.{◌≡◌, ◌+◌, ◌<◌, ℕ, [], nat_lt, min, slice_index_or, MatchBool}
+use Rattle.std.specs.Prelude.{◌≡◌, ◌+◌, ℕ, nat_lt, min, MatchBool}
 use Rattle.fc_server.specs.Ingresses.{IngressCalls}
+use Rattle.fc_server.specs.declared.gauges.Gauges.{Gauges}
 use Rattle.fc_backend.specs.Answers.{saturated}
 use Rattle.fc_backend.specs.declared.call_log.CallLog.{CallLog}
 use Rattle.fc_record.specs.Reports.{datagram_counted, lease_counted, nothing_counted, tick_counted}
-use Rattle.fc_record.specs.declared.gauges.Gauges.{Gauges}
 use Rattle.fc_record.specs.declared.report.Report.{Report}
 
 -- a server whose calls are counted; the period of its reports, in milliseconds, and the time at
@@ -20,20 +20,12 @@ pub record Reporting (S : Type 0) : Type 0 where
 abbrev pub reporting_from : {S : Type 0} → ℕ → CallLog → S → Reporting S
 reporting_from every log s = record { ingress = s; report = nothing_counted; every = every; due = every; log = log }
 
-module _ {S : Type 0} (calls : IngressCalls S) where
-  -- these are the gauges of a server at this time: what its front holds, the observers of each
-  -- shard's slots, and the number of jobs that it sent to workers.
-  pub record AreGaugesOf (now : ℕ) (s : S) (gauges : Gauges) : Type 0 where
-    pub front : calls.tells_gauges now s gauges.front
-    pub observers : (shard : ℕ) → shard < 8 → calls.tells_observers shard s (slice_index_or gauges.observers.shards shard [])
-    pub offloaded : calls.tells_offloaded s gauges.offloaded
-
 module _ {S : Type 0} (Reported : Report → CallLog → CallLog → Type 0) (calls : IngressCalls S) where
   -- the counts so far were reported, once, with the gauges of this time. The next report is due one
   -- period after this time, so a late report delays the next one.
   pub record MakesReport (now : ℕ) (old new : Reporting S) : Type 0 where
     pub gauges : Gauges
-    pub gauges_are : AreGaugesOf calls now old.ingress gauges
+    pub gauges_are : calls.tells_gauges now old.ingress gauges
     pub log : CallLog
     pub reported : Reported (record old.report { gauges = gauges }) old.log log
     pub state : new ≡ record old { report = record old.report { gauges = gauges }; due = saturated (now + old.every); log = log }
@@ -58,8 +50,6 @@ module _ {S : Type 0} (Reported : Report → CallLog → CallLog → Type 0) (ca
     notifies = λ shard now old new told. calls.notifies shard now old.ingress new.ingress told
         × (new ≡ record old { ingress = new.ingress; report = lease_counted told old.report });
     tells_gauges = λ now state gauges. calls.tells_gauges now state.ingress gauges;
-    tells_observers = λ shard now counts. calls.tells_observers shard now.ingress counts;
-    tells_offloaded = λ now count. calls.tells_offloaded now.ingress count;
     stays_idle = λ shard now until. (own : ℕ) × calls.stays_idle shard now.ingress own × (until ≡ min own now.due);
   }
 

@@ -5,13 +5,12 @@ ghost use Rattle.fc_receive.specs.Firing.{AreFired, FiresIfDue, fired_calls, fir
 use crate::rounds::Preparation;
 use crate::timer_jobs::TimerJobs;
 use coap_msg::{Emission, Endpoint};
-use fc_front::{FrontGauges, Handled};
+use fc_front::Handled;
 use fc_host::timer::Timer;
 use fc_host::timers::first_due;
 use fc_observe::Ticked;
-use fc_registry::PLACES;
-use fc_server::Ingress;
 use fc_server::engine::{FireOutcome, NotifyOutcome};
+use fc_server::{Gauges, Ingress};
 use fc_ticket::SlotNumber;
 use std::marker::Model;
 use std::sync::Wait;
@@ -95,16 +94,8 @@ impl<'a, N: Ingress> Ingress for Firing<'a, N> {
         self.ingress.idle_until(shard)
     }
 
-    fn gauges(&self, now: u64) -> FrontGauges {
+    fn gauges(&self, now: u64) -> Gauges {
         self.ingress.gauges(now)
-    }
-
-    fn observer_counts(&self, shard: u8) -> [u8; PLACES] {
-        self.ingress.observer_counts(shard)
-    }
-
-    fn offloaded(&self) -> u64 {
-        self.ingress.offloaded()
     }
 
     fn notify(&mut self, shard: u8, now: u64, emission: &mut Emission) -> NotifyOutcome {

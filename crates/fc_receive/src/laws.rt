@@ -10,16 +10,16 @@ ghost use Rattle.fc_server.specs.Steps.{shard_turn};
 ghost use Rattle.fc_host.specs.Timers.{put_off};
 ghost use Rattle.fc_host.specs.declared.timer.Timer.{Timer};
 ghost use Rattle.fc_server.specs.declared.engine.FireOutcome.{FireOutcome};
+ghost use Rattle.fc_server.specs.declared.gauges.Gauges.{Gauges};
 ghost use Rattle.std.specs.List.{All};
 ghost use Rattle.fc_server.specs.SingleThread.{NotifiesAlone, ResendsAlone};
 ghost use Rattle.fc_receive.specs.Firing.{AreFired, Firing, FiresIfDue, fired_calls, is_offloaded};
+ghost use Rattle.fc_server.specs.Gauges.{observers_of};
 ghost use Rattle.fc_server.specs.Ingresses.{is_reply};
 ghost use Rattle.fc_front.specs.Gauges.{gauges_at};
-ghost use Rattle.fc_record.specs.Gauges.{observers_of};
 ghost use Rattle.fc_record.specs.Recording.{Recording, recorded_calls};
 ghost use Rattle.fc_record.specs.Reports.{nothing_counted};
-ghost use Rattle.fc_record.specs.declared.gauges.Gauges.{Gauges};
-ghost use Rattle.fc_receive.specs.Reporting.{AreGaugesOf, Reporting, ReportsIfDue, reported_calls, reporting_from};
+ghost use Rattle.fc_receive.specs.Reporting.{Reporting, ReportsIfDue, reported_calls, reporting_from};
 ghost use Rattle.fc_backend.specs.declared.call_log.CallLog.{CallLog};
 ghost use Rattle.fc_receive.specs.Rounds.{EndsInTime, Round, WaitsAfter, until_due};
 ghost use Rattle.fc_server.specs.Flushing.{most_steps};
@@ -176,7 +176,7 @@ pub fn receives_end_when_a_timer_is_due<N: Ingress>()
 pub fn reports_come_in_time<N: Ingress, Q: Reporter>()
     ensures early { (s : N) (log : CallLog) (new : Reporting N) → ReportsIfDue Q.reported N.calls 59999 (reporting_from 60000 log s) new → new ≡ reporting_from 60000 log s }
     ensures overdue { (s : N) (log : CallLog) (new : Reporting N) → ReportsIfDue Q.reported N.calls 61500 (reporting_from 60000 log s) new
-        → (gauges : Gauges) × AreGaugesOf N.calls 61500 s gauges
+        → (gauges : Gauges) × N.calls.tells_gauges 61500 s gauges
         × (after : CallLog) × Q.reported (record nothing_counted { gauges = gauges }) log after
         × (new ≡ record { ingress = s; report = record nothing_counted { gauges = gauges }; every = 60000; due = 121500; log = after }) }
     ensures awake { (shard until : ℕ) (now : Reporting N) → (reported_calls Q.reported N.calls).stays_idle shard now until → until ≤ now.due }
@@ -187,8 +187,8 @@ pub fn reports_come_in_time<N: Ingress, Q: Reporter>()
 /// They are those of its front at the time of the report. The observers of slot n are those in its
 /// list, at place n / 8 of shard n mod 8. No job was sent to a worker.
 pub fn gauges_of_one_thread_are_its_own<C: Recorder>()
-    ensures front { (now : ℕ) (s : Recording) (gauges : Gauges) → AreGaugesOf (recorded_calls C.recorded) now s gauges → gauges.front ≡ gauges_at now s.alone.engine.front }
-    ensures observers { (now n : ℕ) (s : Recording) (gauges : Gauges) → n < 64 → AreGaugesOf (recorded_calls C.recorded) now s gauges
+    ensures front { (now : ℕ) (s : Recording) (gauges : Gauges) → (recorded_calls C.recorded).tells_gauges now s gauges → gauges.front ≡ gauges_at now s.alone.engine.front }
+    ensures observers { (now n : ℕ) (s : Recording) (gauges : Gauges) → n < 64 → (recorded_calls C.recorded).tells_gauges now s gauges
         → observers_of gauges.observers.shards n ≡ length (watch_at (shard_at s.alone.engine.shards (n % 8)) (n / 8)).held }
-    ensures offloaded { (now : ℕ) (s : Recording) (gauges : Gauges) → AreGaugesOf (recorded_calls C.recorded) now s gauges → gauges.offloaded ≡ 0 }
+    ensures offloaded { (now : ℕ) (s : Recording) (gauges : Gauges) → (recorded_calls C.recorded).tells_gauges now s gauges → gauges.offloaded ≡ 0 }
 {}

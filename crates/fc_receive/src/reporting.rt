@@ -1,16 +1,15 @@
 //! A server that reports its counts, with a period in milliseconds.
 ghost use Rattle.std.specs.Prelude.{◌≡◌};
-ghost use Rattle.fc_receive.specs.Reporting.{AreGaugesOf, ReportsIfDue, readies_through, reported_calls, reporting_from};
+ghost use Rattle.fc_receive.specs.Reporting.{ReportsIfDue, readies_through, reported_calls, reporting_from};
 
 use crate::rounds::Preparation;
 use coap_msg::{Emission, Endpoint};
 use fc_backend::CallLog;
-use fc_front::{FrontGauges, Handled};
+use fc_front::Handled;
 use fc_observe::Ticked;
-use fc_record::{Gauges, ObserverCounts, Report, Reporter};
-use fc_registry::PLACES;
-use fc_server::Ingress;
+use fc_record::{Report, Reporter};
 use fc_server::engine::{FireOutcome, NotifyOutcome};
+use fc_server::{Gauges, Ingress};
 use fc_ticket::SlotNumber;
 use std::marker::Model;
 use std::sync::Wait;
@@ -76,31 +75,9 @@ impl<'a, N: Ingress, Q: Reporter> Reporting<'a, N, Q> {
         if now < self.due {
             return;
         }
-        self.report.gauges = gauges_of(&self.ingress, now);
+        self.report.gauges = self.ingress.gauges(now);
         self.reporter.report(&self.report, &mut self.log);
         self.due = now.saturating_add(self.every);
-    }
-}
-
-// Returns the gauges of a server at `now`, in milliseconds.
-fn gauges_of<N: Ingress>(ingress: &N, now: u64) -> Gauges
-    ensures { AreGaugesOf N.calls now ingress.now result }
-{
-    Gauges {
-        offloaded: ingress.offloaded(),
-        front: ingress.gauges(now),
-        observers: ObserverCounts {
-            shards: [
-                ingress.observer_counts(0),
-                ingress.observer_counts(1),
-                ingress.observer_counts(2),
-                ingress.observer_counts(3),
-                ingress.observer_counts(4),
-                ingress.observer_counts(5),
-                ingress.observer_counts(6),
-                ingress.observer_counts(7),
-            ],
-        },
     }
 }
 
@@ -142,16 +119,8 @@ impl<'a, N: Ingress, Q: Reporter> Ingress for Reporting<'a, N, Q> {
         self.ingress.idle_until(shard).min(self.due)
     }
 
-    fn gauges(&self, now: u64) -> FrontGauges {
+    fn gauges(&self, now: u64) -> Gauges {
         self.ingress.gauges(now)
-    }
-
-    fn observer_counts(&self, shard: u8) -> [u8; PLACES] {
-        self.ingress.observer_counts(shard)
-    }
-
-    fn offloaded(&self) -> u64 {
-        self.ingress.offloaded()
     }
 
     fn notify(&mut self, shard: u8, now: u64, emission: &mut Emission) -> NotifyOutcome {

@@ -1,4 +1,3 @@
-pub mod Gauges
 pub mod ProgramRequests
 pub mod Recording
 pub mod Reports

@@ -10,7 +10,7 @@ use Rattle.fc_ticket.specs.declared.job.Job.{Job}
 use Rattle.fc_front.specs.declared.front.Handled.{Handled}
 use Rattle.fc_front.specs.Exchanges.{advanced}
 use Rattle.fc_front.specs.Receiving.{delivered, emission_if}
-use Rattle.fc_server.specs.SingleThread.{FiresAlone, HandlesAlone, NotifiesAlone, PassesAlone, PassesOverAlone, ResendsAlone, StaysIdleAlone, TellsGaugesAlone, TellsObserversAlone, TellsOffloadedAlone}
+use Rattle.fc_server.specs.SingleThread.{FiresAlone, HandlesAlone, NotifiesAlone, PassesAlone, PassesOverAlone, ResendsAlone, StaysIdleAlone, TellsGaugesAlone}
 use Rattle.fc_server.specs.Ingresses.{IngressCalls, is_reply, never}
 use Rattle.fc_server.specs.Shown.{IsShown}
 use Rattle.fc_server.specs.declared.alone.SingleThread.{SingleThread}
@@ -58,6 +58,4 @@ module _ (Recorded : Requested → CallLog → CallLog → Type 0) where
     notifies = λ shard now old new told. NotifiesAlone shard now old.alone new.alone told × (new.log ≡ old.log);
     stays_idle = λ shard now until. StaysIdleAlone shard now.alone until;
     tells_gauges = λ now state gauges. TellsGaugesAlone now state.alone gauges;
-    tells_observers = λ shard now counts. TellsObserversAlone shard now.alone counts;
-    tells_offloaded = λ now count. TellsOffloadedAlone now.alone count;
   }

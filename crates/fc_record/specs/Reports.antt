@@ -7,9 +7,9 @@ use Rattle.fc_front.specs.declared.front.Handled.{Handled}
 use Rattle.fc_front.specs.declared.front.Handled.TheVariants.{Reply}
 use Rattle.fc_observe.specs.declared.observers.Ticked.{Ticked}
 use Rattle.fc_observe.specs.declared.observers.Ticked.TheVariants.{Quiet, Removed, Resend}
+use Rattle.fc_server.specs.Gauges.{gauges_text, no_gauges}
 use Rattle.fc_server.specs.Notified.{Notified, is_given}
 use Rattle.fc_backend.specs.Answers.{saturated}
-use Rattle.fc_record.specs.Gauges.{gauges_text, no_gauges}
 use Rattle.fc_record.specs.declared.report.Report.{Report}
 
 -- ---- counts

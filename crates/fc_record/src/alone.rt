@@ -4,12 +4,11 @@ ghost use Rattle.fc_record.specs.Recording.{recorded_calls};
 
 use crate::recorder::{ChangeLog, Recorder};
 use coap_msg::{Emission, Endpoint};
-use fc_front::{FrontGauges, Handled};
+use fc_front::Handled;
 use fc_help::Readings;
 use fc_observe::Ticked;
-use fc_registry::PLACES;
 use fc_server::engine::{FireOutcome, NotifyOutcome};
-use fc_server::{Ingress, SingleThread};
+use fc_server::{Gauges, Ingress, SingleThread};
 use fc_ticket::SlotNumber;
 use std::marker::Model;
 
@@ -88,16 +87,8 @@ impl<'a, C: Recorder> Ingress for RecordedAlone<'a, C> {
         self.alone.idle_until(shard)
     }
 
-    fn gauges(&self, now: u64) -> FrontGauges {
+    fn gauges(&self, now: u64) -> Gauges {
         self.alone.gauges(now)
-    }
-
-    fn observer_counts(&self, shard: u8) -> [u8; PLACES] {
-        self.alone.observer_counts(shard)
-    }
-
-    fn offloaded(&self) -> u64 {
-        self.alone.offloaded()
     }
 
     fn notify(&mut self, shard: u8, now: u64, emission: &mut Emission) -> NotifyOutcome {

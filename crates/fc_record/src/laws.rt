@@ -9,9 +9,9 @@ ghost use Rattle.coap_msg.specs.declared.types.Endpoint.{Endpoint};
 ghost use Rattle.fc_front.specs.declared.front.Handled.TheVariants.{Job, Nothing, Reply};
 ghost use Rattle.fc_observe.specs.declared.observers.Ticked.TheVariants.{Quiet, Removed, Resend};
 ghost use Rattle.fc_record.specs.ProgramRequests.{Coded, request_text};
-ghost use Rattle.fc_record.specs.declared.gauges.Gauges.{Gauges};
 ghost use Rattle.fc_record.specs.Reports.{datagram_counted, lease_counted, nothing_counted, report_text, tick_counted};
 ghost use Rattle.fc_server.specs.Notified.{Nobody, Starved, Unsent};
+ghost use Rattle.fc_server.specs.declared.gauges.Gauges.{Gauges};
 
 /// The exact texts of two uploads and two removals.
 ///

@@ -4,7 +4,7 @@
 //! It has a text. A [`Recorder`] gets each such request once: [`RecordingGate`] passes it those
 //! that workers answer, and [`RecordedAlone`] those of a single-threaded server.
 //!
-//! [`Report`] has counts of a server's datagrams and notifications, and its [`Gauges`]: what the
+//! [`Report`] has counts of a server's datagrams and notifications, and its `Gauges`: what the
 //! server holds at the time of the report. It has a text. A [`Reporter`] gets such a report from
 //! time to time; `fc_receive` says when.
 //!
@@ -22,18 +22,16 @@
 //! - **A report** counts each call by its result: a datagram, and its immediate response by its
 //!   code; a retransmission or a removed observer; a lease. Its text is exact, with
 //!   its gauges (`Report`, by `datagram_counted`, `tick_counted`, `lease_counted` and
-//!   `report_text`; `Gauges`, by `gauges_text`).
+//!   `report_text`).
 //! - The contracts don't say what a logger does with a record or a report, nor how many datagrams
 //!   couldn't be sent.
 //!
 //! By the contracts of `ProgramRequest::of`, `ProgramRequest`'s `Display`, `RecordingGate`,
-//! `RecordedAlone`, `Report`, `Gauges`, `ObserverCounts`, `laws`.
+//! `RecordedAlone`, `Report`, `laws`.
 #![tactic(auto)]
 
 pub mod alone;
-pub mod gauges;
 pub mod laws;
-pub mod observer_counts;
 pub mod recorder;
 pub mod report;
 pub mod reporter;
@@ -41,8 +39,6 @@ pub mod request;
 mod text;
 
 pub use alone::RecordedAlone;
-pub use gauges::Gauges;
-pub use observer_counts::ObserverCounts;
 pub use recorder::{ChangeLog, LoggedChanges, NoChanges, Recorder, RecordingGate};
 pub use report::Report;
 pub use reporter::{LoggedReports, NoReports, Reporter};

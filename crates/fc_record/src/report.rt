@@ -3,10 +3,10 @@ ghost use Rattle.std.specs.Prelude.{◌≡◌};
 ghost use Rattle.fc_record.specs.Reports.{datagram_counted, lease_counted, nothing_counted, one_more_if, response_counted, second_byte, tick_counted};
 ghost use Rattle.fc_server.specs.Notified.{notified_as};
 
-use crate::gauges::Gauges;
 use coap_msg::{Code, Emission};
 use fc_front::Handled;
 use fc_observe::Ticked;
+use fc_server::Gauges;
 use fc_server::engine::NotifyOutcome;
 use std::fmt;
 

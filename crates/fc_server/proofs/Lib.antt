@@ -8,3 +8,4 @@ pub mod Served
 pub mod Quiet
 mod GivenTurns
 pub mod FlushingSteps
+pub mod Counted

@@ -7,7 +7,7 @@ use Rattle.coap_msg.specs.declared.types.Emission.{Emission}
 use Rattle.fc_registry.specs.Shards.{no_shard, shard_at, slot_in_shards}
 use Rattle.fc_registry.specs.Slots.{Shard, Slot}
 use Rattle.fc_core.specs.declared.event.Event.{Event}
-use Rattle.fc_core.specs.declared.event.Event.TheVariants.{Deliver, Answer, Due, Fire, Fresh, Note, Peek, Receipt, Refuse, Signal, Tick, ShardTick, Lose}
+use Rattle.fc_core.specs.declared.event.Event.TheVariants.{Deliver, Answer, Due, Fire, Fresh, Note, Peek, Receipt, Signal, Tick, ShardTick, Lose}
 use Rattle.fc_core.specs.Stage.{Stage}
 use Rattle.fc_core.specs.Stage.{ToMatch, ToDescribe, ToList, ToAnswer, ToTell, Gone}
 use Rattle.fc_core.specs.TurnStage as turns
@@ -18,9 +18,9 @@ use Rattle.fc_core.specs.History.{AtFront, Rests, at_front, at_shard, no_task, t
 use Rattle.fc_core.specs.Legal.{AnswerEmits}
 use Rattle.fc_core.specs.Sound.{AllSafe}
 use Rattle.fc_front.specs.Heads.{word_at}
-use Rattle.fc_core.specs.Stages.{content_at, drew, ended, is_refusable, needs_id, new_task}
+use Rattle.fc_core.specs.Stages.{content_at, drew, ended, needs_id, new_task}
 use Rattle.fc_front.specs.Timers.{timer_job}
-use Rattle.fc_core.specs.Steps.{Call, Matches, Lists, RefusesChange, next_stage}
+use Rattle.fc_core.specs.Steps.{Call, Matches, Lists, next_stage}
 use Rattle.fc_core.specs.Transitions.{around_of, Around, Effect, Inputs, call_if, effect_of, goes_to, names, transition, inputs_at, sends, task_moved, words_after}
 use Rattle.fc_core.proofs.Rejections.{same_slot}
 use Rattle.fc_server.specs.Agreement.{Parts}
@@ -54,7 +54,7 @@ pub owner_same : (shards : List Shard) (k : ℕ) (found now : Shard) → now ≡
 owner_same shards k found now same is = ap (λ (x : Shard). set shards k x) (same ∙ is) ∙ set-get_or shards k found
 
 -- if a call changes its job alone, so does the call under a condition.
-call_idle : (e : Event) (x : Inputs) (c : Call) → effect_of e x (Some c) ≡ goes_to (next_stage c) → (b : Bool) → effect_of e x (call_if b c) ≡ goes_to (effect_of e x (call_if b c)).stage
+pub call_idle : (e : Event) (x : Inputs) (c : Call) → effect_of e x (Some c) ≡ goes_to (next_stage c) → (b : Bool) → effect_of e x (call_if b c) ≡ goes_to (effect_of e x (call_if b c)).stage
 call_idle e x c idle true = idle
 call_idle e x c idle false = refl
 
@@ -75,10 +75,6 @@ receipt_idle_at k x other = refl
 
 pub receipt_idle : (k : ℕ) (x : Inputs) → transition (Receipt k) x ≡ goes_to (transition (Receipt k) x).stage
 receipt_idle k x = receipt_idle_at k x x.stage
-
--- a refused change changes its job alone.
-pub refuse_idle : (k : ℕ) (x : Inputs) → transition (Refuse k) x ≡ goes_to (transition (Refuse k) x).stage
-refuse_idle k x = call_idle (Refuse k) x (RefusesChange x.stage) refl (is_refusable x.stage)
 
 answer_idle : (k now : ℕ) (x : Inputs) (st : Stage) → transition (Answer k now) (at x st) ≡ goes_to (ended st)
 answer_idle k now x (ToAnswer content) = refl

@@ -27,7 +27,6 @@ use Rattle.fc_core.specs.Fits.{FitsStage}
 use Rattle.fc_core.specs.History.{History, Seen, seen, task_at, no_task}
 use Rattle.fc_front.specs.Receiving as x
 use Rattle.fc_front.specs.Receiving.{Received, after_delivered, brought, delivered, handed_on, next_opening, received, reply_or_nothing, sent}
-use Rattle.fc_core.specs.Stage.{ToTake}
 use Rattle.fc_core.specs.Stages.{first_stage, new_task}
 use Rattle.fc_front.specs.Timers.{timer_job}
 use Rattle.fc_server.specs.Agreement.{Agrees, Parts}

@@ -5,10 +5,10 @@ use Rattle.coap_msg.specs.declared.types.Emission.{Emission}
 use Rattle.coap_msg.specs.declared.types.Endpoint.{Endpoint}
 use Rattle.fc_front.specs.declared.front.Handled.{Handled}
 use Rattle.fc_front.specs.declared.front.Handled.TheVariants.{Reply}
-use Rattle.fc_front.specs.declared.gauges.FrontGauges.{FrontGauges}
 use Rattle.fc_observe.specs.declared.observers.Ticked.{Ticked}
 use Rattle.fc_server.specs.Notified.{Notified}
 use Rattle.fc_server.specs.declared.engine.FireOutcome.{FireOutcome}
+use Rattle.fc_server.specs.declared.gauges.Gauges.{Gauges}
 
 -- whether the datagram that was written is to be sent.
 abbrev pub is_reply : Handled → Bool
@@ -40,9 +40,6 @@ pub record IngressCalls (S : Type 0) : Type 1 where
   -- a shard is idle until this time: no notification has timed out, and no observer has a pending
   -- one.
   pub stays_idle : ℕ → S → ℕ → Type 0
-  -- the front has these gauges at this time.
-  pub tells_gauges : ℕ → S → FrontGauges → Type 0
-  -- the slots of a shard have these numbers of observers, by place.
-  pub tells_observers : ℕ → S → List ℕ → Type 0
-  -- this number of jobs was sent to workers.
-  pub tells_offloaded : S → ℕ → Type 0
+  -- the server has these gauges at this time. They are those of its front, the number of each slot's
+  -- observers, and the number of jobs that it sent to workers.
+  pub tells_gauges : ℕ → S → Gauges → Type 0

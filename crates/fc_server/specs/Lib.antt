@@ -3,6 +3,7 @@ pub mod Agreement
 pub mod Steps
 pub mod Serving
 pub mod Notified
+pub mod Gauges
 pub mod Ingresses
 pub mod SingleThread
 pub mod Flushing

@@ -5,15 +5,14 @@ use Rattle.std.specs.Borrow.{Bor}
 use Rattle.coap_msg.specs.declared.types.Emission.{Emission}
 use Rattle.coap_msg.specs.declared.types.Endpoint.{Endpoint}
 use Rattle.fc_front.specs.Exchanges.{advanced}
-use Rattle.fc_front.specs.Gauges.{gauges_at}
-use Rattle.fc_front.specs.declared.gauges.FrontGauges.{FrontGauges}
 use Rattle.fc_front.specs.Ids.{free_id}
 use Rattle.fc_core.specs.Legal.{resent}
 use Rattle.fc_front.specs.Receiving.{delivered, emission_if}
 use Rattle.fc_front.specs.declared.front.Handled.{Handled}
 use Rattle.fc_observe.specs.declared.observers.Ticked.{Ticked}
 use Rattle.fc_registry.specs.Shards.{shard_at}
-use Rattle.fc_registry.specs.Watches.{StaysIdleUntil, at_time, is_idle, observer_counts}
+use Rattle.fc_registry.specs.Watches.{StaysIdleUntil, at_time, is_idle}
+use Rattle.fc_server.specs.Gauges.{server_gauges}
 use Rattle.fc_server.specs.Ingresses.{IngressCalls, is_reply, never}
 use Rattle.fc_server.specs.Notified.{Notified, Starved, is_given, notification_in}
 use Rattle.fc_server.specs.Serving.{AsksForTurn, FiresTimer, Handles, Passes, TicksShard}
@@ -21,6 +20,7 @@ use Rattle.fc_server.specs.Steps.{shard_told}
 use Rattle.fc_server.specs.declared.alone.SingleThread.{SingleThread}
 use Rattle.fc_server.specs.declared.engine.FireOutcome.{FireOutcome}
 use Rattle.fc_server.specs.declared.engine.FireOutcome.TheVariants.{Ended, Refused, Sent}
+use Rattle.fc_server.specs.declared.gauges.Gauges.{Gauges}
 
 abbrev pub HandlesAlone : ℕ → Endpoint → Bor (List ℕ) → SingleThread → SingleThread → Handled → Emission → Type 0
 HandlesAlone now from bytes old new handled reply =
@@ -53,15 +53,8 @@ NotifiesAlone shard now old new told =
 abbrev pub StaysIdleAlone : ℕ → SingleThread → ℕ → Type 0
 StaysIdleAlone shard now until = StaysIdleUntil until (shard_at now.engine.shards (shard % 8))
 
-abbrev pub TellsGaugesAlone : ℕ → SingleThread → FrontGauges → Type 0
-TellsGaugesAlone now state gauges = gauges ≡ gauges_at now state.engine.front
-
-abbrev pub TellsObserversAlone : ℕ → SingleThread → List ℕ → Type 0
-TellsObserversAlone shard now counts = counts ≡ observer_counts (shard_at now.engine.shards (shard % 8))
-
--- a server on one thread sends no job to workers.
-abbrev pub TellsOffloadedAlone : SingleThread → ℕ → Type 0
-TellsOffloadedAlone now count = count ≡ 0
+abbrev pub TellsGaugesAlone : ℕ → SingleThread → Gauges → Type 0
+TellsGaugesAlone now state gauges = gauges ≡ server_gauges now state.engine
 
 abbrev pub alone_calls : IngressCalls SingleThread
 alone_calls = record {
@@ -74,6 +67,4 @@ alone_calls = record {
   notifies = NotifiesAlone;
   stays_idle = StaysIdleAlone;
   tells_gauges = TellsGaugesAlone;
-  tells_observers = TellsObserversAlone;
-  tells_offloaded = TellsOffloadedAlone;
 }

@@ -13,14 +13,14 @@ ghost use Rattle.fc_server.specs.States.{CanBegin, begin_of};
 
 use crate::engine::{Engine, FireOutcome, NotifyOutcome};
 use crate::first::FirstServer;
+use crate::gauges::Gauges;
 use crate::ingress::Ingress;
 use crate::server::Begin;
 use crate::witness::{NoWitness, Witness};
 use coap_msg::{Emission, Endpoint};
-use fc_front::{FrontGauges, Handled};
+use fc_front::Handled;
 use fc_help::{NO_READINGS, Readings};
 use fc_observe::Ticked;
-use fc_registry::PLACES;
 use fc_ticket::{SHARDS, SlotNumber};
 use std::alloc::{AllocError, Global};
 
@@ -155,17 +155,8 @@ impl Ingress for SingleThread {
         self.engine.idle_until(shard % SHARDS)
     }
 
-    fn gauges(&self, now: u64) -> FrontGauges {
+    fn gauges(&self, now: u64) -> Gauges {
         self.engine.gauges(now)
-    }
-
-    fn observer_counts(&self, shard: u8) -> [u8; PLACES] {
-        self.engine.observer_counts(shard % SHARDS)
-    }
-
-    // A server on one thread has no workers.
-    fn offloaded(&self) -> u64 {
-        0
     }
 
     fn notify(&mut self, shard: u8, now: u64, emission: &mut Emission) -> NotifyOutcome {

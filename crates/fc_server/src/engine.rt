@@ -5,13 +5,13 @@ ghost use Rattle.std.specs.Prelude.{◌≡◌, ℕ, ◌<◌, ◌≤◌, List, []
 ghost use Rattle.arrayvec.specs.ArrayVec.{ArrayVec};
 ghost use Rattle.coap_msg.specs.declared.types.Emission.{Emission as Emitted};
 ghost use Rattle.fc_registry.specs.Shards.{shard_at, slot_in_shards};
-ghost use Rattle.fc_registry.specs.Watches.{StaysIdleUntil, at_time, is_idle, observer_counts};
+ghost use Rattle.fc_registry.specs.Watches.{StaysIdleUntil, at_time, is_idle};
 ghost use Rattle.fc_core.specs.Stage.{Stage};
 ghost use Rattle.fc_front.specs.Exchanges.{advanced, has_exchange};
-ghost use Rattle.fc_front.specs.Gauges.{gauges_at};
 ghost use Rattle.fc_front.specs.Ids.{free_id};
 ghost use Rattle.fc_front.specs.Receiving.{delivered, emission_if};
 ghost use Rattle.fc_core.specs.Legal.{resent};
+ghost use Rattle.fc_server.specs.Gauges.{server_gauges};
 ghost use Rattle.fc_server.specs.Serving.{FindsProgram, Handles, IsBegun, IsOutToTake, IsReachable, AsksForTurn, FiresTimer, Passes, Runs, TicksShard, Serves, Turns, WorksOff, WorksOffUnread};
 ghost use Rattle.fc_server.specs.Notified.{Starved, Unsent, is_given, notification_in, notified_as};
 ghost use Rattle.fc_server.specs.Serving.{IsSignalled};
@@ -20,15 +20,16 @@ ghost use Rattle.fc_server.specs.States.{CanBegin, begin_of};
 ghost use Rattle.fc_server.specs.Steps.{shard_told};
 
 use crate::first::FirstServer;
+use crate::gauges::Gauges;
+use crate::observer_counts::ObserverCounts;
 use crate::server::{Begin, Server};
 use crate::witness::Witness;
 use coap_msg::{Emission, Endpoint};
 use fc_core::{Step, Task};
+use fc_front::Handled;
 use fc_front::front::blank_emission;
-use fc_front::{FrontGauges, Handled};
 use fc_help::Readings;
 use fc_observe::Ticked;
-use fc_registry::PLACES;
 use fc_ticket::{SHARDS, SLOTS, SlotNumber};
 use std::alloc::{AllocError, Global};
 use std::marker::Model;
@@ -203,23 +204,30 @@ impl Engine {
         self.server.idle_until(shard)
     }
 
-    /// Returns how many exchanges and transfers the front holds at `now`, and their limits.
+    /// Returns the gauges of the front at `now`, and how many observers each slot has.
     ///
-    /// `now` is in milliseconds. This is no event: nothing changes.
-    pub fn gauges(&self, now: u64) -> FrontGauges
-        ensures { result ≡ gauges_at now self.now.front }
+    /// `now` is in milliseconds. A server on one thread sends no job to workers. This is no event:
+    /// nothing changes.
+    pub fn gauges(&self, now: u64) -> Gauges
+        ensures { result ≡ server_gauges now self.now }
     {
-        self.server.gauges(now)
-    }
-
-    /// Returns how many observers each slot of a shard, 0 to 7, has, by its place in the shard.
-    ///
-    /// This is no event: nothing changes.
-    pub fn observer_counts(&self, shard: u8) -> [u8; PLACES]
-        requires { shard < 8 }
-        ensures { result ≡ observer_counts (shard_at self.now.shards shard) }
-    {
-        self.server.observer_counts(shard)
+        let server = &self.server;
+        Gauges {
+            offloaded: 0,
+            front: server.gauges(now),
+            observers: ObserverCounts {
+                shards: [
+                    server.observer_counts(0),
+                    server.observer_counts(1),
+                    server.observer_counts(2),
+                    server.observer_counts(3),
+                    server.observer_counts(4),
+                    server.observer_counts(5),
+                    server.observer_counts(6),
+                    server.observer_counts(7),
+                ],
+            },
+        }
     }
 
     /// Notifies the first observer of a shard, 0 to 7, that has a pending notification.

@@ -6,10 +6,10 @@ ghost use Rattle.fc_server.specs.Ingresses.{IngressCalls, is_reply};
 ghost use Rattle.fc_server.specs.Notified.{notified_as};
 
 use crate::engine::{FireOutcome, NotifyOutcome};
+use crate::gauges::Gauges;
 use coap_msg::{Emission, Endpoint};
-use fc_front::{FrontGauges, Handled};
+use fc_front::Handled;
 use fc_observe::Ticked;
-use fc_registry::PLACES;
 use fc_ticket::SlotNumber;
 
 /// A server that handles datagrams and notifies observers.
@@ -68,19 +68,11 @@ pub trait Ingress {
     fn idle_until(&self, shard: u8) -> u64
         ensures { calls.stays_idle shard self.now result };
 
-    /// Returns how many exchanges and transfers the front holds at `now`, and their limits.
+    /// Returns the server's gauges at `now`, in milliseconds. Nothing changes.
     ///
-    /// `now` is in milliseconds. Nothing changes.
-    fn gauges(&self, now: u64) -> FrontGauges
+    /// They count what the server holds then, and the jobs that it sent to workers.
+    fn gauges(&self, now: u64) -> Gauges
         ensures { calls.tells_gauges now self.now result };
-
-    /// Returns how many observers each slot of a shard, 0 to 7, has, by its place in the shard.
-    fn observer_counts(&self, shard: u8) -> [u8; PLACES]
-        ensures { calls.tells_observers shard self.now result };
-
-    /// Returns how many jobs were sent to workers since the server's start.
-    fn offloaded(&self) -> u64
-        ensures { calls.tells_offloaded self.now result };
 
     /// Notifies the first observer of a shard, 0 to 7, that has a pending notification.
     ///

@@ -52,29 +52,34 @@
 //!   notification has timed out, then until no observer has a pending one. At the end this was
 //!   found for each shard, or no message ID was available. `flush::idle_until` returns the earliest
 //!   of the times that the shards return.
-//! - The gauges of the front at a time, and the numbers of a shard's observers, are read. A read is
-//!   no event.
+//! - **Gauges** are those of the front at a time, with the number of each slot's observers and the
+//!   number of jobs sent to workers. On one thread no job is sent. A read of them is no event. Their
+//!   text is exact.
 //! - A first state over stored slots has the restored slots, without observers, and the head words
 //!   of the restored programs. Otherwise the error names a slot that isn't restored, with the
 //!   reason, or says that memory can't be allocated. Some history leaves each first state without
 //!   jobs. `Engine::over` and `SingleThread::over` make a server in any first state.
 //!
 //! By the contracts of `FirstServer`, `Server`, `Engine::over`, `handle`, `tick`, `fire`, `resend`,
-//! `notify`, `idle_until`, `gauges`, `observer_counts`, `SingleThread`, `Flushing::begin`, `step`,
-//! `flush::idle_until`.
+//! `notify`, `idle_until`, `gauges`, `SingleThread`, `Gauges`, `ObserverCounts`, `Flushing::begin`,
+//! `step`, `flush::idle_until`.
 #![tactic(auto)]
 
 pub mod alone;
 pub mod engine;
 pub mod first;
 pub mod flush;
+pub mod gauges;
 pub mod ingress;
+pub mod observer_counts;
 pub mod server;
 pub mod witness;
 
 pub use alone::SingleThread;
 pub use engine::Engine;
 pub use first::FirstServer;
+pub use gauges::Gauges;
 pub use ingress::Ingress;
+pub use observer_counts::ObserverCounts;
 pub use server::{Begin, DEFAULT_BEGIN, Server};
 pub use witness::{NoWitness, Witness};

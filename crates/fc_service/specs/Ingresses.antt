@@ -46,8 +46,6 @@ waited_calls calls = record {
   notifies = λ shard now old new told. (asked : Notified) × calls.notifies shard now old new asked × IsTurnWaitedFor asked told;
   stays_idle = calls.stays_idle;
   tells_gauges = calls.tells_gauges;
-  tells_observers = calls.tells_observers;
-  tells_offloaded = calls.tells_offloaded;
 }
 
 -- the calls of a holder of a server, by the server's calls.
@@ -62,6 +60,4 @@ calls_through held calls = record {
   notifies = λ shard now old new told. calls.notifies shard now (held old) (held new) told;
   stays_idle = λ shard now until. calls.stays_idle shard (held now) until;
   tells_gauges = λ now state gauges. calls.tells_gauges now (held state) gauges;
-  tells_observers = λ shard now counts. calls.tells_observers shard (held now) counts;
-  tells_offloaded = λ now count. calls.tells_offloaded (held now) count;
 }

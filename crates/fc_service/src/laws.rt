@@ -183,9 +183,9 @@ pub fn played_lines_are_one_history()
 
 /// A later start begins at a higher serial.
 ///
-/// It is higher by 32 for each millisecond between the starts, and by 2^24 from a second on. A
-/// server that started in 1970 begins at 0, a millisecond later at 32, and a second later at
-/// 2^24 + 32,000.
+/// It is higher by at least 32 for each millisecond between the starts, and by at least 2^24 from a
+/// second on. Times are milliseconds since the beginning of 1970, up to 2^48. A server that started
+/// at 0 begins at serial 0, a millisecond later at 32, and a second later at 2^24 + 32,000.
 pub fn later_starts_begin_higher()
     ensures first { (serial_of_start 0 ≡ 0) × (serial_of_start 1 ≡ 32) × (serial_of_start 1000 ≡ 16777216 + 32000) }
     ensures millisecond { (first second : ℕ) → first ≤ second → second ≤ 281474976710656

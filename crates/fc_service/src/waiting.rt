@@ -4,13 +4,12 @@ ghost use Rattle.fc_service.specs.Ingresses.{calls_through, waited_calls};
 
 use crate::lines::LineIngress;
 use coap_msg::{Emission, Endpoint};
-use fc_front::{FrontGauges, Handled};
+use fc_front::Handled;
 use fc_help::Readings;
 use fc_host::scripted::ScriptedHost;
 use fc_observe::Ticked;
-use fc_registry::PLACES;
-use fc_server::Ingress;
 use fc_server::engine::{FireOutcome, NotifyOutcome};
+use fc_server::{Gauges, Ingress};
 use fc_ticket::SlotNumber;
 use std::sync::Wait;
 
@@ -21,6 +20,8 @@ pub(crate) struct LockStep<'a, R: Wait, N: Ingress> {
     pub(crate) scripted: &'a ScriptedHost,
 }
 
+// Only `handle`, `fire` and `notify` wait, since only they may give a worker a job. The other calls
+// go to the inner ingress unchanged; see [`Ingress`] for their units and results.
 impl<'a, R: Wait, N: Ingress> Ingress for LockStep<'a, R, N> {
     ghost calls = { calls_through (λ waiting. waiting.ingress) (waited_calls N.calls) };
 
@@ -71,16 +72,8 @@ impl<'a, R: Wait, N: Ingress> Ingress for LockStep<'a, R, N> {
         self.ingress.idle_until(shard)
     }
 
-    fn gauges(&self, now: u64) -> FrontGauges {
+    fn gauges(&self, now: u64) -> Gauges {
         self.ingress.gauges(now)
-    }
-
-    fn observer_counts(&self, shard: u8) -> [u8; PLACES] {
-        self.ingress.observer_counts(shard)
-    }
-
-    fn offloaded(&self) -> u64 {
-        self.ingress.offloaded()
     }
 
     // Waits for the worker of the lease, and returns its notification as one to be sent. A lease

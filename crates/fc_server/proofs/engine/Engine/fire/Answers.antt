@@ -1,4 +1,4 @@
-use Rattle.std.proofs.Common.{◌≡◌, Bool, false, None, ◌++◌, ◌∷◌, [], Option, length, ap, sym, subst, ◌∙◌}
+use Rattle.std.proofs.Common.{◌≡◌, Bool, None, ◌++◌, ◌∷◌, [], Option, length, ap, sym, subst, ◌∙◌}
 use Rattle.coap_msg.specs.declared.types.Emission.{Emission}
 use Rattle.fc_core.specs.declared.event.Event.TheVariants.{Fire}
 use Rattle.fc_core.specs.declared.stage.Task.{Task}

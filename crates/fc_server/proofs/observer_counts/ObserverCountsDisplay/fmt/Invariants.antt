@@ -1,6 +1,6 @@
 use Rattle.std.specs.Fmt.{HasWritten, IsPlainFormatter}
-use Rattle.fc_record.specs.Gauges.{texts_below}
-use Rattle.fc_record.proofs.observer_counts.ObserverCountsDisplay.fmt.Given as goal
+use Rattle.fc_server.specs.Gauges.{texts_below}
+use Rattle.fc_server.proofs.observer_counts.ObserverCountsDisplay.fmt.Given as goal
 
 abbrev pub invariant-loop-slot : goal.invariant-loop-slot
 invariant-loop-slot g l =

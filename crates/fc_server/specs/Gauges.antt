@@ -1,8 +1,13 @@
 -- The gauges of a server, the numbers of its slots' observers, and their text.
-use Rattle.std.specs.Prelude.{ℕ, zero, suc, ◌/◌, ◌%◌, ◌==◌, List, [], ◌++◌, codes, if◌then◌else◌, replicate, slice_index_or}
+use Rattle.std.specs.Prelude.{ℕ, zero, suc, ◌/◌, ◌%◌, ◌==◌, List, [], ◌∷◌, ◌++◌, codes, if◌then◌else◌, map, replicate, slice_index_or}
 use Rattle.std.specs.Fmt.{decimal}
-use Rattle.fc_record.specs.declared.gauges.Gauges.{Gauges}
-use Rattle.fc_record.specs.declared.observer_counts.ObserverCounts.{ObserverCounts}
+use Rattle.fc_registry.specs.Shards.{shard_at}
+use Rattle.fc_registry.specs.Slots.{Shard}
+use Rattle.fc_registry.specs.Watches.{observer_counts}
+use Rattle.fc_front.specs.Gauges.{gauges_at}
+use Rattle.fc_server.specs.States.{ServerState}
+use Rattle.fc_server.specs.declared.gauges.Gauges.{Gauges}
+use Rattle.fc_server.specs.declared.observer_counts.ObserverCounts.{ObserverCounts}
 
 -- no slot has an observer.
 abbrev pub no_counts : ObserverCounts
@@ -37,3 +42,11 @@ gauges_text g =
 -- a server holds nothing, with limits of 0, and sent no job to workers.
 abbrev pub no_gauges : Gauges
 no_gauges = record { offloaded = 0; front = record { exchanges = 0; most_exchanges = 0; transfers = 0; most_transfers = 0 }; observers = no_counts }
+
+-- how many observers each slot of eight shards has.
+abbrev pub counts_in : List Shard → ObserverCounts
+counts_in shards = record { shards = map (λ n. observer_counts (shard_at shards n)) (0 ∷ 1 ∷ 2 ∷ 3 ∷ 4 ∷ 5 ∷ 6 ∷ 7 ∷ []) }
+
+-- the gauges of a server on one thread at a time. It sends no job to workers.
+abbrev pub server_gauges : ℕ → ServerState → Gauges
+server_gauges now s = record { offloaded = 0; front = gauges_at now s.front; observers = counts_in s.shards }

@@ -1,12 +1,12 @@
-//! Gauges: how much a server holds at one time.
+//! Gauges of a server: how much it holds at one time.
 ghost use Rattle.std.specs.Prelude.{◌≡◌};
-ghost use Rattle.fc_record.specs.Gauges.{no_gauges};
+ghost use Rattle.fc_server.specs.Gauges.{no_gauges};
 
 use crate::observer_counts::ObserverCounts;
 use fc_front::FrontGauges;
 use std::fmt;
 
-/// The gauges of a server at one time, and the number of jobs that it sent to workers by then.
+/// The gauges of a server at one time.
 #[derive(Clone, Copy, Debug, PartialEq, Eq)]
 pub struct Gauges {
     /// The jobs that were sent to workers since the server's start.
@@ -40,7 +40,7 @@ impl Gauges {
 /// An example: ` offloaded=7 exchanges=12/1024 transfers=1/16 observers/7=2`.
 impl fmt::Display for Gauges {
     ghost use Rattle.std.specs.Prelude.{Some};
-    ghost use Rattle.fc_record.specs.Gauges.{gauges_text};
+    ghost use Rattle.fc_server.specs.Gauges.{gauges_text};
 
     ghost output = { λ g. Some (gauges_text g) };
 

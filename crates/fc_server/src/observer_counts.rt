@@ -1,6 +1,6 @@
 //! The numbers of observers of a server's slots.
 ghost use Rattle.std.specs.Prelude.{◌≡◌};
-ghost use Rattle.fc_record.specs.Gauges.{no_counts, observers_of};
+ghost use Rattle.fc_server.specs.Gauges.{no_counts, observers_of};
 
 use fc_registry::PLACES;
 use fc_ticket::{SLOTS, SlotNumber};
@@ -43,7 +43,7 @@ struct SlotText {
 /// Nothing is written if the slot has no observer.
 impl fmt::Display for SlotText {
     ghost use Rattle.std.specs.Prelude.{Some};
-    ghost use Rattle.fc_record.specs.Gauges.{slot_text};
+    ghost use Rattle.fc_server.specs.Gauges.{slot_text};
 
     ghost output = { λ t. Some (slot_text t.slot t.count) };
 
@@ -59,7 +59,7 @@ impl fmt::Display for SlotText {
 /// An example: ` observers/7=2 observers/12=1`.
 impl fmt::Display for ObserverCounts {
     ghost use Rattle.std.specs.Prelude.{Some};
-    ghost use Rattle.fc_record.specs.Gauges.{observers_text};
+    ghost use Rattle.fc_server.specs.Gauges.{observers_text};
 
     ghost output = { λ c. Some (observers_text c) };
 

@@ -1,7 +1,7 @@
 use Rattle.std.proofs.Common.{arith, ◌≡◌, ◌∙◌, rules, ◌++◌, ◌+◌, ap, suc}
 use Rattle.std.proofs.Output.{has_written_append, has_written_of_eq}
-use Rattle.fc_record.specs.Gauges.{observers_of, slot_text, texts_below}
-use Rattle.fc_record.proofs.observer_counts.ObserverCountsDisplay.fmt.Goals as goal
+use Rattle.fc_server.specs.Gauges.{observers_of, slot_text, texts_below}
+use Rattle.fc_server.proofs.observer_counts.ObserverCountsDisplay.fmt.Goals as goal
 
 pub loop-slot-preserved : goal.loop-slot-preserved
 loop-slot-preserved g c p =
