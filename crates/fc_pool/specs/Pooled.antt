@@ -1,5 +1,5 @@
 -- Effects of a pool's dispatcher and of its driver.
-use Rattle.std.specs.Prelude.{◌≡◌, ◌⊎◌, ◌+◌, ⊤, ℕ, Bool, List, Option, length, slice_index, None, Some, true, false}
+use Rattle.std.specs.Prelude.{◌≡◌, ◌⊎◌, ◌+◌, ◌<◌, ⊤, ℕ, Bool, List, [], Option, length, slice_index, slice_index_or, None, Some, true, false}
 use Rattle.std.specs.List.{All}
 use Rattle.std.specs.Borrow.{Bor}
 use Rattle.coap_msg.specs.declared.types.Emission.{Emission}
@@ -36,6 +36,7 @@ use Rattle.fc_pool.specs.declared.replies.Replies.{Replies}
 use Rattle.fc_server.specs.Ingresses.{IngressCalls, never}
 use Rattle.fc_server.specs.declared.engine.FireOutcome.{FireOutcome}
 use Rattle.fc_server.specs.declared.engine.FireOutcome.TheVariants as fired
+use Rattle.fc_server.specs.declared.gauges.Gauges.{Gauges}
 use Rattle.fc_server.specs.States.{ServerState}
 use Rattle.fc_record.specs.ProgramRequests.{Requested}
 use Rattle.fc_record.specs.Recording.{IsRecorded}
@@ -92,6 +93,13 @@ module _ {T : Type 0} (s : WorkerView T) where
   abbrev pub StaysIdlePooled : ℕ → PooledIngress T → ℕ → Type 0
   StaysIdlePooled shard now until = (until ≡ 0) ⊎ s.bench (LooksAhead shard until)
 
+  -- the front returned these gauges, and each shard these numbers of observers. This number of jobs
+  -- was sent to workers.
+  pub record TellsGaugesPooled (now : ℕ) (state : PooledIngress T) (gauges : Gauges) : Type 0 where
+    pub front : s.bench (ReadsGauges now gauges.front)
+    pub observers : (shard : ℕ) → shard < 8 → s.bench (CountsObservers shard (slice_index_or gauges.observers.shards shard []))
+    pub offloaded : gauges.offloaded ≡ length state.done.sent.sent
+
   abbrev pub pooled_calls : IngressCalls (PooledIngress T)
   pooled_calls = record {
     handles = HandlesPooled;
@@ -102,9 +110,7 @@ module _ {T : Type 0} (s : WorkerView T) where
     passes_over = PassesOverPooled;
     notifies = NotifiesPooled;
     stays_idle = StaysIdlePooled;
-    tells_gauges = λ now state gauges. s.bench (ReadsGauges now gauges);
-    tells_observers = λ shard now counts. s.bench (CountsObservers shard counts);
-    tells_offloaded = λ now count. count ≡ length now.done.sent.sent;
+    tells_gauges = TellsGaugesPooled;
   }
 
   -- these are the shares of as many workers. They got exactly the jobs of this channel that they

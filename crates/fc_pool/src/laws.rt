@@ -1,22 +1,25 @@
 //! Laws about the effects of a pool's workers.
 //!
 //! Each law is the contract of an empty function.
-ghost use Rattle.std.specs.Prelude.{◌≡◌, ℕ, List, None, Option, Some};
+ghost use Rattle.std.specs.Prelude.{◌≡◌, ℕ, List, [], None, Option, Some, length, slice_index_or};
 ghost use Rattle.coap_msg.specs.declared.types.Emission.{Emission};
 ghost use Rattle.fc_ticket.specs.declared.job.Ask.TheVariants.{Install, Remove};
 ghost use Rattle.fc_ticket.specs.declared.job.InitialVars.{InitialVars};
 ghost use Rattle.fc_ticket.specs.declared.job.Job.{Job};
 ghost use Rattle.fc_front.specs.Contents.{Content};
 ghost use Rattle.fc_server.specs.States.{ServerState};
+ghost use Rattle.fc_server.specs.declared.gauges.Gauges.{Gauges};
+ghost use Rattle.fc_backend.specs.Called.{CountsObservers};
 ghost use Rattle.fc_backend.specs.Logs.{TrackedLog as Log};
 ghost use Rattle.fc_locked.specs.SharedStores.{HasSaved};
 ghost use Rattle.fc_record.specs.ProgramRequests.{Requested};
 ghost use Rattle.fc_workers.specs.Outgoing.{GivesAnswer};
-ghost use Rattle.fc_pool.specs.Pooled.{locked_view};
+ghost use Rattle.fc_pool.specs.Pooled.{PooledIngress, locked_view, pooled_calls};
 
-use fc_backend::{Device, TimeSource, Wire};
+use fc_backend::{Bench, Device, Gate, TimeSource, Wire};
 use fc_record::Recorder;
 use fc_store::Store;
+use fc_workers::WorkerParts;
 
 /// A worker records each change that it has answered, once, right after the answer.
 ///
@@ -39,4 +42,16 @@ pub fn workers_record_answered_changes<D: Device, K: Store, M: TimeSource, W: Wi
     ensures before_commit { (first : ServerState) (number : ℕ) (before after : Log)
         → (locked_view first D.are_readings (HasSaved K.Store) M.is_time M.is_random W.called C.recorded).between number before after
         → after.calls ≡ before.calls }
+{}
+
+/// A pool's gauges have the numbers of observers of the first shard and of the last, 0 and 7.
+///
+/// A shard returned them. If three jobs were sent to workers, the gauges have three.
+pub fn gauges_of_a_pool_have_each_shard<B: Bench, G: Gate, W: Wire, M: TimeSource>()
+    ensures first { (now : ℕ) (state : PooledIngress B.Tallies) (gauges : Gauges) → (pooled_calls ⟦<(B, G, W, M) as WorkerParts>⟧.view).tells_gauges now state gauges
+        → B.called (CountsObservers 0 (slice_index_or gauges.observers.shards 0 [])) }
+    ensures last { (now : ℕ) (state : PooledIngress B.Tallies) (gauges : Gauges) → (pooled_calls ⟦<(B, G, W, M) as WorkerParts>⟧.view).tells_gauges now state gauges
+        → B.called (CountsObservers 7 (slice_index_or gauges.observers.shards 7 [])) }
+    ensures sent { (now : ℕ) (state : PooledIngress B.Tallies) (gauges : Gauges) → (pooled_calls ⟦<(B, G, W, M) as WorkerParts>⟧.view).tells_gauges now state gauges
+        → length state.done.sent.sent ≡ 3 → gauges.offloaded ≡ 3 }
 {}

@@ -26,13 +26,12 @@ use fc_backend::{
     Bench, CallLog, Device, Gate, JobKeys, JobMessage, Share, ShareOf, TimeSource, TrackLog, Wire,
 };
 use fc_filed::NewServerBook;
-use fc_front::{FrontGauges, Handled};
+use fc_front::Handled;
 use fc_locked::{Blanks, Books, ClosedServer, Locked, ReadyStore, ServerOf, Tallies, Unassigned};
 use fc_observe::Ticked;
 use fc_record::{Recorder, RecordingGate};
-use fc_registry::PLACES;
 use fc_server::engine::{FireOutcome, NotifyOutcome};
-use fc_server::{FirstServer, Ingress};
+use fc_server::{FirstServer, Gauges, Ingress, ObserverCounts};
 use fc_store::{NoStore, Store};
 use fc_ticket::SlotNumber;
 use fc_workers::{Context, Dispatcher, Offload, WorkerParts, drive_workers, make_seats};
@@ -63,18 +62,17 @@ impl<'a, W: Wire> Wire for Counting<'a, W> {
     }
 }
 
-// A dispatcher as its driver calls it, and the handle for its waits; the number of jobs that the
-// driver's calls produced, and of jobs ended.
+// A dispatcher as its driver calls it. `begun` is the number of jobs that the driver's calls
+// produced, and `ended` that of the jobs that ended.
 #[derive(Drop)]
-struct PooledIngress<'a, 'b, R: Wait, B: Bench, G: Gate, W: Wire, M: TimeSource> {
-    rt: &'a R,
-    dispatcher: Dispatcher<'b, B, G, W, M>,
+struct PooledIngress<'a, B: Bench, G: Gate, W: Wire, M: TimeSource, R: Wait> {
+    dispatcher: Dispatcher<'a, B, G, W, M, R>,
     begun: u64,
-    ended: &'b AtomicU64,
+    ended: &'a AtomicU64,
 }
 
-impl<'a, 'b, R: Wait, B: Bench, G: Gate, W: Wire, M: TimeSource> Model
-    for PooledIngress<'a, 'b, R, B, G, W, M> {
+impl<'a, B: Bench, G: Gate, W: Wire, M: TimeSource, R: Wait> Model
+    for PooledIngress<'a, B, G, W, M, R> {
     ghost use Rattle.fc_pool.specs.Pooled.{PooledIngress as Seen};
 
     ghost Value = { Seen B.Tallies };
@@ -82,15 +80,7 @@ impl<'a, 'b, R: Wait, B: Bench, G: Gate, W: Wire, M: TimeSource> Model
     ghost view = { λ d. record { offload = d.dispatcher.offload; done = d.dispatcher.done } };
 }
 
-impl<'a, 'b, R: Wait, B: Bench, G: Gate, W: Wire, M: TimeSource> PooledIngress<
-    'a,
-    'b,
-    R,
-    B,
-    G,
-    W,
-    M,
-> {
+impl<'a, B: Bench, G: Gate, W: Wire, M: TimeSource, R: Wait> PooledIngress<'a, B, G, W, M, R> {
     // Closes the dispatcher, and returns the statistics of the jobs that it ran itself.
     fn close(self) -> ShareOf<B::Tallies, B::Book>
         ensures share { result ≡ self.entry.done.share }
@@ -101,13 +91,13 @@ impl<'a, 'b, R: Wait, B: Bench, G: Gate, W: Wire, M: TimeSource> PooledIngress<
     }
 }
 
-impl<'a, 'b, R: Wait, B: Bench, G: Gate, W: Wire, M: TimeSource> Ingress
-    for PooledIngress<'a, 'b, R, B, G, W, M> {
+impl<'a, B: Bench, G: Gate, W: Wire, M: TimeSource, R: Wait> Ingress
+    for PooledIngress<'a, B, G, W, M, R> {
     ghost calls = { pooled_calls ⟦<(B, G, W, M) as WorkerParts>⟧.view };
 
     // Counts the job that a datagram produced.
     fn handle(&mut self, now: u64, from: Endpoint, bytes: &[u8], reply: &mut Emission) -> Handled {
-        let handled = self.dispatcher.handle(self.rt, now, from, bytes, reply);
+        let handled = self.dispatcher.handle(now, from, bytes, reply);
         if matches!(handled, Handled::Job) {
             self.begun = self.begun.saturating_add(1);
         }
@@ -115,12 +105,12 @@ impl<'a, 'b, R: Wait, B: Bench, G: Gate, W: Wire, M: TimeSource> Ingress
     }
 
     fn tick(&mut self, now: u64) {
-        self.dispatcher.tick(self.rt, now);
+        self.dispatcher.tick(now);
     }
 
     // Counts the timer's job.
     fn fire(&mut self, slot: SlotNumber, now: u64) -> FireOutcome {
-        let number = self.dispatcher.fire(self.rt, slot, now);
+        let number = self.dispatcher.fire(slot, now);
         self.begun = self.begun.saturating_add(1);
         match number {
             Some(number) => FireOutcome::Sent(number),
@@ -133,40 +123,48 @@ impl<'a, 'b, R: Wait, B: Bench, G: Gate, W: Wire, M: TimeSource> Ingress
     }
 
     fn resend(&mut self, shard: u8, now: u64) -> Ticked {
-        self.dispatcher.resend(self.rt, shard, now)
+        self.dispatcher.resend(shard, now)
     }
 
     fn advance_if_idle(&mut self, shard: u8, now: u64) -> bool {
-        self.dispatcher.advance_or_skip(self.rt, shard, now)
+        self.dispatcher.advance_or_skip(shard, now)
     }
 
     // Returns 0 while a job waits or is running, since the job may change a slot or register an
     // observer. The count of ended jobs is read before the shard is called.
     fn idle_until(&self, shard: u8) -> u64 {
         if self.ended.load(Ordering::SeqCst) == self.begun {
-            self.dispatcher.idle_until(self.rt, shard)
+            self.dispatcher.idle_until(shard)
         } else {
             0
         }
     }
 
-    fn gauges(&self, now: u64) -> FrontGauges {
-        self.dispatcher.gauges(self.rt, now)
-    }
-
-    fn observer_counts(&self, shard: u8) -> [u8; PLACES] {
-        self.dispatcher.observer_counts(self.rt, shard)
-    }
-
-    fn offloaded(&self) -> u64 {
-        self.dispatcher.offloaded()
+    fn gauges(&self, now: u64) -> Gauges {
+        let dispatcher = &self.dispatcher;
+        Gauges {
+            offloaded: dispatcher.offloaded(),
+            front: dispatcher.gauges(now),
+            observers: ObserverCounts {
+                shards: [
+                    dispatcher.observer_counts(0),
+                    dispatcher.observer_counts(1),
+                    dispatcher.observer_counts(2),
+                    dispatcher.observer_counts(3),
+                    dispatcher.observer_counts(4),
+                    dispatcher.observer_counts(5),
+                    dispatcher.observer_counts(6),
+                    dispatcher.observer_counts(7),
+                ],
+            },
+        }
     }
 
     // Counts the job of the lease that a shard granted. Nothing is written over `emission`: the job
     // was sent to a worker, or has ended here.
     fn notify(&mut self, shard: u8, now: u64, emission: &mut Emission) -> NotifyOutcome {
         let _ = emission;
-        if self.dispatcher.notify(self.rt, shard, now) {
+        if self.dispatcher.notify(shard, now) {
             self.begun = self.begun.saturating_add(1);
             NotifyOutcome::Unsent
         } else {
@@ -459,6 +457,7 @@ where
         recorder: pool.recorder,
     };
     let context = Context {
+        rt,
         alloc,
         bench,
         gate: &gate,
@@ -468,7 +467,6 @@ where
     let (context, channel, ended) = (&context, &jobs, &wire.ended);
     let offload = pool.offload;
     let ((given, has_workers, own), shares) = drive_workers(
-        rt,
         context,
         channel,
         seats,
@@ -485,7 +483,6 @@ where
             }
             let offload = offload_where(has_workers, offload);
             let ingress = PooledIngress {
-                rt,
                 dispatcher: Dispatcher::new(context, channel, sent, own, keys, offload),
                 begun: 0,
                 ended,

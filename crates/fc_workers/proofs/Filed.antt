@@ -20,7 +20,7 @@ use Rattle.fc_core.specs.Stage.{ToAnswer, ToCommit, ToRemove, ToTell, Gone}
 use Rattle.fc_core.specs.TurnStage.{TurnStage}
 use Rattle.fc_core.specs.TurnStage as turns
 use Rattle.fc_core.specs.Stages.{asked_stage, first_or_turn, first_stage, image_of, matched, turn_took}
-use Rattle.fc_core.specs.Steps.{Call, Matches, Lists, Takes, Commits, Installs, Rejects, Refuses, Removes, Describes, Raises, Answers, TakesTurn, Draws, Notes, GivesUp, Loses, RefusesChange, called_at, next_stage}
+use Rattle.fc_core.specs.Steps.{Call, Matches, Lists, Takes, Commits, Installs, Rejects, Refuses, Removes, Describes, Raises, RefusesChange, called_at, next_stage}
 use Rattle.fc_calls.specs.Logged.{LoggedCall}
 use Rattle.fc_calls.specs.Logged.{AnswersRequest, CommitsRun, DrawsId, GivesReadings, GivesUpTurn}
 use Rattle.fc_calls.specs.Logged.{InstallsProgram, LooksAt, NotesTurn, RaisesWord, RemovesProgram, TakesForJob, TellsReceipt}
@@ -141,13 +141,8 @@ module _ (first_job : ℕ) (job : Job) where
         (files.logged (TellsReceipt job receipt) before after is.0) (refl, inl (at, refl))
     call_filed number (Raises word content) stage before after may at is = one (Logged (RaisesWord job.origin.slot word)) stage (next_stage (Raises word content)) before after may
         (files.logged (RaisesWord job.origin.slot word) before after is) (refl, (content, at, refl))
-    call_filed number (Answers content) stage before after may at is = absurd is
-    call_filed number (TakesTurn turn taken) stage before after may at is = absurd is
-    call_filed number (Draws turn found free) stage before after may at is = absurd is
-    call_filed number (Notes turn found id) stage before after may at is = absurd is
-    call_filed number (GivesUp turn needs) stage before after may at is = absurd is
-    call_filed number (Loses needs) stage before after may at is = absurd is
     call_filed number (RefusesChange needs) stage before after may at is = refused_filed number needs stage before after may at is
+    call_filed number other stage before after may at is = absurd is
 
     pub calls_filed : (number : ℕ) (calls : List Call) (before after : TrackedLog) → MayWork first_job before → AreCalls w number job calls before after → Files (asked_stage job) (stage_after job calls) before after
     unfolding AreCalls

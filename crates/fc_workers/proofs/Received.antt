@@ -23,7 +23,7 @@ use Rattle.fc_filed.proofs.JobTracks.{led_right, of_old_job}
 use Rattle.fc_jobs.specs.Ends.{with_got}
 use Rattle.fc_jobs.specs.declared.protocol.Numbered.{Numbered}
 use Rattle.fc_workers.specs.Views.{WorkerView, FilesCalls, HasFiledFor}
-use Rattle.fc_backend.specs.RightTracks.{HasRightJobs, FilesFrom, IsFrom, filed_in}
+use Rattle.fc_backend.specs.RightTracks.{HasRightJobs, IsFrom, filed_in}
 use Rattle.fc_backend.specs.Logs.{TrackedLog}
 use Rattle.fc_backend.specs.Messages.{IsNewJob, TrackedJob, first_brought, with_tracks}
 use Rattle.fc_workers.specs.Received.{KeepsRightJobs}

@@ -13,8 +13,11 @@ use std::alloc::Global;
 use std::sync::Wait;
 
 /// The context shared by all workers.
+///
+/// Their threads are started, and wait, by the runtime `rt`.
 #[derive(Drop)]
-pub struct Context<'a, B: Bench, G: Gate, W: Wire, M: TimeSource> {
+pub struct Context<'a, B: Bench, G: Gate, W: Wire, M: TimeSource, R: Wait> {
+    pub rt: &'a R,
     pub alloc: Global,
     pub bench: &'a B,
     pub gate: &'a G,
@@ -44,12 +47,12 @@ impl<B: Bench, G: Gate, W: Wire, M: TimeSource> WorkerParts for (B, G, W, M) {
 }
 
 // Calls to the gate, the source of times and the transmitter. No track has an entry of such a call.
-impl<'a, B: Bench, G: Gate, W: Wire, M: TimeSource> Context<'a, B, G, W, M> {
+impl<'a, B: Bench, G: Gate, W: Wire, M: TimeSource, R: Wait> Context<'a, B, G, W, M, R> {
     // Calls the gate before a run of the job with this number. See [`Gate::between`].
-    pub(crate) fn between<R: Wait>(&self, rt: &R, number: u64, log: &mut TrackLog<B::Book>)
+    pub(crate) fn between(&self, number: u64, log: &mut TrackLog<B::Book>)
         ensures { IsUnfiled (G.passed number) log.old log.new }
     {
-        self.gate.between(rt, number, &mut log.calls);
+        self.gate.between(self.rt, number, &mut log.calls);
     }
 
     // Calls the gate after the answer of a job. See [`Gate::after_answer`].
@@ -67,30 +70,24 @@ impl<'a, B: Bench, G: Gate, W: Wire, M: TimeSource> Context<'a, B, G, W, M> {
     }
 
     // Returns the time of the call. See [`TimeSource::now`].
-    pub(crate) fn now<R: Wait>(&self, rt: &R, log: &mut TrackLog<B::Book>) -> u64
+    pub(crate) fn now(&self, log: &mut TrackLog<B::Book>) -> u64
         ensures { IsUnfiled (M.is_time result) log.old log.new }
     {
-        self.times.now(rt, &mut log.calls)
+        self.times.now(self.rt, &mut log.calls)
     }
 
     // Sends the reply of the job with this number. See [`Wire::send`].
-    pub(crate) fn send<R: Wait>(
-        &self,
-        rt: &R,
-        number: u64,
-        reply: &Emission,
-        log: &mut TrackLog<B::Book>,
-    ) -> bool
+    pub(crate) fn send(&self, number: u64, reply: &Emission, log: &mut TrackLog<B::Book>) -> bool
         requires { GoesOut reply.now }
         ensures { IsUnfiled (W.called (SendsReply number reply.now result)) log.old log.new }
     {
-        self.wire.send(rt, number, reply, &mut log.calls)
+        self.wire.send(self.rt, number, reply, &mut log.calls)
     }
 
     // Reports that the job with this number has ended. See [`Wire::ended`].
-    pub(crate) fn ended<R: Wait>(&self, rt: &R, number: u64, log: &mut TrackLog<B::Book>)
+    pub(crate) fn ended(&self, number: u64, log: &mut TrackLog<B::Book>)
         ensures { IsUnfiled (W.called (EndsJob number)) log.old log.new }
     {
-        self.wire.ended(rt, number, &mut log.calls);
+        self.wire.ended(self.rt, number, &mut log.calls);
     }
 }

@@ -82,11 +82,12 @@ pub type DispatchedOf<T, J> = Dispatched<T, TrackLog<J>, JobMessage<J>>;
 /// Its log has the tracks of the jobs that it ran, each right for its job. A job that is sent takes
 /// its track along. Contracts see the dispatcher's policy and its record.
 #[derive(Drop)]
-pub struct Dispatcher<'a, B: Bench, G: Gate, W: Wire, M: TimeSource> {
-    state: DispatcherState<'a, B, G, W, M>,
+pub struct Dispatcher<'a, B: Bench, G: Gate, W: Wire, M: TimeSource, R: Wait> {
+    state: DispatcherState<'a, B, G, W, M, R>,
 }
 
-impl<'a, B: Bench, G: Gate, W: Wire, M: TimeSource> Model for Dispatcher<'a, B, G, W, M> {
+impl<'a, B: Bench, G: Gate, W: Wire, M: TimeSource, R: Wait> Model
+    for Dispatcher<'a, B, G, W, M, R> {
     ghost use Rattle.fc_workers.specs.Dispatch.{SeenDispatcher};
 
     ghost Value = { SeenDispatcher B.Tallies };
@@ -98,20 +99,20 @@ impl<'a, B: Bench, G: Gate, W: Wire, M: TimeSource> Model for Dispatcher<'a, B, 
     ghost invariant = { λ d. MayProduce B.Book.first_job d.state.keys d.state.done.share.log };
 }
 
-impl<'a, B: Bench, G: Gate, W: Wire, M: TimeSource> Dispatcher<'a, B, G, W, M> {
+impl<'a, B: Bench, G: Gate, W: Wire, M: TimeSource, R: Wait> Dispatcher<'a, B, G, W, M, R> {
     /// Makes a dispatcher that sends its jobs by `sent`, and has run none.
     ///
     /// `seat` is its initial state, with which it runs jobs as a worker does. Nothing is filed in
     /// its log yet. `jobs` is the channel of `sent`. `keys` is the right to begin the tracks of
     /// jobs, and has begun none. The track of the first job begins here.
     pub fn new(
-        context: &'a Context<'a, B, G, W, M>,
+        context: &'a Context<'a, B, G, W, M, R>,
         jobs: &'a Jobs<JobMessage<B::Book>>,
         sent: Sent<JobMessage<B::Book>>,
         seat: SeedOf<B::Tallies, B::Book>,
         keys: JobKeys<B::Book>,
         offload: Offload,
-    ) -> Dispatcher<'a, B, G, W, M>
+    ) -> Dispatcher<'a, B, G, W, M, R>
         requires channel { sent.channel ≡ jobs.now }
         requires new_log { IsNewLog seat.log }
         requires keys { keys ≡ first_brought B.Book.first_job }
@@ -142,9 +143,8 @@ impl<'a, B: Bench, G: Gate, W: Wire, M: TimeSource> Dispatcher<'a, B, G, W, M> {
     /// A response is written over `reply`, and a job is dispatched. A signal, which is an
     /// Acknowledgement or a Reset message, goes to each shard. Returns which of these the datagram
     /// led to, if any.
-    pub fn handle<R: Wait>(
+    pub fn handle(
         &mut self,
-        rt: &R,
         now: u64,
         from: Endpoint,
         bytes: &[u8],
@@ -154,44 +154,46 @@ impl<'a, B: Bench, G: Gate, W: Wire, M: TimeSource> Dispatcher<'a, B, G, W, M> {
             self.old.offload now from bytes.now result reply.new self.old.done self.new.done }
         ensures offload { self.new.offload ≡ self.old.offload }
     {
-        self.state.handle(rt, now, from, bytes, reply)
+        self.state.handle(now, from, bytes, reply)
     }
 
     /// Advances the front to a time in milliseconds.
-    pub fn tick<R: Wait>(&mut self, rt: &R, now: u64)
+    pub fn tick(&mut self, now: u64)
         ensures logged { B.logged (AdvancesFront now) self.old.done.share.log self.new.done.share.log }
         ensures kept { HasCalled self.old.done self.new.done }
         ensures offload { self.new.offload ≡ self.old.offload }
     {
         let state = &mut self.state;
+        let context = state.context;
         let log = &mut state.done.share.log;
-        state.context.bench.tick(rt, now, log);
+        context.bench.tick(context.rt, now, log);
     }
 
     /// Fires the timer of a slot at a time in milliseconds, and dispatches its job.
     ///
     /// Returns the number of the job if it was sent to the workers. Returns `None` if the job has
     /// ended here.
-    pub fn fire<R: Wait>(&mut self, rt: &R, slot: SlotNumber, now: u64) -> Option<u64>
+    pub fn fire(&mut self, slot: SlotNumber, now: u64) -> Option<u64>
         ensures fired { IsTimerFired ⟦<(B, G, W, M) as WorkerParts>⟧.view
             self.old.offload slot now result self.old.done self.new.done }
         ensures offload { self.new.offload ≡ self.old.offload }
     {
-        self.state.fire(rt, slot, now)
+        self.state.fire(slot, now)
     }
 
     /// Advances a shard, 0 to 7, to a time in milliseconds.
     ///
     /// Returns a message to retransmit, that an observer was removed, or neither.
-    pub fn resend<R: Wait>(&mut self, rt: &R, shard: u8, now: u64) -> Ticked
+    pub fn resend(&mut self, shard: u8, now: u64) -> Ticked
         ensures ticked { IsSomeTick now result }
         ensures logged { B.logged (AdvancesShard shard now result) self.old.done.share.log self.new.done.share.log }
         ensures kept { HasCalled self.old.done self.new.done }
         ensures offload { self.new.offload ≡ self.old.offload }
     {
         let state = &mut self.state;
+        let context = state.context;
         let log = &mut state.done.share.log;
-        state.context.bench.tick_shard(rt, shard, now, log)
+        context.bench.tick_shard(context.rt, shard, now, log)
     }
 
     /// Advances a shard, 0 to 7, to a time in ms if it is idle then, or skips it.
@@ -199,41 +201,44 @@ impl<'a, B: Bench, G: Gate, W: Wire, M: TimeSource> Dispatcher<'a, B, G, W, M> {
     /// It is idle if no notification has timed out and no observer has a pending one. A shard that
     /// is known to be idle is skipped ([`Bench::skip_if_idle`]). Returns whether the shard is idle.
     /// If it isn't, nothing changes.
-    pub fn advance_or_skip<R: Wait>(&mut self, rt: &R, shard: u8, now: u64) -> bool
+    pub fn advance_or_skip(&mut self, shard: u8, now: u64) -> bool
         ensures passed { MatchBool result
             (IsAdvancedOrSkipped ⟦<(B, G, W, M) as WorkerParts>⟧.view shard now self.old.done self.new.done)
             (IsSomeIdle now false × B.called (LeavesUnquiet shard now) × (self.new.done ≡ self.old.done)) }
         ensures offload { self.new.offload ≡ self.old.offload }
     {
-        self.state.advance_or_skip(rt, shard, now)
+        self.state.advance_or_skip(shard, now)
     }
 
     /// Returns a time before which a shard, 0 to 7, is idle unless the shard is called.
     ///
     /// It bounds the wait for the next datagram. Another thread may call the shard at any time. The
     /// clause says that the bench returned this time; its meaning for a server is `TellsIdleUntil`.
-    pub fn idle_until<R: Wait>(&self, rt: &R, shard: u8) -> u64
+    pub fn idle_until(&self, shard: u8) -> u64
         ensures { B.called (LooksAhead shard result) }
     {
-        self.state.context.bench.idle_until(rt, shard)
+        let context = self.state.context;
+        context.bench.idle_until(context.rt, shard)
     }
 
     /// Returns how many exchanges and transfers the front holds at `now`, and their limits.
     ///
     /// `now` is in milliseconds. See [`Bench::gauges`].
-    pub fn gauges<R: Wait>(&self, rt: &R, now: u64) -> FrontGauges
+    pub fn gauges(&self, now: u64) -> FrontGauges
         ensures { B.called (ReadsGauges now result) }
     {
-        self.state.context.bench.gauges(rt, now)
+        let context = self.state.context;
+        context.bench.gauges(context.rt, now)
     }
 
     /// Returns how many observers each slot of a shard, 0 to 7, has, by its place in the shard.
     ///
     /// See [`Bench::observer_counts`].
-    pub fn observer_counts<R: Wait>(&self, rt: &R, shard: u8) -> [u8; PLACES]
+    pub fn observer_counts(&self, shard: u8) -> [u8; PLACES]
         ensures { B.called (CountsObservers shard result) }
     {
-        self.state.context.bench.observer_counts(rt, shard)
+        let context = self.state.context;
+        context.bench.observer_counts(context.rt, shard)
     }
 
     /// Returns how many jobs were sent to the workers.
@@ -247,11 +252,11 @@ impl<'a, B: Bench, G: Gate, W: Wire, M: TimeSource> Dispatcher<'a, B, G, W, M> {
     ///
     /// The lease is that of the first observer with a pending notification at a time in
     /// milliseconds. Returns whether there was such an observer.
-    pub fn notify<R: Wait>(&mut self, rt: &R, shard: u8, now: u64) -> bool
+    pub fn notify(&mut self, shard: u8, now: u64) -> bool
         ensures asked { IsTurnAsked ⟦<(B, G, W, M) as WorkerParts>⟧.view
             self.old.offload shard now result self.old.done self.new.done }
         ensures offload { self.new.offload ≡ self.old.offload }
     {
-        self.state.notify(rt, shard, now)
+        self.state.notify(shard, now)
     }
 }

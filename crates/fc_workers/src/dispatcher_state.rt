@@ -31,8 +31,8 @@ use std::sync::Wait;
 ///
 /// Between two calls the first track of its log is that of its next job, without an entry.
 #[derive(Drop)]
-pub(crate) struct DispatcherState<'a, B: Bench, G: Gate, W: Wire, M: TimeSource> {
-    pub(crate) context: &'a Context<'a, B, G, W, M>,
+pub(crate) struct DispatcherState<'a, B: Bench, G: Gate, W: Wire, M: TimeSource, R: Wait> {
+    pub(crate) context: &'a Context<'a, B, G, W, M, R>,
     jobs: &'a Jobs<JobMessage<B::Book>>,
     pub(crate) offload: Offload,
     pub(crate) keys: JobKeys<B::Book>,
@@ -42,17 +42,17 @@ pub(crate) struct DispatcherState<'a, B: Bench, G: Gate, W: Wire, M: TimeSource>
     ghost channel: { done.sent.channel ≡ jobs.now },
 }
 
-impl<'a, B: Bench, G: Gate, W: Wire, M: TimeSource> DispatcherState<'a, B, G, W, M> {
+impl<'a, B: Bench, G: Gate, W: Wire, M: TimeSource, R: Wait> DispatcherState<'a, B, G, W, M, R> {
     // Makes the state of a dispatcher that has sent and run no job. The track of its first job
     // begins.
     pub(crate) fn new(
-        context: &'a Context<'a, B, G, W, M>,
+        context: &'a Context<'a, B, G, W, M, R>,
         jobs: &'a Jobs<JobMessage<B::Book>>,
         sent: Sent<JobMessage<B::Book>>,
         seat: SeedOf<B::Tallies, B::Book>,
         mut keys: JobKeys<B::Book>,
         offload: Offload,
-    ) -> DispatcherState<'a, B, G, W, M>
+    ) -> DispatcherState<'a, B, G, W, M, R>
         requires channel { sent.channel ≡ jobs.now }
         requires new_log { IsNewLog seat.log }
         requires keys { keys ≡ first_brought B.Book.first_job }
@@ -88,9 +88,8 @@ impl<'a, B: Bench, G: Gate, W: Wire, M: TimeSource> DispatcherState<'a, B, G, W,
     // A response is written over `reply`, and a job is dispatched. A signal, which is an
     // Acknowledgement or a Reset message, goes to each shard. Returns which of these the datagram
     // led to, if any.
-    pub(crate) fn handle<R: Wait>(
+    pub(crate) fn handle(
         &mut self,
-        rt: &R,
         now: u64,
         from: Endpoint,
         bytes: &[u8],
@@ -102,6 +101,7 @@ impl<'a, B: Bench, G: Gate, W: Wire, M: TimeSource> DispatcherState<'a, B, G, W,
         ensures offload { self.new.offload ≡ self.old.offload }
         ensures ready { MayProduce B.Book.first_job self.new.keys self.new.done.share.log }
     {
+        let rt = self.context.rt;
         let log = &mut self.done.share.log;
         let handled = self
             .context
@@ -110,8 +110,8 @@ impl<'a, B: Bench, G: Gate, W: Wire, M: TimeSource> DispatcherState<'a, B, G, W,
         match handled {
             Handled::Nothing => {}
             Handled::Reply => {}
-            Handled::Job => self.dispatch(rt),
-            Handled::Signal { mid, reset } => self.signal(rt, from, mid, reset),
+            Handled::Job => self.dispatch(),
+            Handled::Signal { mid, reset } => self.signal(from, mid, reset),
         }
         handled
     }
@@ -120,7 +120,7 @@ impl<'a, B: Bench, G: Gate, W: Wire, M: TimeSource> DispatcherState<'a, B, G, W,
     //
     // Returns the number of the job if it was sent to the workers. Returns `None` if the job has
     // ended here.
-    pub(crate) fn fire<R: Wait>(&mut self, rt: &R, slot: SlotNumber, now: u64) -> Option<u64>
+    pub(crate) fn fire(&mut self, slot: SlotNumber, now: u64) -> Option<u64>
         requires ready { MayProduce B.Book.first_job self.old.keys self.old.done.share.log }
         ensures fired { IsTimerFired ⟦<(B, G, W, M) as WorkerParts>⟧.view
             self.old.offload slot now result self.old.done self.new.done }
@@ -128,9 +128,10 @@ impl<'a, B: Bench, G: Gate, W: Wire, M: TimeSource> DispatcherState<'a, B, G, W,
         ensures ready { MayProduce B.Book.first_job self.new.keys self.new.done.share.log }
     {
         let number = self.done.sent.count();
+        let rt = self.context.rt;
         let log = &mut self.done.share.log;
         self.context.bench.fire(rt, slot, now, &mut self.job, log);
-        self.dispatch(rt);
+        self.dispatch();
         if self.done.sent.count() > number {
             Some(number)
         } else {
@@ -143,7 +144,7 @@ impl<'a, B: Bench, G: Gate, W: Wire, M: TimeSource> DispatcherState<'a, B, G, W,
     // It is idle if no notification has timed out and no observer has a pending one. A shard that
     // is known to be idle is skipped. Returns whether the shard is idle. If it isn't, nothing
     // changes.
-    pub(crate) fn advance_or_skip<R: Wait>(&mut self, rt: &R, shard: u8, now: u64) -> bool
+    pub(crate) fn advance_or_skip(&mut self, shard: u8, now: u64) -> bool
         requires ready { MayProduce B.Book.first_job self.old.keys self.old.done.share.log }
         ensures passed { MatchBool result
             (IsAdvancedOrSkipped ⟦<(B, G, W, M) as WorkerParts>⟧.view shard now self.old.done self.new.done)
@@ -151,6 +152,7 @@ impl<'a, B: Bench, G: Gate, W: Wire, M: TimeSource> DispatcherState<'a, B, G, W,
         ensures offload { self.new.offload ≡ self.old.offload }
         ensures ready { MayProduce B.Book.first_job self.new.keys self.new.done.share.log }
     {
+        let rt = self.context.rt;
         let bench = self.context.bench;
         let log = &mut self.done.share.log;
         bench.skip_if_idle(shard, now, log) || bench.advance_if_idle(rt, shard, now, log)
@@ -160,20 +162,21 @@ impl<'a, B: Bench, G: Gate, W: Wire, M: TimeSource> DispatcherState<'a, B, G, W,
     //
     // The lease is that of the first observer with a pending notification at a time in
     // milliseconds. Returns whether there was such an observer.
-    pub(crate) fn notify<R: Wait>(&mut self, rt: &R, shard: u8, now: u64) -> bool
+    pub(crate) fn notify(&mut self, shard: u8, now: u64) -> bool
         requires ready { MayProduce B.Book.first_job self.old.keys self.old.done.share.log }
         ensures asked { IsTurnAsked ⟦<(B, G, W, M) as WorkerParts>⟧.view
             self.old.offload shard now result self.old.done self.new.done }
         ensures offload { self.new.offload ≡ self.old.offload }
         ensures ready { MayProduce B.Book.first_job self.new.keys self.new.done.share.log }
     {
+        let rt = self.context.rt;
         let log = &mut self.done.share.log;
         let given = self
             .context
             .bench
             .next_due(rt, shard, now, &mut self.job, log);
         if given {
-            self.dispatch(rt);
+            self.dispatch();
         }
         given
     }
@@ -183,14 +186,14 @@ impl<'a, B: Bench, G: Gate, W: Wire, M: TimeSource> DispatcherState<'a, B, G, W,
     // policy may depend on the cost of a run. Then a request for a run without ETags is priced by
     // its first snapshot, and any other run by the cost that is read in its slot. The track of the
     // next job begins last.
-    fn dispatch<R: Wait>(&mut self, rt: &R)
+    fn dispatch(&mut self)
         requires produced { HasProduced B.Book.first_job self.old.keys self.old.job self.old.done.share.log }
         ensures dispatched { IsDispatched ⟦<(B, G, W, M) as WorkerParts>⟧.view
             self.old.offload self.old.job self.old.done self.new.done }
         ensures offload { self.new.offload ≡ self.old.offload }
         ensures ready { MayProduce B.Book.first_job self.new.keys self.new.done.share.log }
     {
-        self.dispatch_job(rt);
+        self.dispatch_job();
         self.begin_next();
     }
 
@@ -207,7 +210,7 @@ impl<'a, B: Bench, G: Gate, W: Wire, M: TimeSource> DispatcherState<'a, B, G, W,
 
     // Sends the dispatcher's job to the workers, or runs it here. See
     // [`DispatcherState::dispatch`].
-    fn dispatch_job<R: Wait>(&mut self, rt: &R)
+    fn dispatch_job(&mut self)
         requires produced { HasProduced B.Book.first_job self.old.keys self.old.job self.old.done.share.log }
         ensures dispatched { IsSentOrWorked ⟦<(B, G, W, M) as WorkerParts>⟧.view
             self.old.offload self.old.job self.old.done self.new.done }
@@ -215,9 +218,9 @@ impl<'a, B: Bench, G: Gate, W: Wire, M: TimeSource> DispatcherState<'a, B, G, W,
         ensures right { HasDispatched B.Book.first_job self.new.keys self.new.done.share.log }
     {
         if self.is_held_up() {
-            self.send_or_work(rt);
+            self.send_or_work();
         } else {
-            self.dispatch_by_cost(rt);
+            self.dispatch_by_cost();
         }
     }
 
@@ -241,7 +244,7 @@ impl<'a, B: Bench, G: Gate, W: Wire, M: TimeSource> DispatcherState<'a, B, G, W,
 
     // Sends the job to the workers, if the policy allows that by the job's cost or whatever its
     // cost is, or runs the job here.
-    fn dispatch_by_cost<R: Wait>(&mut self, rt: &R)
+    fn dispatch_by_cost(&mut self)
         requires produced { HasProduced B.Book.first_job self.old.keys self.old.job self.old.done.share.log }
         ensures dispatched { IsSentOrWorked ⟦<(B, G, W, M) as WorkerParts>⟧.view
             self.old.offload self.old.job self.old.done self.new.done }
@@ -250,32 +253,32 @@ impl<'a, B: Bench, G: Gate, W: Wire, M: TimeSource> DispatcherState<'a, B, G, W,
     {
         match least_cost(self.offload, &self.job) {
             Some(least) if is_plain_run(&self.job) && self.jobs.is_served() => {
-                self.dispatch_run(rt, least);
+                self.dispatch_run(least);
             }
-            _ => self.dispatch_whole(rt),
+            _ => self.dispatch_whole(),
         }
     }
 
     // Sends the job to the workers, if the policy allows it and it can be sent. Otherwise runs the
     // job here, from its first stage to its answer.
-    fn dispatch_whole<R: Wait>(&mut self, rt: &R)
+    fn dispatch_whole(&mut self)
         requires produced { HasProduced B.Book.first_job self.old.keys self.old.job self.old.done.share.log }
         ensures dispatched { IsSentOrWorked ⟦<(B, G, W, M) as WorkerParts>⟧.view
             self.old.offload self.old.job self.old.done self.new.done }
         ensures offload { self.new.offload ≡ self.old.offload }
         ensures right { HasDispatched B.Book.first_job self.new.keys self.new.done.share.log }
     {
-        if self.may_go(rt) {
-            self.send_or_work(rt);
+        if self.may_go() {
+            self.send_or_work();
         } else {
-            self.work(rt);
+            self.work();
         }
     }
 
     // Takes the first snapshot of a request for a run without ETags, and runs the job from there.
     // If the cost of the slot's program is `least` steps or more, no snapshot is taken, and the job
     // is sent to the workers. If it can't be sent, it is run here from its beginning.
-    fn dispatch_run<R: Wait>(&mut self, rt: &R, least: u32)
+    fn dispatch_run(&mut self, least: u32)
         requires plain { IsPlainRun self.old.job }
         requires least { least_cost self.old.offload self.old.job ≡ Some least }
         requires produced { HasProduced B.Book.first_job self.old.keys self.old.job self.old.done.share.log }
@@ -286,17 +289,17 @@ impl<'a, B: Bench, G: Gate, W: Wire, M: TimeSource> DispatcherState<'a, B, G, W,
     {
         let context = self.context;
         let share = &mut self.done.share;
-        let begun = context.begin_if_cheap(rt, least, &mut self.scratch, &self.job, share);
+        let begun = context.begin_if_cheap(least, &mut self.scratch, &self.job, share);
         if begun {
-            context.work_begun(rt, &mut self.scratch, UNSENT, &self.job, share);
+            context.work_begun(&mut self.scratch, UNSENT, &self.job, share);
         } else {
-            self.send_or_work(rt);
+            self.send_or_work();
         }
     }
 
     // Sends a job that may go to the workers. If the channel returns it, runs it here. `log` is the
     // dispatcher's log before the calls by which the job may go.
-    fn send_or_work<R: Wait>(&mut self, rt: &R)
+    fn send_or_work(&mut self)
         requires produced { HasProduced B.Book.first_job self.old.keys self.old.job self.old.done.share.log }
         ensures dispatched { (log : Log)
             → MayGo ⟦<(B, G, W, M) as WorkerParts>⟧.view self.old.offload self.old.job log self.old.done.share.log
@@ -306,15 +309,15 @@ impl<'a, B: Bench, G: Gate, W: Wire, M: TimeSource> DispatcherState<'a, B, G, W,
         ensures offload { self.new.offload ≡ self.old.offload }
         ensures right { HasDispatched B.Book.first_job self.new.keys self.new.done.share.log }
     {
-        let sent = self.send(rt);
+        let sent = self.send();
         if !sent {
-            self.work(rt);
+            self.work();
         }
     }
 
     // Sends the job to the workers, with its track. If the channel returns it, keeps both and
     // returns `false`.
-    fn send<R: Wait>(&mut self, rt: &R) -> bool
+    fn send(&mut self) -> bool
         requires produced { HasProduced B.Book.first_job self.old.keys self.old.job self.old.done.share.log }
         ensures sent { MatchBool result
             (self.new.done ≡ job_sent self.old.job self.old.done)
@@ -327,6 +330,7 @@ impl<'a, B: Bench, G: Gate, W: Wire, M: TimeSource> DispatcherState<'a, B, G, W,
         let book = self.context.bench.book();
         let job = mem::replace(&mut self.job, blank_job());
         let message = self.done.share.log.move_to_message(book, job);
+        let rt = self.context.rt;
         match self.jobs.send(rt, message, &mut self.done.sent) {
             None => true,
             Some(back) => {
@@ -337,7 +341,7 @@ impl<'a, B: Bench, G: Gate, W: Wire, M: TimeSource> DispatcherState<'a, B, G, W,
     }
 
     // Runs the dispatcher's job here, and ends it.
-    fn work<R: Wait>(&mut self, rt: &R)
+    fn work(&mut self)
         requires produced { HasProduced B.Book.first_job self.old.keys self.old.job self.old.done.share.log }
         ensures sent { self.new.done.sent ≡ self.old.done.sent }
         ensures worked { IsReplied ⟦<(B, G, W, M) as WorkerParts>⟧.view
@@ -348,13 +352,13 @@ impl<'a, B: Bench, G: Gate, W: Wire, M: TimeSource> DispatcherState<'a, B, G, W,
     {
         let done = &mut self.done;
         self.context
-            .work(rt, &mut self.scratch, UNSENT, &self.job, &mut done.share);
+            .work(&mut self.scratch, UNSENT, &self.job, &mut done.share);
     }
 
     // Returns whether the policy lets the job go to the workers. If there is a least cost, the cost
     // in a run's slot is read for that. Returns `false` if no worker has asked for a job yet; with
     // `Every` it first waits until one has, or none ever will.
-    fn may_go<R: Wait>(&mut self, rt: &R) -> bool
+    fn may_go(&mut self) -> bool
         ensures may { MatchBool result
             (MayGo ⟦<(B, G, W, M) as WorkerParts>⟧.view self.old.offload self.old.job self.old.done.share.log self.new.done.share.log)
             (MayHaveReadCost ⟦<(B, G, W, M) as WorkerParts>⟧.view (least_cost self.old.offload self.old.job) self.old.job self.old.done.share.log self.new.done.share.log) }
@@ -364,18 +368,18 @@ impl<'a, B: Bench, G: Gate, W: Wire, M: TimeSource> DispatcherState<'a, B, G, W,
         ensures offload { self.new.offload ≡ self.old.offload }
     {
         match self.offload {
-            Offload::Every => self.jobs.await_worker(rt),
+            Offload::Every => self.jobs.await_worker(self.context.rt),
             Offload::Expensive(_) | Offload::ChangesAndExpensive(_) => {
                 let least = least_cost(self.offload, &self.job);
                 let log = &mut self.done.share.log;
-                self.jobs.is_served() && self.context.has_least_cost(rt, least, &self.job, log)
+                self.jobs.is_served() && self.context.has_least_cost(least, &self.job, log)
             }
             Offload::Never => false,
         }
     }
 
     // Passes an Acknowledgement, or a Reset message if `reset`, to each shard.
-    fn signal<R: Wait>(&mut self, rt: &R, from: Endpoint, id: u16, reset: bool)
+    fn signal(&mut self, from: Endpoint, id: u16, reset: bool)
         requires ready { MayProduce B.Book.first_job self.old.keys self.old.done.share.log }
         ensures signalled { AreSignalled ⟦<(B, G, W, M) as WorkerParts>⟧.view
             8 from id reset self.old.done.share.log self.new.done.share.log }
@@ -384,11 +388,11 @@ impl<'a, B: Bench, G: Gate, W: Wire, M: TimeSource> DispatcherState<'a, B, G, W,
         ensures ready { MayProduce B.Book.first_job self.new.keys self.new.done.share.log }
     {
         let log = &mut self.done.share.log;
-        self.context.signal(rt, from, id, reset, log);
+        self.context.signal(from, id, reset, log);
     }
 }
 
-impl<'a, B: Bench, G: Gate, W: Wire, M: TimeSource> Context<'a, B, G, W, M> {
+impl<'a, B: Bench, G: Gate, W: Wire, M: TimeSource, R: Wait> Context<'a, B, G, W, M, R> {
     // Returns whether a job reads its slot, and a change of the slot's shard is being saved. If the
     // slot has the state of one of a run's ETags, the run needs no lock. Nothing is filed.
     fn is_held_up(&self, job: &Job, log: &mut TrackLog<B::Book>) -> bool
@@ -405,13 +409,7 @@ impl<'a, B: Bench, G: Gate, W: Wire, M: TimeSource> Context<'a, B, G, W, M> {
 
     // Returns whether a job has the least cost of an expensive one, if there is a least cost. See
     // [`Context::is_expensive`]. If there is none, reads nothing, and returns `true`.
-    fn has_least_cost<R: Wait>(
-        &self,
-        rt: &R,
-        least: Option<u32>,
-        job: &Job,
-        log: &mut TrackLog<B::Book>,
-    ) -> bool
+    fn has_least_cost(&self, least: Option<u32>, job: &Job, log: &mut TrackLog<B::Book>) -> bool
         ensures cost { MatchBool result
             (HasLeastCost ⟦<(B, G, W, M) as WorkerParts>⟧.view least job.now log.old log.new)
             (MayHaveReadCost ⟦<(B, G, W, M) as WorkerParts>⟧.view least job.now log.old log.new) }
@@ -420,25 +418,19 @@ impl<'a, B: Bench, G: Gate, W: Wire, M: TimeSource> Context<'a, B, G, W, M> {
         let Some(least) = least else {
             return true;
         };
-        self.is_expensive(rt, least, job, log)
+        self.is_expensive(least, job, log)
     }
 
     // Returns whether a job is a run without a valid ETag, and its slot's program has a cost of
     // `least` steps or more. Reads the cost in the slot if the job is such a run.
-    fn is_expensive<R: Wait>(
-        &self,
-        rt: &R,
-        least: u32,
-        job: &Job,
-        log: &mut TrackLog<B::Book>,
-    ) -> bool
+    fn is_expensive(&self, least: u32, job: &Job, log: &mut TrackLog<B::Book>) -> bool
         ensures { MatchBool result
             (HasLeastCost ⟦<(B, G, W, M) as WorkerParts>⟧.view (Some least) job.now log.old log.new)
             (IsFoundCheap ⟦<(B, G, W, M) as WorkerParts>⟧.view least job.now log.old log.new) }
     {
         match &job.ask {
             Ask::Run(_) if !self.is_valid(job, log) => {
-                match self.bench.read_cost(rt, job.origin.slot, log) {
+                match self.bench.read_cost(self.rt, job.origin.slot, log) {
                     Some(cost) => cost >= least,
                     None => false,
                 }
@@ -462,19 +454,12 @@ impl<'a, B: Bench, G: Gate, W: Wire, M: TimeSource> Context<'a, B, G, W, M> {
     }
 
     // Passes an Acknowledgement, or a Reset message if `reset`, to each shard, once.
-    fn signal<R: Wait>(
-        &self,
-        rt: &R,
-        from: Endpoint,
-        id: u16,
-        reset: bool,
-        log: &mut TrackLog<B::Book>,
-    )
+    fn signal(&self, from: Endpoint, id: u16, reset: bool, log: &mut TrackLog<B::Book>)
         ensures { AreSignalled ⟦<(B, G, W, M) as WorkerParts>⟧.view
             8 from id reset log.old log.new }
     {
         'shards: for shard in 0..SHARDS {
-            self.bench.signal(rt, shard, from, id, reset, log);
+            self.bench.signal(self.rt, shard, from, id, reset, log);
         }
     }
 }

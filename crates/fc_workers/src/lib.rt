@@ -25,8 +25,7 @@
 //! /// Runs one job, with a worker for each of these tallies and logs, and returns their
 //! /// statistics.
 //! fn work_one<B: Bench + Sync, G: Gate + Sync, W: Wire + Sync, M: TimeSource + Sync, R>(
-//!     rt: &R,
-//!     context: &Context<'_, B, G, W, M>,
+//!     context: &Context<'_, B, G, W, M, R>,
 //!     tallies: Vec<B::Tallies>,
 //!     logs: Vec<TrackLog<B::Book>>,
 //!     message: JobMessage<B::Book>,
@@ -38,13 +37,12 @@
 //!     let (jobs, mut sent, seats) = make_seats(context.alloc, tallies, logs)?;
 //!     let channel = &jobs;
 //!     let (_back, shares) = drive_workers(
-//!         rt,
 //!         context,
 //!         channel,
 //!         seats,
 //!         move |_staffed| -> Option<JobMessage<B::Book>>
 //!             requires { sent.channel ≡ channel.now }
-//!         { channel.send(rt, message, &mut sent) },
+//!         { channel.send(context.rt, message, &mut sent) },
 //!     );
 //!     shares
 //! }

@@ -20,7 +20,7 @@ use fc_registry::Taken;
 use fc_ticket::{Job, NoteOutcome, Notification, Ticket};
 use std::sync::Wait;
 
-impl<'a, B: Bench, G: Gate, W: Wire, M: TimeSource> Context<'a, B, G, W, M> {
+impl<'a, B: Bench, G: Gate, W: Wire, M: TimeSource, R: Wait> Context<'a, B, G, W, M, R> {
     /// Runs the job of a lease, and returns whether a message is to be sent.
     ///
     /// It takes a snapshot of the lease's slot, draws a message ID, runs the program and notifies
@@ -29,9 +29,8 @@ impl<'a, B: Bench, G: Gate, W: Wire, M: TimeSource> Context<'a, B, G, W, M> {
     /// lease is released, and nothing is to be sent. If the lease isn't active any more, nothing
     /// else is done. No slot changes, and one more ended job is counted.
     #[inline(never)]
-    pub fn notify<R: Wait>(
+    pub fn notify(
         &self,
-        rt: &R,
         scratch: &mut Scratch,
         job: &Job,
         turn: Turn,
@@ -50,19 +49,19 @@ impl<'a, B: Bench, G: Gate, W: Wire, M: TimeSource> Context<'a, B, G, W, M> {
         } = scratch;
         stage.step = Step::Gone;
         let Share { tallies, log, .. } = share;
-        let readings = self.bench.readings(rt, log);
+        let readings = self.bench.readings(self.rt, log);
         let taken = self
             .bench
-            .take(rt, job, &readings, &mut stage.found, tallies, log);
+            .take(self.rt, job, &readings, &mut stage.found, tallies, log);
         share.count_snapshot(&taken);
         match &taken {
             Taken::Given(program) => {
                 let ticket = Ticket::of(program, &stage.found);
-                self.tell(rt, frame, turn, Some(ticket), reply, share)
+                self.tell(frame, turn, Some(ticket), reply, share)
             }
-            Taken::Missing => self.tell(rt, frame, turn, None, reply, share),
+            Taken::Missing => self.tell(frame, turn, None, reply, share),
             Taken::Refused => {
-                self.give_up(rt, turn, share);
+                self.give_up(turn, share);
                 false
             }
             Taken::Stale => false,
@@ -72,9 +71,8 @@ impl<'a, B: Bench, G: Gate, W: Wire, M: TimeSource> Context<'a, B, G, W, M> {
     // Runs the ticket's program, and notifies the lease's observer of the outcome. If `found` is
     // `None`, notifies the observer of an empty slot. Returns whether the message in `reply` is to
     // be sent. If no message ID is available, releases the lease instead, and returns `false`.
-    fn tell<R: Wait>(
+    fn tell(
         &self,
-        rt: &R,
         frame: &mut Frame,
         turn: Turn,
         found: Option<Ticket<'_>>,
@@ -88,9 +86,9 @@ impl<'a, B: Bench, G: Gate, W: Wire, M: TimeSource> Context<'a, B, G, W, M> {
             share.old share.new }
         ensures ended { B.ended share.new.tallies ≡ saturated (B.ended share.old.tallies + 1) }
     {
-        let now = self.now(rt, &mut share.log);
-        let Some(id) = self.bench.fresh_id(rt, now, &mut share.log) else {
-            self.give_up(rt, turn, share);
+        let now = self.now(&mut share.log);
+        let Some(id) = self.bench.fresh_id(self.rt, now, &mut share.log) else {
+            self.give_up(turn, share);
             return false;
         };
         match &found {
@@ -103,17 +101,16 @@ impl<'a, B: Bench, G: Gate, W: Wire, M: TimeSource> Context<'a, B, G, W, M> {
                     ticket.readings(),
                 );
                 let told = Notification::Ran(&outcome, ticket);
-                self.note(rt, turn, id, &told, reply, share)
+                self.note(turn, id, &told, reply, share)
             }
-            None => self.note(rt, turn, id, &Notification::Gone, reply, share),
+            None => self.note(turn, id, &Notification::Gone, reply, share),
         }
     }
 
     // Notifies the observer of a lease, with the content `told` and message ID `id`, at the current
     // time. Returns whether the message in `reply` is to be sent.
-    fn note<R: Wait>(
+    fn note(
         &self,
-        rt: &R,
         turn: Turn,
         id: u16,
         told: &Notification<'_>,
@@ -128,16 +125,16 @@ impl<'a, B: Bench, G: Gate, W: Wire, M: TimeSource> Context<'a, B, G, W, M> {
         ensures ended { B.ended share.new.tallies ≡ saturated (B.ended share.old.tallies + 1) }
     {
         let Share { tallies, log, .. } = share;
-        let now = self.now(rt, log);
-        let random = self.times.random(rt);
+        let now = self.now(log);
+        let random = self.times.random(self.rt);
         let noted = self
             .bench
-            .note(rt, turn, id, now, random, told, reply, tallies, log);
+            .note(self.rt, turn, id, now, random, told, reply, tallies, log);
         is_note_sent(noted)
     }
 
     // Releases a lease, at the current time. Nothing is sent.
-    fn give_up<R: Wait>(&self, rt: &R, turn: Turn, share: &mut ShareOf<B::Tallies, B::Book>)
+    fn give_up(&self, turn: Turn, share: &mut ShareOf<B::Tallies, B::Book>)
         requires { turn.slot < 64 }
         ensures given_up { IsGivenUp ⟦<(B, G, W, M) as WorkerParts>⟧.view
             turn None share.old.log share.new.log }
@@ -145,9 +142,9 @@ impl<'a, B: Bench, G: Gate, W: Wire, M: TimeSource> Context<'a, B, G, W, M> {
             share.old share.new }
         ensures ended { B.ended share.new.tallies ≡ saturated (B.ended share.old.tallies + 1) }
     {
-        let log = &mut share.log;
-        let now = self.now(rt, log);
-        self.bench.give_up(rt, turn, now, &mut share.tallies, log);
+        let Share { tallies, log, .. } = share;
+        let now = self.now(log);
+        self.bench.give_up(self.rt, turn, now, tallies, log);
     }
 }
 

@@ -85,8 +85,7 @@ pub fn run_workers<
     M: TimeSource + Sync,
     R: Threads + Wait + Sync,
 >(
-    rt: &R,
-    context: &Context<'_, B, G, W, M>,
+    context: &Context<'_, B, G, W, M, R>,
     jobs: &Jobs<JobMessage<B::Book>>,
     seats: Vec<SeedOf<B::Tallies, B::Book>>,
 ) -> Result<Vec<ShareOf<B::Tallies, B::Book>>, AllocError>
@@ -98,12 +97,12 @@ where
         seats.items v.items) }
 {
     thread::map_vec(
-        rt,
+        context.rt,
         seats,
         &|seat: SeedOf<B::Tallies, B::Book>| -> ShareOf<B::Tallies, B::Book>
             requires { seat.got.channel ≡ jobs.now }
             ensures { IsShareOf B.Book.first_job (worker_view B.changes B.ended B.called B.logged M.is_time M.is_random G.passed G.answered W.called) seat result }
-        { worker(rt, context, jobs, seat) },
+        { worker(context, jobs, seat) },
     )
 }
 
@@ -146,8 +145,7 @@ pub fn drive_workers<
     X: Drop,
     F: FnOnce(bool) -> X + Drop,
 >(
-    rt: &R,
-    context: &Context<'_, B, G, W, M>,
+    context: &Context<'_, B, G, W, M, R>,
     jobs: &Jobs<JobMessage<B::Book>>,
     seats: Vec<SeedOf<B::Tallies, B::Book>>,
     drive: F,
@@ -163,7 +161,7 @@ where
 {
     thread::scope(
         thread::scope_env(),
-        rt,
+        context.rt,
         move |scope| -> (X, Result<Vec<ShareOf<B::Tallies, B::Book>>, AllocError>)
             requires { All (λ s. s.got.channel ≡ jobs.now) seats.items × F.IsAlwaysCallable drive }
             ensures { ((has_workers : Bool) × F.post drive has_workers result.0)
@@ -185,15 +183,15 @@ where
                         (λ v. AreSharesOf B.Book.first_job (worker_view B.changes B.ended B.called B.logged M.is_time M.is_random G.passed G.answered W.called)
                         seats.items v.items) }
                 {
-                    let shares = run_workers(rt, context, jobs, seats);
-                    jobs.dismiss(rt);
+                    let shares = run_workers(context, jobs, seats);
+                    jobs.dismiss(context.rt);
                     shares
                 },
             );
             match started {
                 Ok(workers) => {
                     let fed = drive(has_seats);
-                    (fed, workers.join(rt))
+                    (fed, workers.join(context.rt))
                 }
                 Err(refused) => {
                     let fed = drive(false);

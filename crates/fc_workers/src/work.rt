@@ -32,7 +32,7 @@ use std::sync::{Arc, Wait};
 
 // Functions that few jobs need aren't inlined into the loop. Inlined, they would make the loop zero
 // their stack space for each job.
-impl<'a, B: Bench, G: Gate, W: Wire, M: TimeSource> Context<'a, B, G, W, M> {
+impl<'a, B: Bench, G: Gate, W: Wire, M: TimeSource, R: Wait> Context<'a, B, G, W, M, R> {
     /// Runs a request's job until only its answer is left.
     ///
     /// `scratch.stage` then has the answer. A list of calls leads from the job's first stage to
@@ -47,9 +47,8 @@ impl<'a, B: Bench, G: Gate, W: Wire, M: TimeSource> Context<'a, B, G, W, M> {
     ///
     /// The statistics count the calls that changed the job's slot, the refused allocations and
     /// changes, and the conflicts.
-    pub fn work_off<R: Wait>(
+    pub fn work_off(
         &self,
-        rt: &R,
         scratch: &mut Scratch,
         number: u64,
         job: &Job,
@@ -61,16 +60,15 @@ impl<'a, B: Bench, G: Gate, W: Wire, M: TimeSource> Context<'a, B, G, W, M> {
         ensures ended { B.ended share.new.tallies ≡ B.ended share.old.tallies }
     {
         scratch.stage.ask(job);
-        self.work_on(rt, scratch, number, job, share);
+        self.work_on(scratch, number, job, share);
     }
 
     /// Runs a request's job from its present stage until only its answer is left.
     ///
     /// See [`Context::work_off`]. The present stage is that of `scratch`. If calls led the job from
     /// its first stage to the present one, these calls and further ones lead to the answer.
-    pub(crate) fn work_on<R: Wait>(
+    pub(crate) fn work_on(
         &self,
-        rt: &R,
         scratch: &mut Scratch,
         number: u64,
         job: &Job,
@@ -94,15 +92,15 @@ impl<'a, B: Bench, G: Gate, W: Wire, M: TimeSource> Context<'a, B, G, W, M> {
                     let word = self.bench.peek(job.origin.slot, log);
                     stage.matched(job, word);
                 }
-                Step::ToTake(_) => self.take(rt, job, stage, share),
+                Step::ToTake(_) => self.take(job, stage, share),
                 Step::ToCommit(..) => {
-                    self.commit(rt, &mut scratch.frame, number, job, stage, share);
+                    self.commit(&mut scratch.frame, number, job, stage, share);
                 }
-                Step::ToInstall => self.install(rt, job, stage, share),
-                Step::ToRemove => self.remove(rt, job, stage, share),
+                Step::ToInstall => self.install(job, stage, share),
+                Step::ToRemove => self.remove(job, stage, share),
                 Step::ToDescribe => {
                     let log = &mut share.log;
-                    let receipt = self.bench.receipt(rt, job, log);
+                    let receipt = self.bench.receipt(self.rt, job, log);
                     stage.set_receipt(receipt);
                 }
                 Step::ToList => {
@@ -126,9 +124,8 @@ impl<'a, B: Bench, G: Gate, W: Wire, M: TimeSource> Context<'a, B, G, W, M> {
     /// The job is a request's. The program is expensive if it may take `least` instructions or
     /// more. Returns whether the job was begun. If it wasn't, the log has only the call for
     /// readings and the read of the program's cost.
-    pub(crate) fn begin_if_cheap<R: Wait>(
+    pub(crate) fn begin_if_cheap(
         &self,
-        rt: &R,
         least: u32,
         scratch: &mut Scratch,
         job: &Job,
@@ -147,10 +144,10 @@ impl<'a, B: Bench, G: Gate, W: Wire, M: TimeSource> Context<'a, B, G, W, M> {
         let stage = &mut scratch.stage;
         stage.ask(job);
         let log = &mut share.log;
-        let given = self.bench.readings(rt, log);
+        let given = self.bench.readings(self.rt, log);
         let Ok(taken) = self
             .bench
-            .take_if_cheap(rt, least, job, &given, &mut stage.found, log)
+            .take_if_cheap(self.rt, least, job, &given, &mut stage.found, log)
         else {
             return false;
         };
@@ -176,32 +173,20 @@ impl<'a, B: Bench, G: Gate, W: Wire, M: TimeSource> Context<'a, B, G, W, M> {
     // Removes the program of the job's slot, and sets the next stage. It is the answer
     // `Unavailable` if the removal can't be saved.
     #[inline(never)]
-    fn remove<R: Wait>(
-        &self,
-        rt: &R,
-        job: &Job,
-        stage: &mut Stage,
-        share: &mut ShareOf<B::Tallies, B::Book>,
-    )
+    fn remove(&self, job: &Job, stage: &mut Stage, share: &mut ShareOf<B::Tallies, B::Book>)
         ensures step { (number : ℕ) → IsStep ⟦<(B, G, W, M) as WorkerParts>⟧.view
             number job.now ToRemove stage.new share.old share.new }
         ensures ended { B.ended share.new.tallies ≡ B.ended share.old.tallies }
     {
         let log = &mut share.log;
-        match self.bench.remove(rt, job, &mut share.tallies, log) {
+        match self.bench.remove(self.rt, job, &mut share.tallies, log) {
             Some(removal) => stage.removed(removal),
             None => self.answer_unsaved(stage, share),
         }
     }
 
     // Requests readings, takes a snapshot of the job's slot with them, and sets the next stage.
-    fn take<R: Wait>(
-        &self,
-        rt: &R,
-        job: &Job,
-        stage: &mut Stage,
-        share: &mut ShareOf<B::Tallies, B::Book>,
-    )
+    fn take(&self, job: &Job, stage: &mut Stage, share: &mut ShareOf<B::Tallies, B::Book>)
         requires at { IsToTake stage.old }
         requires ready { IsReady job.now stage.old }
         requires asked { job.now.turn ≡ None }
@@ -213,10 +198,10 @@ impl<'a, B: Bench, G: Gate, W: Wire, M: TimeSource> Context<'a, B, G, W, M> {
             unreachable!()
         };
         let Share { tallies, log, .. } = share;
-        let readings = self.bench.readings(rt, log);
+        let readings = self.bench.readings(self.rt, log);
         let taken = self
             .bench
-            .take(rt, job, &readings, &mut stage.found, tallies, log);
+            .take(self.rt, job, &readings, &mut stage.found, tallies, log);
         share.count_snapshot(&taken);
         stage.step = Step::took(count, taken, &mut stage.answer);
     }
@@ -224,9 +209,8 @@ impl<'a, B: Bench, G: Gate, W: Wire, M: TimeSource> Context<'a, B, G, W, M> {
     // Runs the ticket's program once the gate lets the job through, commits the run, and sets the
     // next stage. After a conflict the next stage is another snapshot, if the job may take one
     // more; otherwise it is the answer `Unavailable`. So it is if the commit can't be saved.
-    fn commit<R: Wait>(
+    fn commit(
         &self,
-        rt: &R,
         frame: &mut Frame,
         number: u64,
         job: &Job,
@@ -244,7 +228,7 @@ impl<'a, B: Bench, G: Gate, W: Wire, M: TimeSource> Context<'a, B, G, W, M> {
         };
         let ticket = Ticket::of(program, &stage.found);
         let log = &mut share.log;
-        self.between(rt, number, log);
+        self.between(number, log);
         let outcome = run(
             frame,
             ticket.program(),
@@ -252,8 +236,9 @@ impl<'a, B: Bench, G: Gate, W: Wire, M: TimeSource> Context<'a, B, G, W, M> {
             ticket.vars(),
             ticket.readings(),
         );
-        let now = self.now(rt, log);
+        let now = self.now(log);
         let tallies = &mut share.tallies;
+        let rt = self.rt;
         match self.bench.commit(rt, now, &outcome, &ticket, tallies, log) {
             Some(committed) => {
                 share.count_commit(&committed);
@@ -267,19 +252,13 @@ impl<'a, B: Bench, G: Gate, W: Wire, M: TimeSource> Context<'a, B, G, W, M> {
     // Verifies the job's image, installs the program, and sets the next stage. If the image breaks
     // a rule, or if the program isn't installed, the next stage is an answer with this reason.
     #[inline(never)]
-    fn install<R: Wait>(
-        &self,
-        rt: &R,
-        job: &Job,
-        stage: &mut Stage,
-        share: &mut ShareOf<B::Tallies, B::Book>,
-    )
+    fn install(&self, job: &Job, stage: &mut Stage, share: &mut ShareOf<B::Tallies, B::Book>)
         ensures step { (number : ℕ) → IsStep ⟦<(B, G, W, M) as WorkerParts>⟧.view
             number job.now ToInstall stage.new share.old share.new }
         ensures ended { B.ended share.new.tallies ≡ B.ended share.old.tallies }
     {
         match verify(self.alloc, image(&job.ask)) {
-            Ok(program) => self.install_program(rt, job, program, stage, share),
+            Ok(program) => self.install_program(job, program, stage, share),
             Err(Refusal::Broken(fault)) => self.answer_rejected_image(
                 job,
                 fault,
@@ -293,9 +272,8 @@ impl<'a, B: Bench, G: Gate, W: Wire, M: TimeSource> Context<'a, B, G, W, M> {
     // Installs `program`, the verified program of the job's image, and sets the next stage. If
     // memory for the program's handle is refused, or the install can't be saved, the next stage is
     // the answer `Unavailable`.
-    fn install_program<R: Wait>(
+    fn install_program(
         &self,
-        rt: &R,
         job: &Job,
         program: Verified,
         stage: &mut Stage,
@@ -314,7 +292,7 @@ impl<'a, B: Bench, G: Gate, W: Wire, M: TimeSource> Context<'a, B, G, W, M> {
                 let log = &mut share.log;
                 match self
                     .bench
-                    .install(rt, job, program, &mut share.tallies, log)
+                    .install(self.rt, job, program, &mut share.tallies, log)
                 {
                     Some(made) => stage.made(receipt, made),
                     None => self.answer_unsaved(stage, share),

@@ -64,8 +64,7 @@ impl<T: Drop, L: Drop, M: Drop> WorkerSeed<T, L, M> {
 /// log. Then the job is run. If it has a reply, the reply is sent and counted. Returns the worker's
 /// statistics. The worker has ended exactly the jobs that it received.
 pub fn worker<B: Bench, G: Gate, W: Wire, M: TimeSource, R: Wait>(
-    rt: &R,
-    context: &Context<'_, B, G, W, M>,
+    context: &Context<'_, B, G, W, M, R>,
     jobs: &Jobs<JobMessage<B::Book>>,
     seat: SeedOf<B::Tallies, B::Book>,
 ) -> ShareOf<B::Tallies, B::Book>
@@ -81,25 +80,24 @@ pub fn worker<B: Bench, G: Gate, W: Wire, M: TimeSource, R: Wait>(
     log.attest_own();
     let mut share = Share::new(got, tallies, log);
     let mut scratch = Scratch::new(frame);
-    for _ in rt.forever() {
-        let Some((number, message)) = jobs.next(rt, &mut share.got) else {
+    for _ in context.rt.forever() {
+        let Some((number, message)) = jobs.next(context.rt, &mut share.got) else {
             break;
         };
         let job = share.log.take_from_message(context.bench.book(), message);
-        context.work(rt, &mut scratch, number, &job, &mut share);
+        context.work(&mut scratch, number, &job, &mut share);
     }
     share
 }
 
-impl<'a, B: Bench, G: Gate, W: Wire, M: TimeSource> Context<'a, B, G, W, M> {
+impl<'a, B: Bench, G: Gate, W: Wire, M: TimeSource, R: Wait> Context<'a, B, G, W, M, R> {
     /// Runs the job with this number, and sends its reply if there is one.
     ///
     /// A request is answered, and a lease's observer is notified. The reply is sent under the job's
     /// number, and counted as sent or as failed. The last call reports to the transmitter that the
     /// job has ended. One more ended job is counted.
-    pub fn work<R: Wait>(
+    pub fn work(
         &self,
-        rt: &R,
         scratch: &mut Scratch,
         number: u64,
         job: &Job,
@@ -110,8 +108,8 @@ impl<'a, B: Bench, G: Gate, W: Wire, M: TimeSource> Context<'a, B, G, W, M> {
         ensures ended { B.ended share.new.tallies ≡ saturated (B.ended share.old.tallies + 1) }
         ensures got { share.new.got ≡ share.old.got }
     {
-        let replies = self.reply(rt, scratch, number, job, share);
-        self.finish(rt, number, replies, &scratch.reply, share);
+        let replies = self.reply(scratch, number, job, share);
+        self.finish(number, replies, &scratch.reply, share);
     }
 
     /// Runs a request's job from its present stage, and answers the request.
@@ -119,9 +117,8 @@ impl<'a, B: Bench, G: Gate, W: Wire, M: TimeSource> Context<'a, B, G, W, M> {
     /// The dispatcher uses it for a job that it began. The present stage is that of `scratch`. The
     /// reply is sent, and the job is ended, as in [`Context::work`]. If calls led the job from its
     /// first stage to the present one, all calls together are one run of the job by `work`.
-    pub(crate) fn work_begun<R: Wait>(
+    pub(crate) fn work_begun(
         &self,
-        rt: &R,
         scratch: &mut Scratch,
         number: u64,
         job: &Job,
@@ -136,16 +133,15 @@ impl<'a, B: Bench, G: Gate, W: Wire, M: TimeSource> Context<'a, B, G, W, M> {
             number job.now before share.new }
         ensures ended { B.ended share.new.tallies ≡ saturated (B.ended share.old.tallies + 1) }
     {
-        self.work_on(rt, scratch, number, job, share);
-        let replies = self.respond(rt, scratch, job, share);
-        self.finish(rt, number, replies, &scratch.reply, share);
+        self.work_on(scratch, number, job, share);
+        let replies = self.respond(scratch, job, share);
+        self.finish(number, replies, &scratch.reply, share);
     }
 
     // Runs a job, and writes its reply over `scratch.reply`. Returns whether there is a reply to
     // send.
-    fn reply<R: Wait>(
+    fn reply(
         &self,
-        rt: &R,
         scratch: &mut Scratch,
         number: u64,
         job: &Job,
@@ -157,20 +153,19 @@ impl<'a, B: Bench, G: Gate, W: Wire, M: TimeSource> Context<'a, B, G, W, M> {
         ensures got { share.new.got ≡ share.old.got }
     {
         match job.turn {
-            None => self.answer(rt, scratch, number, job, share),
+            None => self.answer(scratch, number, job, share),
             Some(number) => {
                 let slot = job.origin.slot.number();
                 let turn = Turn { slot, number };
-                self.notify(rt, scratch, job, turn, share)
+                self.notify(scratch, job, turn, share)
             }
         }
     }
 
     // Runs a request's job, answers the request, and writes the reply over `scratch.reply`. Returns
     // whether there is a reply to send.
-    fn answer<R: Wait>(
+    fn answer(
         &self,
-        rt: &R,
         scratch: &mut Scratch,
         number: u64,
         job: &Job,
@@ -182,15 +177,14 @@ impl<'a, B: Bench, G: Gate, W: Wire, M: TimeSource> Context<'a, B, G, W, M> {
         ensures ended { B.ended share.new.tallies ≡ saturated (B.ended share.old.tallies + 1) }
         ensures got { share.new.got ≡ share.old.got }
     {
-        self.work_off(rt, scratch, number, job, share);
-        self.respond(rt, scratch, job, share)
+        self.work_off(scratch, number, job, share);
+        self.respond(scratch, job, share)
     }
 
     // Answers the request of a job that was run, and writes the reply over `scratch.reply`. Returns
     // whether there is a reply to send.
-    fn respond<R: Wait>(
+    fn respond(
         &self,
-        rt: &R,
         scratch: &mut Scratch,
         job: &Job,
         share: &mut ShareOf<B::Tallies, B::Book>,
@@ -209,20 +203,19 @@ impl<'a, B: Bench, G: Gate, W: Wire, M: TimeSource> Context<'a, B, G, W, M> {
             unreachable!()
         };
         let Share { tallies, log, .. } = share;
-        let now = self.now(rt, log);
+        let now = self.now(log);
         let reply = &mut scratch.reply;
         let has_reply = self
             .bench
-            .respond(rt, now, job, answer, reply, tallies, log);
+            .respond(self.rt, now, job, answer, reply, tallies, log);
         self.after_answer(job, has_reply, reply, log);
         has_reply
     }
 
     // Sends `reply` if `replies`, and counts it as sent or as failed. The last call reports to the
     // transmitter that the job has ended.
-    fn finish<R: Wait>(
+    fn finish(
         &self,
-        rt: &R,
         number: u64,
         replies: bool,
         reply: &Emission,
@@ -235,9 +228,9 @@ impl<'a, B: Bench, G: Gate, W: Wire, M: TimeSource> Context<'a, B, G, W, M> {
         ensures got { share.new.got ≡ share.old.got }
     {
         if replies {
-            let out = self.send(rt, number, reply, &mut share.log);
+            let out = self.send(number, reply, &mut share.log);
             share.count_reply(out);
         }
-        self.ended(rt, number, &mut share.log);
+        self.ended(number, &mut share.log);
     }
 }

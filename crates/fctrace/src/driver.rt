@@ -28,7 +28,7 @@ impl TracedRun {
     pub(crate) fn drive<N: Bench, R: Wait + Clock>(
         &self,
         rt: &R,
-        dispatcher: &mut Dispatcher<'_, N, Open, Clients, Clients>,
+        dispatcher: &mut Dispatcher<'_, N, Open, Clients, Clients, R>,
     ) {
         if self.deliver_all(rt, dispatcher).is_err() {
             self.trace.lock(rt).is_broken = true;
@@ -40,7 +40,7 @@ impl TracedRun {
     fn deliver_all<N: Bench, R: Wait + Clock>(
         &self,
         rt: &R,
-        dispatcher: &mut Dispatcher<'_, N, Open, Clients, Clients>,
+        dispatcher: &mut Dispatcher<'_, N, Open, Clients, Clients, R>,
     ) -> Result<(), AllocError> {
         let mut traffic = Traffic::new(self.alloc);
         for _ in 0..self.requests {
@@ -51,37 +51,36 @@ impl TracedRun {
             let slot = traffic.slot();
             let etag = self.clients.etag(rt, slot);
             traffic.make(slot, &etag)?;
-            self.deliver(rt, dispatcher, traffic.client, &traffic.bytes, now);
+            self.deliver(dispatcher, traffic.client, &traffic.bytes, now);
         }
         self.settle(rt);
-        self.install_all(rt, dispatcher, &mut traffic)?;
+        self.install_all(dispatcher, &mut traffic)?;
         self.settle(rt);
-        self.notify_all(rt, dispatcher);
+        self.notify_all(dispatcher);
         Ok(())
     }
 
     // Delivers a datagram of a client. The client ignores an immediate reply.
     fn deliver<N: Bench, R: Wait>(
         &self,
-        rt: &R,
-        dispatcher: &mut Dispatcher<'_, N, Open, Clients, Clients>,
+        dispatcher: &mut Dispatcher<'_, N, Open, Clients, Clients, R>,
         client: u8,
         bytes: &[u8],
         now: u64,
     ) {
         let from: Endpoint = endpoint(client);
         let mut reply = blank_emission();
-        let _handled = dispatcher.handle(rt, now, from, bytes, &mut reply);
+        let _handled = dispatcher.handle(now, from, bytes, &mut reply);
     }
 
     // Advances the front and each shard to a time.
     fn pass_time<N: Bench, R: Wait>(
         &self,
         rt: &R,
-        dispatcher: &mut Dispatcher<'_, N, Open, Clients, Clients>,
+        dispatcher: &mut Dispatcher<'_, N, Open, Clients, Clients, R>,
         now: u64,
     ) {
-        dispatcher.tick(rt, now);
+        dispatcher.tick(now);
         for shard in 0..SHARDS {
             self.pass_shard_time(rt, dispatcher, shard, now);
         }
@@ -92,24 +91,24 @@ impl TracedRun {
     fn pass_shard_time<N: Bench, R: Wait>(
         &self,
         rt: &R,
-        dispatcher: &mut Dispatcher<'_, N, Open, Clients, Clients>,
+        dispatcher: &mut Dispatcher<'_, N, Open, Clients, Clients, R>,
         shard: u8,
         now: u64,
     ) {
-        if dispatcher.advance_or_skip(rt, shard, now) {
+        if dispatcher.advance_or_skip(shard, now) {
             return;
         }
-        if let Ticked::Resend(emission) = dispatcher.resend(rt, shard, now) {
+        if let Ticked::Resend(emission) = dispatcher.resend(shard, now) {
             self.clients.receive(rt, &emission);
         }
-        let _granted = dispatcher.notify(rt, shard, now);
+        let _granted = dispatcher.notify(shard, now);
     }
 
     // Acknowledges or resets a notification that a client received, or ignores it.
     fn signal<N: Bench, R: Wait>(
         &self,
         rt: &R,
-        dispatcher: &mut Dispatcher<'_, N, Open, Clients, Clients>,
+        dispatcher: &mut Dispatcher<'_, N, Open, Clients, Clients, R>,
         traffic: &mut Traffic,
         now: u64,
     ) {
@@ -122,34 +121,33 @@ impl TracedRun {
             1 | 2 => return,
             _ => 0x60,
         };
-        self.deliver(rt, dispatcher, notified.client, &[first, 0, high, low], now);
+        self.deliver(dispatcher, notified.client, &[first, 0, high, low], now);
     }
 
     // Fires the timer of a slot with each 32nd request on average, unless such a job is running.
     fn fire<N: Bench, R: Wait>(
         &self,
         rt: &R,
-        dispatcher: &mut Dispatcher<'_, N, Open, Clients, Clients>,
+        dispatcher: &mut Dispatcher<'_, N, Open, Clients, Clients, R>,
         traffic: &mut Traffic,
         now: u64,
     ) {
         let slot = SlotNumber::new(traffic.slot());
         if traffic.below(32) == 0 && !self.trace.lock(rt).has_timer(slot) {
-            let _number = dispatcher.fire(rt, slot, now);
+            let _number = dispatcher.fire(slot, now);
         }
     }
 
     // Installs the counter in each used slot.
     fn install_all<N: Bench, R: Wait>(
         &self,
-        rt: &R,
-        dispatcher: &mut Dispatcher<'_, N, Open, Clients, Clients>,
+        dispatcher: &mut Dispatcher<'_, N, Open, Clients, Clients, R>,
         traffic: &mut Traffic,
     ) -> Result<(), AllocError> {
         let now = self.clients.advance(STEP);
         for slot in 0..16 {
             traffic.make_install(slot)?;
-            self.deliver(rt, dispatcher, traffic.client, &traffic.bytes, now);
+            self.deliver(dispatcher, traffic.client, &traffic.bytes, now);
         }
         Ok(())
     }
@@ -157,12 +155,11 @@ impl TracedRun {
     // Notifies each observer with a pending notification, at most 128 of them for each shard.
     fn notify_all<N: Bench, R: Wait>(
         &self,
-        rt: &R,
-        dispatcher: &mut Dispatcher<'_, N, Open, Clients, Clients>,
+        dispatcher: &mut Dispatcher<'_, N, Open, Clients, Clients, R>,
     ) {
         let now = self.clients.advance(STEP);
         for turn in 0..1024u32 {
-            let _granted = dispatcher.notify(rt, (turn % 8) as u8, now);
+            let _granted = dispatcher.notify((turn % 8) as u8, now);
         }
     }
 

@@ -134,10 +134,10 @@ where
 }
 
 // Runs a worker until the channel is closed and empty, and returns its statistics.
-fn run_worker<B: Bench, R: Wait>(
-    rt: &R,
-    run: &TracedRun,
-    bench: &B,
+fn run_worker<'a, B: Bench, R: Wait>(
+    rt: &'a R,
+    run: &'a TracedRun,
+    bench: &'a B,
     jobs: &Jobs<JobMessage<B::Book>>,
     seat: SeedOf<B::Tallies, B::Book>,
 ) -> ShareOf<B::Tallies, B::Book>
@@ -150,13 +150,14 @@ fn run_worker<B: Bench, R: Wait>(
         thread: run.next_thread(),
     };
     let context = Context {
+        rt,
         alloc: run.alloc,
         bench: &traced,
         gate: &Open,
         wire: &run.clients,
         times: &run.clients,
     };
-    worker(rt, &context, jobs, seat)
+    worker(&context, jobs, seat)
 }
 
 // Delivers the clients' datagrams, closes the channel, and returns the driver's statistics. If
@@ -181,6 +182,7 @@ fn run_driver<B: Bench, R: Wait + Clock>(
         thread: 0,
     };
     let context = Context {
+        rt,
         alloc: run.alloc,
         bench: &traced,
         gate: &Open,

@@ -75,9 +75,9 @@ pub(crate) fn datagram(
 ///
 /// It waits for the first worker that asks for a job.
 #[derive(Drop)]
-pub(crate) struct Driver<'a, B: Bench, G: Gate> {
+pub(crate) struct Driver<'a, B: Bench, G: Gate, R: Wait> {
     pub(crate) alloc: Global,
-    pub(crate) dispatcher: Dispatcher<'a, B, G, Replies, Replies>,
+    pub(crate) dispatcher: Dispatcher<'a, B, G, Replies, Replies, R>,
 }
 
 /// A part that delivers datagrams to a server, and sends the jobs to workers.
@@ -86,9 +86,8 @@ pub(crate) trait Deliver {
     ///
     /// Returns whether the datagram produced a job that was sent, or an error if memory can't be
     /// allocated.
-    fn ask<R: Wait>(
+    fn ask(
         &mut self,
-        rt: &R,
         now: u64,
         request: Request<'_>,
         id: u16,
@@ -98,26 +97,25 @@ pub(crate) trait Deliver {
     /// Delivers a datagram at `now`, in milliseconds, and sends the job.
     ///
     /// Returns whether the datagram produced a job that was sent.
-    fn deliver<R: Wait>(&mut self, rt: &R, now: u64, bytes: &[u8]) -> bool;
+    fn deliver(&mut self, now: u64, bytes: &[u8]) -> bool;
 }
 
-impl<'a, B: Bench, G: Gate> Deliver for Driver<'a, B, G> {
-    fn ask<R: Wait>(
+impl<'a, B: Bench, G: Gate, R: Wait> Deliver for Driver<'a, B, G, R> {
+    fn ask(
         &mut self,
-        rt: &R,
         now: u64,
         request: Request<'_>,
         id: u16,
         slot: SlotNumber,
     ) -> Result<bool, AllocError> {
         let bytes = datagram(self.alloc, request, id, slot)?;
-        Ok(self.deliver(rt, now, &bytes))
+        Ok(self.deliver(now, &bytes))
     }
 
-    fn deliver<R: Wait>(&mut self, rt: &R, now: u64, bytes: &[u8]) -> bool {
+    fn deliver(&mut self, now: u64, bytes: &[u8]) -> bool {
         let mut reply = blank_emission();
         let sent = self.dispatcher.offloaded();
-        let _handled = self.dispatcher.handle(rt, now, PEER, bytes, &mut reply);
+        let _handled = self.dispatcher.handle(now, PEER, bytes, &mut reply);
         self.dispatcher.offloaded() > sent
     }
 }

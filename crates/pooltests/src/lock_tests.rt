@@ -127,7 +127,7 @@ impl<'a, B: Locks> Drive for HeldDrive<'a, B> {
         replies: &Replies,
     ) -> Result<(), AllocError> {
         let slot = SlotNumber::new(1);
-        driver.ask(rt, 0, Request::Put(COUNTER), 0, slot)?;
+        driver.ask(0, Request::Put(COUNTER), 0, slot)?;
         replies.wait_for(rt, rt, 0);
         let request = match self.held.serial {
             Some(serial) => Request::Valid(serial),
@@ -135,7 +135,7 @@ impl<'a, B: Locks> Drive for HeldDrive<'a, B> {
         };
         let bytes = datagram(self.alloc, request, 1, slot)?;
         let _sent = self.bench.hold(rt, self.held.shard, || -> bool {
-            let sent = driver.deliver(rt, 0, &bytes);
+            let sent = driver.deliver(0, &bytes);
             replies.wait_for(rt, rt, 1);
             sent
         });

@@ -224,6 +224,7 @@ where
     } = crew;
     let (jobs, sent, mut seats) = make_seats(alloc, tallies, logs)?;
     let context = Context {
+        rt,
         alloc,
         bench,
         gate,
@@ -231,7 +232,7 @@ where
         times: replies,
     };
     match seats.pop() {
-        Some(own) => both(work_seated(rt, &context, &jobs, sent, own, keys, seats, drive)),
+        Some(own) => both(work_seated(&context, &jobs, sent, own, keys, seats, drive)),
         None => Err(anyhow::anyhow!("no seat")),
     }
 }
@@ -239,8 +240,7 @@ where
 // Runs a worker at each of `seats`, while `drive` delivers requests to a dispatcher with the state
 // `own`. Returns the result of `drive`, and the workers' statistics.
 fn work_seated<'a, B: Bench + Sync, G: Gate + Sync, F: Drive, R: Threads + Wait + Clock + Sync>(
-    rt: &R,
-    context: &'a Context<'a, B, G, Replies, Replies>,
+    context: &'a Context<'a, B, G, Replies, Replies, R>,
     jobs: &'a Jobs<JobMessage<B::Book>>,
     sent: Sent<JobMessage<B::Book>>,
     own: SeedOf<B::Tallies, B::Book>,
@@ -264,11 +264,12 @@ where
         dispatcher: Dispatcher::new(context, jobs, sent, own, keys, Offload::Every),
     };
     drive_workers(
-        rt,
         context,
         jobs,
         seats,
-        move |_has_workers| -> Result<(), AllocError> { drive.drive(rt, driver, context.wire) },
+        move |_has_workers| -> Result<(), AllocError> {
+            drive.drive(context.rt, driver, context.wire)
+        },
     )
 }
 
@@ -318,10 +319,10 @@ impl Drive for TwoAtOnce {
         replies: &Replies,
     ) -> Result<(), AllocError> {
         let slot = SlotNumber::new(0);
-        driver.ask(rt, 0, Request::Put(COUNTER), 0, slot)?;
+        driver.ask(0, Request::Put(COUNTER), 0, slot)?;
         replies.wait_for(rt, rt, 0);
-        driver.ask(rt, 0, Request::Post, 1, slot)?;
-        driver.ask(rt, 0, Request::Post, 2, slot)?;
+        driver.ask(0, Request::Post, 1, slot)?;
+        driver.ask(0, Request::Post, 2, slot)?;
         Ok(())
     }
 }
@@ -444,7 +445,7 @@ impl Drive for Overtaken {
     ) -> Result<(), AllocError> {
         let _ = replies;
         for id in 0..self.posts {
-            driver.ask(rt, 0, Request::Post, id, SlotNumber::new(0))?;
+            driver.ask(0, Request::Post, id, SlotNumber::new(0))?;
         }
         Ok(())
     }

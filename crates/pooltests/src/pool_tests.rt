@@ -166,13 +166,13 @@ impl<'c, C: Clock> Prices<'c, C> {
         let _handled = ingress.handle(0, PEER, PUT_EXPENSIVE, &mut reply);
         self.ask(ingress, Request::Put(COUNTER), 0, 0)?;
         let gets = self.get_until_sent(ingress)?;
-        let first = ingress.offloaded();
+        let first = ingress.gauges(0).offloaded;
         self.ask(ingress, Request::Valid(8), 0xfffe, 1)?;
         self.ask(ingress, Request::Get, 0xffff, 0)?;
         Ok(Priced {
             gets,
             first,
-            all: ingress.offloaded(),
+            all: ingress.gauges(0).offloaded,
         })
     }
 
@@ -181,7 +181,7 @@ impl<'c, C: Clock> Prices<'c, C> {
     fn get_until_sent<N: Ingress>(&self, ingress: &mut N) -> Result<usize, AllocError> {
         let mut gets = 0usize;
         for id in 2..1002 {
-            if ingress.offloaded() > 0 {
+            if ingress.gauges(0).offloaded > 0 {
                 break;
             }
             thread::sleep(self.clock, Duration::from_millis(1));
@@ -280,9 +280,9 @@ impl<'c, C: Clock> Changes<'c, C> {
         request: Request<'_>,
         id: u16,
     ) -> Result<bool, AllocError> {
-        let sent = ingress.offloaded();
+        let sent = ingress.gauges(0).offloaded;
         self.prices.ask(ingress, request, id, 0)?;
-        Ok(ingress.offloaded() > sent)
+        Ok(ingress.gauges(0).offloaded > sent)
     }
 }
 

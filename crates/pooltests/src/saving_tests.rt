@@ -354,7 +354,7 @@ impl Wire for Answers {
     }
 }
 
-// The results of `DuringSave`: which of its requests were sent to a worker, and the codes of the
+// The results of `DuringSave`: which of its requests were left to a worker, and the codes of the
 // last responses when two of them had been handled.
 #[derive(Drop)]
 struct Handled {
@@ -396,13 +396,13 @@ impl<'a, C: Clock> DuringSave<'a, C> {
     fn pass_requests<N: Ingress>(&self, ingress: &mut N) -> Result<Handled, AllocError> {
         let posts = self.post_until_sent(ingress)?;
         self.gate.closed.store(true, Ordering::SeqCst);
-        let post = self.is_sent(ingress, Request::Post, 0xfffa, 9)?;
+        let post = self.is_left(ingress, Request::Post, 0xfffa, 9)?;
         wait_for(self.clock, &self.gate.reached, posts.saturating_add(1));
-        let get = self.is_sent(ingress, Request::Get, 0xfffb, 1)?;
-        let description = self.is_sent(ingress, Request::Describe, 0xfffc, 1)?;
-        let valid = self.is_sent(ingress, Request::Valid(5), 0xfffd, 1)?;
+        let get = self.is_left(ingress, Request::Get, 0xfffb, 1)?;
+        let description = self.is_left(ingress, Request::Describe, 0xfffc, 1)?;
+        let valid = self.is_left(ingress, Request::Valid(5), 0xfffd, 1)?;
         let valid_code = self.answers.last.load(Ordering::SeqCst);
-        let other = self.is_sent(ingress, Request::Get, 0xfffe, 2)?;
+        let other = self.is_left(ingress, Request::Get, 0xfffe, 2)?;
         let other_code = self.answers.last.load(Ordering::SeqCst);
         self.gate.closed.store(false, Ordering::SeqCst);
         Ok(Handled {
@@ -431,7 +431,8 @@ impl<'a, C: Clock> DuringSave<'a, C> {
         Ok(posts)
     }
 
-    // Passes a request's datagram to `ingress`. Returns whether its job was sent to a worker.
+    // Passes a request's datagram to `ingress`. Returns whether its job was sent to a worker. No
+    // save may be held up meanwhile, since the gauges are read under the shards' locks.
     fn is_sent<N: Ingress>(
         &self,
         ingress: &mut N,
@@ -441,11 +442,41 @@ impl<'a, C: Clock> DuringSave<'a, C> {
     ) -> Result<bool, AllocError>
         requires { slot < 64 }
     {
-        let sent = ingress.offloaded();
+        let sent = ingress.gauges(0).offloaded;
+        self.pass(ingress, request, id, slot)?;
+        Ok(ingress.gauges(0).offloaded > sent)
+    }
+
+    // Passes a request's datagram to `ingress` while a save is held up. Returns whether the request
+    // wasn't answered in the call: then its job is left to a worker, which waits for the save.
+    fn is_left<N: Ingress>(
+        &self,
+        ingress: &mut N,
+        request: Request<'_>,
+        id: u16,
+        slot: u8,
+    ) -> Result<bool, AllocError>
+        requires { slot < 64 }
+    {
+        let answered = self.answers.count.load(Ordering::SeqCst);
+        self.pass(ingress, request, id, slot)?;
+        Ok(self.answers.count.load(Ordering::SeqCst) == answered)
+    }
+
+    // Passes a request's datagram to `ingress`. A response goes to `answers`.
+    fn pass<N: Ingress>(
+        &self,
+        ingress: &mut N,
+        request: Request<'_>,
+        id: u16,
+        slot: u8,
+    ) -> Result<(), AllocError>
+        requires { slot < 64 }
+    {
         let mut reply = blank_emission();
         let bytes = datagram(self.alloc, request, id, SlotNumber::new(slot))?;
         let _handled = ingress.handle(0, PEER, &bytes, &mut reply);
-        Ok(ingress.offloaded() > sent)
+        Ok(())
     }
 }
 

@@ -123,6 +123,7 @@ impl Told {
         let replies = Replies::new();
         let watch = Watch::new();
         let context = Context {
+            rt,
             alloc,
             bench,
             gate: &Open,
@@ -148,19 +149,19 @@ impl Told {
         bench: &B,
         other: SeedOf<B::Tallies, B::Book>,
         watch: &Watch,
-        dispatcher: &mut Teller<'_, B>,
+        dispatcher: &mut Teller<'_, B, R>,
     ) -> Result<bool, AllocError> {
-        observe_counter(rt, alloc, dispatcher)?;
+        observe_counter(alloc, dispatcher)?;
         let WorkerSeed {
             mut tallies,
             mut log,
             ..
         } = other;
         match self {
-            Told::Time => shows_time(rt, alloc, dispatcher),
+            Told::Time => shows_time(alloc, dispatcher),
             Told::Signals => shows_signals(rt, alloc, bench, &mut log, dispatcher),
             Told::Turn => Ok(shows_turn(rt, bench, &mut tallies, &mut log)),
-            Told::Word => Ok(shows_word(rt, watch, dispatcher)),
+            Told::Word => Ok(shows_word(watch, dispatcher)),
         }
     }
 }
@@ -177,29 +178,27 @@ fn seen_alone<T: Drop, J: ServerName>(
 }
 
 // A dispatcher that runs each job itself.
-type Teller<'a, B> = Dispatcher<'a, B, Open, Replies, Watch>;
+type Teller<'a, B, R> = Dispatcher<'a, B, Open, Replies, Watch, R>;
 
 // Installs the counter in slot 0, registers an observer of that slot, and changes the slot's state.
 fn observe_counter<B: Bench, R: Wait>(
-    rt: &R,
     alloc: Global,
-    teller: &mut Teller<'_, B>,
+    teller: &mut Teller<'_, B, R>,
 ) -> Result<(), AllocError> {
-    ask(rt, alloc, teller, 0, Request::Put(COUNTER), 0)?;
-    handle(rt, teller, 0, REGISTRATION);
-    ask(rt, alloc, teller, 0, Request::Post, 1)?;
+    ask(alloc, teller, 0, Request::Put(COUNTER), 0)?;
+    handle(teller, 0, REGISTRATION);
+    ask(alloc, teller, 0, Request::Post, 1)?;
     Ok(())
 }
 
 // Returns whether a duplicate of the PUT is a new request 300,000 ms later: its exchange has
 // expired (RFC 7252, section 4.8.2).
 fn shows_time<B: Bench, R: Wait>(
-    rt: &R,
     alloc: Global,
-    teller: &mut Teller<'_, B>,
+    teller: &mut Teller<'_, B, R>,
 ) -> Result<bool, AllocError> {
-    teller.tick(rt, 300_000);
-    let handled = ask(rt, alloc, teller, 0, Request::Put(COUNTER), 0)?;
+    teller.tick(300_000);
+    let handled = ask(alloc, teller, 0, Request::Put(COUNTER), 0)?;
     Ok(handled == Handled::Job)
 }
 
@@ -210,15 +209,15 @@ fn shows_signals<B: Bench, R: Wait>(
     alloc: Global,
     bench: &B,
     log: &mut TrackLog<B::Book>,
-    teller: &mut Teller<'_, B>,
+    teller: &mut Teller<'_, B, R>,
 ) -> Result<bool, AllocError> {
-    let is_first = teller.notify(rt, 0, 10);
+    let is_first = teller.notify(0, 10);
     bench.signal(rt, 0, PEER, 0, false, log);
-    ask(rt, alloc, teller, 20, Request::Post, 2)?;
-    let is_second = teller.notify(rt, 0, 30);
+    ask(alloc, teller, 20, Request::Post, 2)?;
+    let is_second = teller.notify(0, 30);
     bench.signal(rt, 0, PEER, 1, true, log);
-    ask(rt, alloc, teller, 40, Request::Post, 3)?;
-    Ok(is_first && is_second && !teller.notify(rt, 0, 50))
+    ask(alloc, teller, 40, Request::Post, 3)?;
+    Ok(is_first && is_second && !teller.notify(0, 50))
 }
 
 // Returns whether the observer gets another lease 1 ms after the first one was released, and none
@@ -242,36 +241,30 @@ fn shows_turn<B: Bench, R: Wait>(
 }
 
 // Returns whether a confirmable notification times out exactly 2,500 ms after it was sent.
-fn shows_word<B: Bench, R: Wait>(rt: &R, watch: &Watch, teller: &mut Teller<'_, B>) -> bool {
+fn shows_word<B: Bench, R: Wait>(watch: &Watch, teller: &mut Teller<'_, B, R>) -> bool {
     watch.now.store(DAY, Ordering::SeqCst);
-    let is_notified = teller.notify(rt, 0, DAY);
-    let is_early = !matches!(teller.resend(rt, 0, DAY + 2_499), Ticked::Quiet);
-    let is_overdue = matches!(teller.resend(rt, 0, DAY + 2_500), Ticked::Resend(_));
+    let is_notified = teller.notify(0, DAY);
+    let is_early = !matches!(teller.resend(0, DAY + 2_499), Ticked::Quiet);
+    let is_overdue = matches!(teller.resend(0, DAY + 2_500), Ticked::Resend(_));
     is_notified && !is_early && is_overdue
 }
 
 // Delivers a request for slot 0 at `now`, in milliseconds. Returns how the datagram was handled.
 fn ask<B: Bench, R: Wait>(
-    rt: &R,
     alloc: Global,
-    teller: &mut Teller<'_, B>,
+    teller: &mut Teller<'_, B, R>,
     now: u64,
     request: Request<'_>,
     id: u16,
 ) -> Result<Handled, AllocError> {
     let bytes = datagram(alloc, request, id, SlotNumber::new(0))?;
-    Ok(handle(rt, teller, now, &bytes))
+    Ok(handle(teller, now, &bytes))
 }
 
 // Delivers a datagram at `now`, in milliseconds. Returns how the datagram was handled.
-fn handle<B: Bench, R: Wait>(
-    rt: &R,
-    teller: &mut Teller<'_, B>,
-    now: u64,
-    bytes: &[u8],
-) -> Handled {
+fn handle<B: Bench, R: Wait>(teller: &mut Teller<'_, B, R>, now: u64, bytes: &[u8]) -> Handled {
     let mut reply = blank_emission();
-    teller.handle(rt, now, PEER, bytes, &mut reply)
+    teller.handle(now, PEER, bytes, &mut reply)
 }
 
 // Returns whether this call has the expected effect on a server with locks.

@@ -12,7 +12,7 @@ use Rattle.fc_core.specs.declared.stage.Step.TheVariants as steps
 use Rattle.fc_backend.specs.Answers.{AreTallied, IsSomeCommit}
 use Rattle.fc_calls.specs.Logged.{CommitsRun}
 use Rattle.fc_workers.specs.Views.{worker_view}
-use Rattle.fc_backend.specs.Logs.{FilesRefusal, TrackedLog}
+use Rattle.fc_backend.specs.Logs.{FilesRefusal}
 use Rattle.fc_workers.specs.Steps.{IsReady, IsStep}
 use Rattle.fc_workers.specs.Work.{IsCommitRefused, IsCommitted}
 use Rattle.fc_workers.proofs.Steps.{commit_step, from_stage, is_run, stands_at, unsaved_step}

@@ -1,4 +1,4 @@
-use Rattle.std.proofs.Common.{refl, subst}
+use Rattle.std.proofs.Common.{refl}
 use Rattle.fc_core.specs.Stage.{ToRemove}
 use Rattle.fc_workers.specs.Views.{worker_view}
 use Rattle.fc_workers.proofs.Steps.{remove_step, unsaved_step}

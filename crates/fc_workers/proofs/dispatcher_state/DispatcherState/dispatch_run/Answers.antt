@@ -1,4 +1,4 @@
-use Rattle.std.proofs.Common.{◌≡◌, ◌∙◌, ◌+◌, ℕ, Option, Some, ap, inl, inr, refl, subst, sym}
+use Rattle.std.proofs.Common.{◌∙◌, ◌+◌, ℕ, Option, ap, inl, inr, refl, subst, sym}
 use Rattle.fc_backend.specs.Answers.{saturated}
 use Rattle.fc_workers.specs.Views.{worker_view}
 use Rattle.fc_workers.specs.Dispatch.{IsSentOrWorked, MayHaveReadCost, logged_at, unsent}

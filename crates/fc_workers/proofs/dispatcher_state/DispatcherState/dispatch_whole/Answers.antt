@@ -1,10 +1,9 @@
-use Rattle.std.proofs.Common.{◌≡◌, ◌∙◌, ◌+◌, ℕ, Bool, false, true, ap, inr, subst, sym}
+use Rattle.std.proofs.Common.{◌∙◌, ◌+◌, ℕ, Bool, ap, inr, subst, sym}
 use Rattle.std.specs.Prelude.{MatchBool}
 use Rattle.fc_ticket.specs.declared.job.Job.{Job}
 use Rattle.fc_backend.specs.Answers.{saturated}
 use Rattle.fc_workers.specs.Views.{worker_view}
 use Rattle.fc_workers.specs.Dispatch.{IsSentOrWorked, MayGo, MayHaveReadCost, least_cost, logged_at, unsent}
-use Rattle.fc_backend.specs.Logs.{TrackedLog}
 use Rattle.fc_workers.specs.Producing.{HasProduced}
 use Rattle.fc_workers.specs.Work.{IsReplied}
 use Rattle.fc_backend.specs.Statistics.{Share}

@@ -1,4 +1,4 @@
-use Rattle.std.proofs.Common.{◌≡◌, ◌<◌, ◌≤◌, length, arith, subst, sym}
+use Rattle.std.proofs.Common.{◌<◌, ◌≤◌, length, arith, subst, sym}
 use Rattle.fc_ticket.specs.declared.job.Job.{Job}
 use Rattle.fc_workers.specs.Views.{worker_view}
 use Rattle.fc_workers.specs.Dispatch.{IsHandedOver, IsWorkedHere, WithNext, logged_at}
