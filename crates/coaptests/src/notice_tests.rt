@@ -9,9 +9,9 @@ use coap_observer::notice::{is_newer, notice_of};
 use coap_observer::{Completion, Joining, NotificationClass, Observation, Observer, Unfetched};
 use coap_opts::Method;
 use fc_cli::Status;
-use fc_fetch::observer::{NotesError, ObservationExtent, print_notes, print_to_end};
+use fc_fetch::observer::{NotePrinter, NotesError, ObservationExtent};
 use fc_fetch::printer::{PrintError, write_note};
-use fc_fetch::{Observing, Shown, observe};
+use fc_fetch::{Console, Observing, Shown, observe};
 use fc_fixtures::datagrams::joined;
 use fc_fixtures::faulty::{Full, Unflushed};
 use fc_fixtures::ports::free_port;
@@ -142,23 +142,22 @@ fn printed_to(
         token: TOKEN,
         id: 7,
     };
-    let extent = ObservationExtent {
-        count: Some(count),
-        seconds: Some(60),
+    let printer = NotePrinter {
+        observer: &observer,
+        shown: Shown::Text,
+        extent: ObservationExtent {
+            count: Some(count),
+            seconds: Some(60),
+        },
     };
-    let mut out = Vec::new(alloc);
-    let mut buffer = [0; BUFFER];
-    print_notes(
+    let mut console = Console {
         alloc,
-        server,
-        &mut out,
+        out: Vec::new(alloc),
         err,
-        &observer,
-        Shown::Text,
-        extent,
-        &mut buffer,
-    )?;
-    Ok(out)
+    };
+    let mut buffer = [0; BUFFER];
+    printer.print_notes(server, &mut console, &mut buffer)?;
+    Ok(console.out)
 }
 
 // Adds to the script a response that arrives at this time. `head` is the type and token length, the
@@ -581,21 +580,21 @@ fn ends_by_its_output(
         token: TOKEN,
         id: 7,
     };
-    let extent = ObservationExtent {
-        count: None,
-        seconds: None,
+    let printer = NotePrinter {
+        observer: &observer,
+        shown: Shown::Hex,
+        extent: ObservationExtent {
+            count: None,
+            seconds: None,
+        },
+    };
+    let mut console = Console {
+        alloc,
+        out: Full(3),
+        err: Vec::new(alloc),
     };
     let mut buffer = [0; BUFFER];
-    let shown = print_to_end(
-        alloc,
-        server,
-        &mut Full(3),
-        &mut Vec::new(alloc),
-        &observer,
-        Shown::Hex,
-        extent,
-        &mut buffer,
-    );
+    let shown = printer.print_to_end(server, &mut console, &mut buffer);
     matches!(&shown, Err(NotesError::Print(_)))
 }
 
@@ -672,8 +671,11 @@ fn a_registration_is_rejected(rt: HostRuntime) -> Result<(), Fail> {
 fn an_observer_of_nobody_is_status_3(rt: HostRuntime) -> Result<(), Fail> {
     let alloc = rt.alloc();
     let port = free_port(&rt)?;
-    let mut out = Vec::new(alloc);
-    let mut err = Vec::new(alloc);
+    let mut console = Console {
+        alloc,
+        out: Vec::new(alloc),
+        err: Vec::new(alloc),
+    };
     let observing = Observing {
         target: "/r/1",
         port: Some(port),
@@ -683,8 +685,9 @@ fn an_observer_of_nobody_is_status_3(rt: HostRuntime) -> Result<(), Fail> {
             seconds: None,
         },
     };
-    let status = observe(&rt, alloc, &mut out, &mut err, &observing);
+    let status = observe(&rt, &mut console, &observing);
     let told = b"UDP: Connection refused (os error 111)\n".as_slice();
-    assert!(rt; status == Status::Failed && out.is_empty() && err.as_slice() == told);
+    assert!(rt; status == Status::Failed);
+    assert!(rt; console.out.is_empty() && console.err.as_slice() == told);
     Ok(())
 }

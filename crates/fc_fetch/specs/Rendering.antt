@@ -14,6 +14,7 @@ use Rattle.coap_msg.specs.Reading.{reading_of}
 use Rattle.coap_msg.specs.Wire.{Message}
 use Rattle.fc_fetch.specs.Fetching.{ended_line}
 use Rattle.fc_fetch.specs.Printing.{line_bytes}
+use Rattle.fc_fetch.specs.declared.console.Console.{Console}
 use Rattle.fc_fetch.specs.declared.printer.Shown.{Shown}
 
 -- the code and, if there are bytes, a space and the bytes.
@@ -145,3 +146,7 @@ lines_in (r ∷ rs) = lines_in rs + (if has_line r.rendering then 1 else 0)
 pub record Written : Type 0 where
   pub out : Option (List ℕ)
   pub err : Option (List ℕ)
+
+-- what a command has written, by the contents of its console's streams.
+abbrev pub written_to : {W E : Type 0} → (W → Option (List ℕ)) → (E → Option (List ℕ)) → Console W E → Written
+written_to output report console = record { out = output console.out; err = report console.err }

@@ -5,12 +5,12 @@
 
 ghost use Rattle.fc_fetch.specs.Asking.{IsAskedBy, IsAskedFor, IsUnread};
 
-use crate::client::{FetchStop, fetch_by, fetch_to_by};
+use crate::client::{FetchStop, ResponseFile, fetch_by, fetch_to_by};
 use crate::connector::Connector;
+use crate::console::Console;
 use crate::late_file::LateFile;
 use crate::operation::{Asking, BodySource};
 use fc_cli::status::{Status, tell};
-use std::alloc::Global;
 use std::fs::File;
 use std::io::{Read, Write};
 use std::rt::Files;
@@ -26,43 +26,31 @@ use std::rt::Files;
 pub fn ask_by<C: Connector, R: Files, I: Read, W: Write, E: Write>(
     connector: &C,
     files: &R,
-    alloc: Global,
     input: &mut I,
-    out: &mut W,
-    err: &mut E,
+    console: &mut Console<W, E>,
     asking: &Asking<'_>,
 ) -> Status
     ensures asked { IsAskedFor C.connected C.drawn C.Server.went C.Server.came C.Server.is_error C.Server.called asking.now (I.remaining input.old)
-        (W.contents out.old) (W.contents out.new) result }
+        (W.contents console.old.out) (W.contents console.new.out) result }
     ensures unread { IsUnread asking.now.body input.old input.new }
 {
     match asking.body {
-        BodySource::None => {
-            answer_to(
-                connector,
-                files,
-                alloc,
-                &mut b"".as_slice(),
-                out,
-                err,
-                asking,
-            )
-        }
-        BodySource::Text(text) => {
-            answer_to(
-                connector,
-                files,
-                alloc,
-                &mut text.as_bytes(),
-                out,
-                err,
-                asking,
-            )
-        }
-        BodySource::Input => answer_to(connector, files, alloc, input, out, err, asking),
+        BodySource::None => answer_to(connector, files, &mut b"".as_slice(), console, asking),
+        BodySource::Text(text) => answer_to(
+            connector,
+            files,
+            &mut text.as_bytes(),
+            console,
+            asking,
+        ),
+        BodySource::Input => answer_to(connector, files, input, console, asking),
         BodySource::File(name) => match File::open(files, name) {
-            Ok(mut file) => answer_to(connector, files, alloc, &mut file, out, err, asking),
-            Err(error) => tell(err, &FetchStop::Input(name, error), Status::Failed),
+            Ok(mut file) => answer_to(connector, files, &mut file, console, asking),
+            Err(error) => tell(
+                &mut console.err,
+                &FetchStop::Input(name, error),
+                Status::Failed,
+            ),
         },
     }
 }
@@ -72,21 +60,22 @@ pub fn ask_by<C: Connector, R: Files, I: Read, W: Write, E: Write>(
 fn answer_to<C: Connector, R: Files, I: Read, W: Write, E: Write>(
     connector: &C,
     files: &R,
-    alloc: Global,
     input: &mut I,
-    out: &mut W,
-    err: &mut E,
+    console: &mut Console<W, E>,
     asking: &Asking<'_>,
 ) -> Status
     ensures { IsAskedBy C.connected C.drawn C.Server.went C.Server.came C.Server.is_error C.Server.called asking.now (I.remaining input.old)
-        (W.contents out.old) (W.contents out.new) result }
+        (W.contents console.old.out) (W.contents console.new.out) result }
 {
     let options = &asking.options;
     match asking.output {
-        None => fetch_by(connector, alloc, input, out, err, options),
+        None => fetch_by(connector, input, console, options),
         Some(name) => {
-            let mut file = LateFile::new(files, name);
-            fetch_to_by(connector, alloc, input, out, &mut file, name, err, options)
+            let mut file = ResponseFile {
+                name,
+                file: LateFile::new(files, name),
+            };
+            fetch_to_by(connector, input, console, &mut file, options)
         }
     }
 }

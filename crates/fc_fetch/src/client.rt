@@ -14,6 +14,7 @@ ghost use Rattle.fc_cli.specs.Ending.{IsEnding};
 ghost use Rattle.fc_cli.specs.declared.status.Status.TheVariants.{Bad, Failed};
 
 use crate::connector::{Connector, System};
+use crate::console::Console;
 use crate::observer::NotesError;
 use crate::printer::{PrintError, Shown, write_answer, write_bytes, write_code};
 use coap_client::{ClientRequest, FetchFault, Fetched, PathError, Peer, RequestTarget};
@@ -51,6 +52,20 @@ pub struct FetchOptions<'a> {
     /// See RFC 7252, section 12.3.
     pub content_format: Option<u16>,
     pub shown: Shown,
+}
+
+/// The fields of a request that a server sees: its resource, and its body.
+#[derive(Drop)]
+pub struct RequestFields<'a> {
+    pub target: RequestTarget<'a>,
+    pub payload: &'a [u8],
+}
+
+/// A file for the bytes of a response, and its name, for the reason of a failure.
+#[derive(Drop)]
+pub struct ResponseFile<'a, F> {
+    pub name: &'a str,
+    pub file: F,
 }
 
 // The reason why a client prints nothing, or nothing more.
@@ -114,61 +129,54 @@ impl<'a> FetchStop<'a> {
 /// - `Failed` if no response came, at a fault of the socket, or if reading, writing, memory or the
 ///   system's random bytes failed.
 ///
-/// The reason is written to `err`.
+/// The reason is written to `console.err`.
 pub fn fetch<R: Net + Clock + RandomSource, I: Read, W: Write, E: Write>(
     rt: &R,
-    alloc: Global,
     input: &mut I,
-    out: &mut W,
-    err: &mut E,
+    console: &mut Console<W, E>,
     asking: &FetchOptions<'_>,
 ) -> Status {
-    fetch_by(&System { rt }, alloc, input, out, err, asking)
+    fetch_by(&System { rt }, input, console, asking)
 }
 
 /// Sends a request as [`fetch`] does, to a server that `connector` connects to.
 pub fn fetch_by<C: Connector, I: Read, W: Write, E: Write>(
     connector: &C,
-    alloc: Global,
     input: &mut I,
-    out: &mut W,
-    err: &mut E,
+    console: &mut Console<W, E>,
     asking: &FetchOptions<'_>,
 ) -> Status
     ensures { IsAnswered (IsAnswerTo C.connected C.drawn C.Server.went C.Server.came C.Server.called asking.now (I.remaining input.old))
         (IsFetchStop C.connected C.drawn C.Server.went C.Server.came C.Server.is_error C.Server.called asking.now (I.remaining input.old))
-        asking.now.shown (W.contents out.old) (W.contents out.new) result }
+        asking.now.shown (W.contents console.old.out) (W.contents console.new.out) result }
 {
-    match answer(connector, alloc, input, asking) {
-        Ok(fetched) => print_answer(alloc, out, err, asking.shown, &fetched),
-        Err(stop) => tell(err, &stop, stop.status()),
+    match answer(connector, console.alloc, input, asking) {
+        Ok(fetched) => print_answer(console, asking.shown, &fetched),
+        Err(stop) => tell(&mut console.err, &stop, stop.status()),
     }
 }
 
 /// Sends a request as [`fetch_by`] does, and writes the bytes of a success to `file`.
 ///
 /// Of a success, it prints the code alone. Any other response is printed whole, and `file` isn't
-/// written to. `name` is the file's name, for the reason of a failure.
+/// written to.
 ///
-/// Returns the status of [`fetch`]. Returns `Failed` if writing the file fails: `err` then gets the
-/// file's name.
-pub fn fetch_to_by<C: Connector, I: Read, W: Write, F: Write, E: Write>(
+/// Returns the status of [`fetch`]. Returns `Failed` if writing the file fails: `console.err` then
+/// gets the file's name.
+pub fn fetch_to_by<C: Connector, I: Read, W: Write, E: Write, F: Write>(
     connector: &C,
-    alloc: Global,
     input: &mut I,
-    out: &mut W,
-    file: &mut F,
-    name: &str,
-    err: &mut E,
+    console: &mut Console<W, E>,
+    file: &mut ResponseFile<'_, F>,
     asking: &FetchOptions<'_>,
 ) -> Status
     ensures { IsAnsweredTo (IsAnswerTo C.connected C.drawn C.Server.went C.Server.came C.Server.called asking.now (I.remaining input.old))
         (IsFetchStop C.connected C.drawn C.Server.went C.Server.came C.Server.is_error C.Server.called asking.now (I.remaining input.old))
-        asking.now.shown (W.contents out.old) (W.contents out.new) (F.contents file.old) (F.contents file.new) result }
+        asking.now.shown (W.contents console.old.out) (W.contents console.new.out) (F.contents file.old.file) (F.contents file.new.file) result }
 {
-    match answer(connector, alloc, input, asking) {
-        Ok(fetched) => keep_answer(alloc, out, file, name, err, asking.shown, &fetched),
-        Err(stop) => tell(err, &stop, stop.status()),
+    match answer(connector, console.alloc, input, asking) {
+        Ok(fetched) => keep_answer(console, file, asking.shown, &fetched),
+        Err(stop) => tell(&mut console.err, &stop, stop.status()),
     }
 }
 
@@ -190,7 +198,11 @@ fn answer<'a, C: Connector, I: Read>(
     let payload = body_of(alloc, input, asking.source)?;
     let id = first_id(connector)?;
     let mut server = connect(connector, address.server)?;
-    match fetch_from(alloc, &mut server, asking, target, &payload, id) {
+    let fields = RequestFields {
+        target,
+        payload: &payload,
+    };
+    match fetch_from(alloc, &mut server, asking, fields, id) {
         Ok(Some(fetched)) => Ok(fetched),
         Ok(None) => Err(FetchStop::Room),
         Err(fault) => Err(FetchStop::Fault(fault)),
@@ -248,8 +260,9 @@ fn body_of<'a, I: Read>(
 
 /// Fetches a resource from `peer`, with the method, type and format of `asking`.
 ///
-/// The type is that of the request's message. The body is `payload`, and the message IDs begin with
-/// `id`. Returns `None` if the request doesn't fit in a datagram: then nothing is sent.
+/// The type is that of the request's message. The resource and the body are those of `fields`. The
+/// message IDs begin with `id`. Returns `None` if the request doesn't fit in a datagram: then
+/// nothing is sent.
 ///
 /// # Errors
 /// Returns the error of [`coap_client::fetch`].
@@ -257,17 +270,17 @@ pub fn fetch_from<P: Peer>(
     alloc: Global,
     peer: &mut P,
     asking: &FetchOptions<'_>,
-    target: RequestTarget<'_>,
-    payload: &[u8],
+    fields: RequestFields<'_>,
     id: u16,
 ) -> Result<Option<Fetched>, FetchFault>
     ensures asked { IfOk result (λ r. IfSome r (λ f. IsFetchedBy P.went P.came (P.called peer.old) (P.called peer.new)
-        asking.now target.entry payload.now id f.code.byte f.body.items)) }
+        asking.now fields.entry.target fields.entry.payload.now id f.code.byte f.body.items)) }
     ensures none { IfOk result (λ r. IfNone r (HasNoRoom (MakesCalls (P.called peer.old) (P.called peer.new))
-        asking.now.method target.entry payload.now)) }
+        asking.now.method fields.entry.target fields.entry.payload.now)) }
     ensures fault { IfErr result (IsFaultOf P.went P.came P.is_error (MakesCalls (P.called peer.old) (P.called peer.new))
-        asking.now target.entry payload.now id) }
+        asking.now fields.entry.target fields.entry.payload.now id) }
 {
+    let RequestFields { target, payload } = fields;
     let Some(asked) = ClientRequest::new(asking.confirmable, asking.method, target, payload) else {
         return Ok(None);
     };
@@ -325,25 +338,22 @@ enum KeepError<'a> {
 }
 
 // Writes the bytes of a success to a file and prints its code, or prints another response. Returns
-// the client's status, `Failed` if writing fails: the reason is then written to `err`.
-fn keep_answer<W: Write, F: Write, E: Write>(
-    alloc: Global,
-    out: &mut W,
-    file: &mut F,
-    name: &str,
-    err: &mut E,
+// the client's status, `Failed` if writing fails: the reason is then written to `console.err`.
+fn keep_answer<W: Write, E: Write, F: Write>(
+    console: &mut Console<W, E>,
+    file: &mut ResponseFile<'_, F>,
     shown: Shown,
     fetched: &Fetched,
 ) -> Status
-    ensures { IsKeptOrPrinted shown fetched.now.code.byte fetched.now.body.items (W.contents out.old) (W.contents out.new)
-        (F.contents file.old) (F.contents file.new) result ⊎ (result ≡ Failed) }
+    ensures { IsKeptOrPrinted shown fetched.now.code.byte fetched.now.body.items (W.contents console.old.out) (W.contents console.new.out)
+        (F.contents file.old.file) (F.contents file.new.file) result ⊎ (result ≡ Failed) }
 {
     if fetched.code.class() != SUCCESS {
-        return print_answer(alloc, out, err, shown, fetched);
+        return print_answer(console, shown, fetched);
     }
-    match keep(out, file, name, fetched) {
+    match keep(&mut console.out, file, fetched) {
         Ok(()) => Status::Done,
-        Err(error) => tell(err, &error, Status::Failed),
+        Err(error) => tell(&mut console.err, &error, Status::Failed),
     }
 }
 
@@ -351,35 +361,33 @@ fn keep_answer<W: Write, F: Write, E: Write>(
 // is closed, a file that is opened first gets its descriptor.
 fn keep<'a, W: Write, F: Write>(
     out: &mut W,
-    file: &mut F,
-    name: &'a str,
+    file: &mut ResponseFile<'a, F>,
     fetched: &Fetched,
 ) -> Result<(), KeepError<'a>>
     ensures text { OnOk result (Appends (W.contents out.old) (W.contents out.new) (ended_line (code_text fetched.now.code.byte))) }
-    ensures bytes { OnOk result (Appends (F.contents file.old) (F.contents file.new) fetched.now.body.items) }
+    ensures bytes { OnOk result (Appends (F.contents file.old.file) (F.contents file.new.file) fetched.now.body.items) }
 {
     if let Err(error) = write_code(out, fetched.code) {
         return Err(KeepError::Print(error));
     }
-    match write_bytes(file, &fetched.body) {
+    match write_bytes(&mut file.file, &fetched.body) {
         Ok(()) => Ok(()),
-        Err(error) => Err(KeepError::File(name, error)),
+        Err(error) => Err(KeepError::File(file.name, error)),
     }
 }
 
 // Prints a response, and returns the client's status: by its code, or `Failed` if printing fails.
 fn print_answer<W: Write, E: Write>(
-    alloc: Global,
-    out: &mut W,
-    err: &mut E,
+    console: &mut Console<W, E>,
     shown: Shown,
     fetched: &Fetched,
 ) -> Status
-    ensures { IsPrinted shown fetched.now.code.byte fetched.now.body.items (W.contents out.old) (W.contents out.new) result ⊎ (result ≡ Failed) }
+    ensures { IsPrinted shown fetched.now.code.byte fetched.now.body.items
+        (W.contents console.old.out) (W.contents console.new.out) result ⊎ (result ≡ Failed) }
 {
-    match write_answer(alloc, out, shown, fetched) {
+    match write_answer(console.alloc, &mut console.out, shown, fetched) {
         Ok(()) if fetched.code.class() == SUCCESS => Status::Done,
         Ok(()) => Status::Refused,
-        Err(error) => tell(err, &error, Status::Failed),
+        Err(error) => tell(&mut console.err, &error, Status::Failed),
     }
 }

@@ -70,13 +70,14 @@
 //!
 //! By the contracts of `operation_of`, `Asking::at_terminal`, `asking::ask_by`,
 //! `printer::write_answer`, `write_note`, `client::fetch_by`, `fetch_to_by`, `fetch_from`,
-//! `ping::ping_by`, `body_of`, `print_answer`, `observer::observe_by`, `print_notes`,
-//! `print_to_end`; `laws`.
+//! `ping::ping_by`, `body_of`, `print_answer`, `observer::observe_by`,
+//! `NotePrinter::print_notes`, `print_to_end`; `laws`.
 #![tactic(auto)]
 
 pub mod asking;
 pub mod client;
 pub mod connector;
+pub mod console;
 pub mod late_file;
 pub mod laws;
 pub mod observer;
@@ -88,6 +89,7 @@ mod waits;
 
 pub use client::{FetchOptions, fetch};
 pub use connector::{Connector, System};
+pub use console::Console;
 pub use observer::{Observing, observe};
 pub use operation::{Asking, BodySource, Operation, operation_of};
 pub use ping::Pinging;

@@ -8,12 +8,14 @@ ghost use Rattle.coap_observer.specs.ObserverFaults.{IsLeavingFault, deregistrat
 ghost use Rattle.coap_client.specs.Transmissions.{MakesCalls};
 ghost use Rattle.fc_fetch.specs.Observing.{HasEnded, HasLeft, HasShown, IsEndFault, IsClientRequestStop, IsFirstBy, IsFirstFault, IsFirstShown, IsLeaving, IsNotesFault, IsObserveStop, IsObserved, IsObservedAt, IsObservedIn, IsTimedObservation, IsToldEnd, LeavesAtFault, ObservesToEnd, lines_wanted, unfit_error, unobserved_text};
 ghost use Rattle.fc_fetch.specs.Observing as spec;
+ghost use Rattle.fc_fetch.specs.Rendering.{written_to};
 ghost use Rattle.fc_fetch.specs.declared.observer.NotesError.TheVariants as notes_error;
 
 use crate::client::{FetchStop, address_of, connect, first_id, resource_at};
 use crate::connector::{Connector, System};
+use crate::console::Console;
 use crate::printer::{PrintError, Shown, write_note};
-use crate::rendering::print_line;
+use crate::rendering::{NoteRenderer, Progress};
 use crate::waits::{TimeLimit, begin_wait, first_wait, time};
 use coap_client::peer::{BUFFER, Buffer};
 use coap_client::{ClientRequest, FetchFault, Peer};
@@ -125,32 +127,28 @@ impl From<AllocError> for NotesError {
 ///   registration or the deregistration.
 /// - `Failed` if a notification can't be shown.
 ///
-/// The reason is written to `err`.
+/// The reason is written to `console.err`.
 pub fn observe<R: Net + Clock + RandomSource, W: Write, E: Write>(
     rt: &R,
-    alloc: Global,
-    out: &mut W,
-    err: &mut E,
+    console: &mut Console<W, E>,
     observing: &Observing<'_>,
 ) -> Status {
-    observe_by(&System { rt }, alloc, out, err, observing)
+    observe_by(&System { rt }, console, observing)
 }
 
 /// Observes as [`observe`] does, at a server that `connector` connects to.
 pub fn observe_by<C: Connector, W: Write, E: Write>(
     connector: &C,
-    alloc: Global,
-    out: &mut W,
-    err: &mut E,
+    console: &mut Console<W, E>,
     observing: &Observing<'_>,
 ) -> Status
     ensures { HasEnded (IsObserved C.connected C.drawn C.Server.went C.Server.came C.Server.is_time C.Server.called observing.now
-        (record { out = W.contents out.old; err = E.contents err.old }) (record { out = W.contents out.new; err = E.contents err.new }))
+        (written_to W.contents E.contents console.old) (written_to W.contents E.contents console.new))
         (IsObserveStop C.connected C.drawn C.Server.went C.Server.came C.Server.tried C.Server.is_time C.Server.is_error C.Server.called observing.now) result }
 {
-    match observe_to_end(connector, alloc, out, err, observing) {
-        Ok(end) => finish(err, end),
-        Err(stop) => tell(err, &stop, stop.status()),
+    match observe_to_end(connector, console, observing) {
+        Ok(end) => finish(&mut console.err, end),
+        Err(stop) => tell(&mut console.err, &stop, stop.status()),
     }
 }
 
@@ -182,23 +180,19 @@ fn write_unobserved<E: Write>(err: &mut E) -> io::Result<()>
 // Observes the target, to the observation's end. Returns the reason if it fails.
 fn observe_to_end<'a, C: Connector, W: Write, E: Write>(
     connector: &C,
-    alloc: Global,
-    out: &mut W,
-    err: &mut E,
+    console: &mut Console<W, E>,
     observing: &Observing<'a>,
 ) -> Result<ObservationEnd, FetchStop<'a>>
     ensures ended { IfOk result (IsObservedIn C.connected C.drawn C.Server.went C.Server.came C.Server.is_time C.Server.called observing.now
-        (record { out = W.contents out.old; err = E.contents err.old }) (record { out = W.contents out.new; err = E.contents err.new })) }
+        (written_to W.contents E.contents console.old) (written_to W.contents E.contents console.new)) }
     ensures stop { IfErr result (IsObserveStop C.connected C.drawn C.Server.went C.Server.came C.Server.tried C.Server.is_time C.Server.is_error C.Server.called observing.now) }
 {
-    let address = address_of(alloc, observing.target, observing.port)?;
-    let target = resource_at(alloc, &address)?;
+    let address = address_of(console.alloc, observing.target, observing.port)?;
+    let target = resource_at(console.alloc, &address)?;
     match ClientRequest::new(true, Method::Get, target, &[]) {
         Some(client_request) => observe_client_request(
             connector,
-            alloc,
-            out,
-            err,
+            console,
             observing,
             &client_request,
             address.server,
@@ -211,15 +205,13 @@ fn observe_to_end<'a, C: Connector, W: Write, E: Write>(
 // message ID.
 fn observe_client_request<'a, C: Connector, W: Write, E: Write>(
     connector: &C,
-    alloc: Global,
-    out: &mut W,
-    err: &mut E,
+    console: &mut Console<W, E>,
     observing: &Observing<'a>,
     client_request: &ClientRequest<'_>,
     address: SocketAddrV4,
 ) -> Result<ObservationEnd, FetchStop<'a>>
     ensures ended { IfOk result (IsObservedAt C.connected C.drawn C.Server.went C.Server.came C.Server.is_time C.Server.called observing.now
-        client_request.now address (record { out = W.contents out.old; err = E.contents err.old }) (record { out = W.contents out.new; err = E.contents err.new })) }
+        client_request.now address (written_to W.contents E.contents console.old) (written_to W.contents E.contents console.new)) }
     ensures stop { IfErr result (IsClientRequestStop C.connected C.drawn C.Server.went C.Server.came C.Server.tried C.Server.is_time C.Server.is_error C.Server.called observing.now
         client_request.now address) }
 {
@@ -234,58 +226,155 @@ fn observe_client_request<'a, C: Connector, W: Write, E: Write>(
     };
     let mut server = connect(connector, address)?;
     let mut buffer = [0; BUFFER];
-    let (shown, extent) = (observing.shown, observing.extent);
-    match print_to_end(
-        alloc,
-        &mut server,
-        out,
-        err,
-        &observer,
-        shown,
-        extent,
-        &mut buffer,
-    ) {
+    let printer = NotePrinter {
+        observer: &observer,
+        shown: observing.shown,
+        extent: observing.extent,
+    };
+    match printer.print_to_end(&mut server, console, &mut buffer) {
         Ok(end) => Ok(end),
         Err(error) => Err(FetchStop::Notes(error)),
     }
 }
 
-/// Prints as [`print_notes`] does, and deregisters if the server may still notify.
-///
-/// It also deregisters if a message that came can't be shown, or if printing, memory, the socket or
-/// the clock failed.
-///
-/// # Errors
-/// Returns the reason as a [`NotesError`]. Some lines may have been printed.
-pub fn print_to_end<P: Peer, W: Write, E: Write>(
-    alloc: Global,
-    peer: &mut P,
-    out: &mut W,
-    err: &mut E,
-    observer: &Observer<'_>,
-    shown: Shown,
-    extent: ObservationExtent,
-    buffer: &mut Buffer,
-) -> Result<ObservationEnd, NotesError>
-    ensures shown { IfOk result (λ end. HasShown P.went P.came P.is_time
-        (λ rs. MakesCalls (P.called peer.old) (P.called peer.new) (ObservesToEnd observer.now extent.seconds end rs)) observer.now shown (lines_wanted extent.count)
-        (record { out = W.contents out.old; err = E.contents err.old }) (record { out = W.contents out.new; err = E.contents err.new }) end) }
-    ensures left { IfOk result (HasLeft P.went P.came observer.now) }
-    ensures fault { IfErr result (IsEndFault P.went P.came P.is_time P.is_error P.called peer.old peer.new
-        observer.now extent.seconds) }
-    ensures leaves { OnErr result (LeavesAtFault P.called P.is_error P.tried peer.old peer.new observer.now) }
-{
-    let leaving = observer.deregistration(alloc)?;
-    match print_notes(alloc, peer, out, err, observer, shown, extent, buffer) {
-        Ok(end) => {
-            leave(peer, observer, &leaving, end, buffer)?;
-            Ok(end)
-        }
-        Err(error) => {
-            if may_notify(&error) {
-                let _ended = observer.deregister_by(peer, &leaving, buffer);
+/// Prints the notes of an observer, in this form and to this extent.
+#[derive(Clone, Copy)]
+pub struct NotePrinter<'a> {
+    pub observer: &'a Observer<'a>,
+    pub shown: Shown,
+    pub extent: ObservationExtent,
+}
+
+impl<'a> NotePrinter<'a> {
+    /// Prints as [`print_notes`](NotePrinter::print_notes) does, and then may deregister.
+    ///
+    /// It deregisters if the server may still notify. That may be so if a message can't be shown,
+    /// or if printing, memory, the socket or the clock failed.
+    ///
+    /// # Errors
+    /// Returns the reason as a [`NotesError`]. Some lines may have been printed.
+    pub fn print_to_end<P: Peer, W: Write, E: Write>(
+        &self,
+        peer: &mut P,
+        console: &mut Console<W, E>,
+        buffer: &mut Buffer,
+    ) -> Result<ObservationEnd, NotesError>
+        ensures shown { IfOk result (λ end. HasShown P.went P.came P.is_time
+            (λ rs. MakesCalls (P.called peer.old) (P.called peer.new) (ObservesToEnd self.now.observer.now self.now.extent.seconds end rs))
+            self.now.observer.now self.now.shown (lines_wanted self.now.extent.count)
+            (written_to W.contents E.contents console.old) (written_to W.contents E.contents console.new) end) }
+        ensures left { IfOk result (HasLeft P.went P.came self.now.observer.now) }
+        ensures fault { IfErr result (IsEndFault P.went P.came P.is_time P.is_error P.called peer.old peer.new
+            self.now.observer.now self.now.extent.seconds) }
+        ensures leaves { OnErr result (LeavesAtFault P.called P.is_error P.tried peer.old peer.new self.now.observer.now) }
+    {
+        let leaving = self.observer.deregistration(console.alloc)?;
+        match self.print_notes(peer, console, buffer) {
+            Ok(end) => {
+                leave(peer, self.observer, &leaving, end, buffer)?;
+                Ok(end)
             }
-            Err(error)
+            Err(error) => {
+                if may_notify(&error) {
+                    let _ended = self.observer.deregister_by(peer, &leaving, buffer);
+                }
+                Err(error)
+            }
+        }
+    }
+
+    /// Registers, and prints the response and later notifications, one line each.
+    ///
+    /// It ends when as many lines were printed as are wanted, when the time is over, or when no
+    /// further notification comes. Each note came, each state is newer than the one before it (RFC
+    /// 7641, section 3.4), and none is printed twice. The blocks of a state of several blocks are
+    /// joined. If a newer notification arrives meanwhile, the state isn't printed. If its further
+    /// blocks can't be fetched, a line on `console.err` reports this.
+    ///
+    /// # Errors
+    /// Returns the reason as a [`NotesError`]. Some lines may have been printed.
+    pub fn print_notes<P: Peer, W: Write, E: Write>(
+        &self,
+        peer: &mut P,
+        console: &mut Console<W, E>,
+        buffer: &mut Buffer,
+    ) -> Result<ObservationEnd, NotesError>
+        ensures shown { IfOk result (λ end. HasShown P.went P.came P.is_time
+            (λ rs. MakesCalls (P.called peer.old) (P.called peer.new) (IsTimedObservation self.now.observer.now self.now.extent.seconds end rs))
+            self.now.observer.now self.now.shown (lines_wanted self.now.extent.count)
+            (written_to W.contents E.contents console.old) (written_to W.contents E.contents console.new) end) }
+        ensures fault { IfErr result (IsNotesFault P.went P.came P.is_time P.is_error P.called peer.old peer.new
+            self.now.observer.now self.now.extent.seconds) }
+    {
+        let (watch, count) = match self.print_first(
+            console.alloc,
+            peer,
+            &mut console.out,
+            buffer,
+        )? {
+            First::State(watch, count) => (watch, count),
+            First::Only(code) => return Ok(ObservationEnd::Last(code)),
+        };
+        begin_wait(peer, first_wait(self.extent.seconds))?;
+        let limit = TimeLimit {
+            seconds: self.extent.seconds,
+            start: watch.at,
+        };
+        let renderer = NoteRenderer {
+            observer: self.observer,
+            shown: self.shown,
+            limit,
+        };
+        let mut progress = Progress {
+            watch,
+            next_id: self.observer.id.wrapping_add(2),
+            buffer,
+        };
+        let mut next = Some(NotedMessage {
+            count,
+            time: limit.start,
+            last: false,
+        });
+        for _ in 0..lines_wanted(self.extent.count) {
+            let ended = renderer.print_line(peer, console, &mut progress, next)?;
+            match ended {
+                None => next = None,
+                Some(end) => return Ok(end),
+            }
+        }
+        Ok(ObservationEnd::Counted)
+    }
+
+    // Registers, and prints the response if it is the last.
+    fn print_first<P: Peer, W: Write>(
+        &self,
+        alloc: Global,
+        peer: &mut P,
+        out: &mut W,
+        buffer: &mut Buffer,
+    ) -> Result<First, NotesError>
+        ensures shown { IfOk result (IsFirstShown P.went P.came P.is_time self.now.observer.now self.now.shown
+            (W.contents out.old) (W.contents out.new) buffer.new) }
+        ensures called { IfOk result (λ first. MakesCalls (P.called peer.old) (P.called peer.new)
+            (IsFirstBy self.now.observer.now first)) }
+        ensures fault { IfErr result (IsFirstFault P.came P.is_error (MakesCalls (P.called peer.old) (P.called peer.new))
+            self.now.observer.now) }
+    {
+        let count = self.observer.register(alloc, peer, buffer)?;
+        let Ok(message) = read(&buffer[..count]) else {
+            unreachable!();
+        };
+        let at = time(peer)?;
+        match notice_of(&message) {
+            NotificationClass::State(sequence) => {
+                let watch = Observation::first(alloc, sequence, at, &message)?;
+                Ok(First::State(watch, count))
+            }
+            NotificationClass::Last => {
+                write_note(alloc, out, self.shown, message.code(), message.payload())?;
+                Ok(First::Only(message.code()))
+            }
+            NotificationClass::Older | NotificationClass::Malformed => Err(unfit(&message)),
         }
     }
 }
@@ -324,59 +413,6 @@ fn may_notify(error: &NotesError) -> bool
     )
 }
 
-/// Registers, and prints the response and later notifications, one line each.
-///
-/// It ends when as many lines were printed as are wanted, when the time is over, or when no further
-/// notification comes. Each note came, each state is newer than the one before it (RFC 7641, section
-/// 3.4), and none is printed twice. The blocks of a state of several blocks are joined. If a newer
-/// notification arrives meanwhile, the state isn't printed. If its further blocks can't be fetched,
-/// a line on `err` reports this.
-///
-/// # Errors
-/// Returns the reason as a [`NotesError`]. Some lines may have been printed.
-pub fn print_notes<P: Peer, W: Write, E: Write>(
-    alloc: Global,
-    peer: &mut P,
-    out: &mut W,
-    err: &mut E,
-    observer: &Observer<'_>,
-    shown: Shown,
-    extent: ObservationExtent,
-    buffer: &mut Buffer,
-) -> Result<ObservationEnd, NotesError>
-    ensures shown { IfOk result (λ end. HasShown P.went P.came P.is_time
-        (λ rs. MakesCalls (P.called peer.old) (P.called peer.new) (IsTimedObservation observer.now extent.seconds end rs)) observer.now shown (lines_wanted extent.count)
-        (record { out = W.contents out.old; err = E.contents err.old }) (record { out = W.contents out.new; err = E.contents err.new }) end) }
-    ensures fault { IfErr result (IsNotesFault P.went P.came P.is_time P.is_error P.called peer.old peer.new
-        observer.now extent.seconds) }
-{
-    let (mut watch, count) = match print_first(alloc, peer, out, observer, shown, buffer)? {
-        First::State(watch, count) => (watch, count),
-        First::Only(code) => return Ok(ObservationEnd::Last(code)),
-    };
-    begin_wait(peer, first_wait(extent.seconds))?;
-    let limit = TimeLimit {
-        seconds: extent.seconds,
-        start: watch.at,
-    };
-    let mut ids = observer.id.wrapping_add(2);
-    let mut next = Some(NotedMessage {
-        count,
-        time: limit.start,
-        last: false,
-    });
-    for _ in 0..lines_wanted(extent.count) {
-        let ended = print_line(
-            alloc, peer, out, err, observer, shown, limit, &mut watch, &mut ids, next, buffer,
-        )?;
-        match ended {
-            None => next = None,
-            Some(end) => return Ok(end),
-        }
-    }
-    Ok(ObservationEnd::Counted)
-}
-
 // Returns the maximum number of lines: at least one, and 2^64 - 1 without a limit.
 fn lines_wanted(count: Option<u32>) -> u64
     ensures wanted { result ≡ lines_wanted count }
@@ -394,37 +430,6 @@ fn lines_wanted(count: Option<u32>) -> u64
 enum First {
     State(Observation, usize),
     Only(Code),
-}
-
-// Registers, and prints the response if it is the last.
-fn print_first<P: Peer, W: Write>(
-    alloc: Global,
-    peer: &mut P,
-    out: &mut W,
-    observer: &Observer<'_>,
-    shown: Shown,
-    buffer: &mut Buffer,
-) -> Result<First, NotesError>
-    ensures shown { IfOk result (IsFirstShown P.went P.came P.is_time observer.now shown (W.contents out.old) (W.contents out.new) buffer.new) }
-    ensures called { IfOk result (λ first. MakesCalls (P.called peer.old) (P.called peer.new) (IsFirstBy observer.now first)) }
-    ensures fault { IfErr result (IsFirstFault P.came P.is_error (MakesCalls (P.called peer.old) (P.called peer.new)) observer.now) }
-{
-    let count = observer.register(alloc, peer, buffer)?;
-    let Ok(message) = read(&buffer[..count]) else {
-        unreachable!();
-    };
-    let at = time(peer)?;
-    match notice_of(&message) {
-        NotificationClass::State(sequence) => {
-            let watch = Observation::first(alloc, sequence, at, &message)?;
-            Ok(First::State(watch, count))
-        }
-        NotificationClass::Last => {
-            write_note(alloc, out, shown, message.code(), message.payload())?;
-            Ok(First::Only(message.code()))
-        }
-        NotificationClass::Older | NotificationClass::Malformed => Err(unfit(&message)),
-    }
 }
 
 // Returns the error for a response to the registration that can't be shown.

@@ -8,7 +8,7 @@ use fc_cli::command_line::{VERSION, parse, run_main};
 use fc_fetch::asking::ask_by;
 use fc_fetch::operation::{OBSERVE, Operation, PING, operation_of};
 use fc_fetch::ping::ping;
-use fc_fetch::{Asking, Observing, System, observe};
+use fc_fetch::{Asking, Console, Observing, System, observe};
 use std::alloc::Global;
 use std::fs::File;
 use std::io;
@@ -176,9 +176,13 @@ fn ask<R: Runtime + AllocGlobal + Net + RandomSource, E: Write>(
     asking: &Asking<'_>,
 ) -> anyhow::Result<Status> {
     let alloc = rt.alloc();
-    let mut out = BufWriter::new(alloc, io::writer(rt))?;
+    let mut console = Console {
+        alloc,
+        out: BufWriter::new(alloc, io::writer(rt))?,
+        err,
+    };
     let mut input = rt.reader();
-    Ok(ask_by(&System { rt }, rt, alloc, &mut input, &mut out, err, asking))
+    Ok(ask_by(&System { rt }, rt, &mut input, &mut console, asking))
 }
 
 // Observes the target of the command line, and returns the status. The socket is open while lines
@@ -190,11 +194,15 @@ fn observe_by<R: Runtime + AllocGlobal + Net + RandomSource, E: Write>(
     observing: &Observing<'_>,
 ) -> anyhow::Result<Status> {
     let alloc = rt.alloc();
-    let mut out = BufWriter::new(alloc, io::writer(rt))?;
+    let mut console = Console {
+        alloc,
+        out: BufWriter::new(alloc, io::writer(rt))?,
+        err,
+    };
     let _first = File::open(rt, NULL)?;
     let _second = File::open(rt, NULL)?;
     let _third = File::open(rt, NULL)?;
-    Ok(observe(rt, alloc, &mut out, err, observing))
+    Ok(observe(rt, &mut console, observing))
 }
 
 fn main(rt: HostRuntime) -> ExitCode {

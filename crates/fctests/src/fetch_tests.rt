@@ -12,7 +12,7 @@ use fc_fetch::observer::ObservationExtent;
 use fc_fetch::ping::ping;
 use fc_fetch::printer::{PrintError, write_answer};
 use fc_fetch::{
-    Asking, BodySource, FetchOptions, Observing, Pinging, Shown, System, fetch, observe,
+    Asking, BodySource, Console, FetchOptions, Observing, Pinging, Shown, System, fetch, observe,
 };
 use fc_fixtures::datagrams::joined;
 use fc_fixtures::faulty::{Unflushed, Unreadable};
@@ -105,8 +105,7 @@ fn a_request_has_the_type_the_method_and_the_body_that_are_asked_for(
             || answer_once(alloc, &server, answer, &[]),
             || {
                 let mut body = body;
-                let (mut out, mut err) = (Vec::new(alloc), Vec::new(alloc));
-                fetch(&rt, alloc, &mut body, &mut out, &mut err, &asking)
+                fetch(&rt, &mut body, &mut captured(alloc), &asking)
             },
         );
         assert!(rt;
@@ -145,9 +144,9 @@ fn an_observation_of_one_second_ends_in_seconds(rt: HostRuntime) -> Result<(), F
         &rt,
         || have_observer(alloc, &server),
         || {
-            let (mut out, mut err) = (Vec::new(alloc), Vec::new(alloc));
-            let ended = observe(&rt, alloc, &mut out, &mut err, &observing);
-            (ended, out)
+            let mut console = captured(alloc);
+            let ended = observe(&rt, &mut console, &observing);
+            (ended, console.out)
         },
     );
     had?;
@@ -212,6 +211,15 @@ fn observed(alloc: Global, socket: &UdpSocket) -> io::Result<(Vec<u8>, Vec<u8>)>
     Ok((registration, deregistration))
 }
 
+// Makes a console that keeps what is written to it.
+pub(crate) fn captured(alloc: Global) -> Console<Vec<u8>, Vec<u8>> {
+    Console {
+        alloc,
+        out: Vec::new(alloc),
+        err: Vec::new(alloc),
+    }
+}
+
 // Sends a request without a body. Returns the status and the output.
 fn fetched_from<R: Net + Clock + RandomSource>(
     rt: &R,
@@ -219,9 +227,9 @@ fn fetched_from<R: Net + Clock + RandomSource>(
     asking: &FetchOptions<'_>,
 ) -> (Status, Vec<u8>) {
     let mut body = b"".as_slice();
-    let (mut out, mut err) = (Vec::new(alloc), Vec::new(alloc));
-    let ended = fetch(rt, alloc, &mut body, &mut out, &mut err, asking);
-    (ended, out)
+    let mut console = captured(alloc);
+    let ended = fetch(rt, &mut body, &mut console, asking);
+    (ended, console.out)
 }
 
 // Observes with known random bytes. Returns the status and the output.
@@ -231,9 +239,9 @@ fn observed_by_known<R: Net + Clock>(
     observing: &Observing<'_>,
 ) -> (Status, Vec<u8>) {
     let known = Known { rt };
-    let (mut out, mut err) = (Vec::new(alloc), Vec::new(alloc));
-    let ended = observe(&known, alloc, &mut out, &mut err, observing);
-    (ended, out)
+    let mut console = captured(alloc);
+    let ended = observe(&known, &mut console, observing);
+    (ended, console.out)
 }
 
 // `--count 1` ends after the first response, and the token consists of the system's random bytes
@@ -292,11 +300,13 @@ fn a_request_without_room_is_told(rt: HostRuntime) {
     };
     let bytes = [7; 1263];
     let mut body = bytes.as_slice();
-    let (mut out, mut err) = (Vec::new(alloc), Vec::new(alloc));
-    let ended = fetch(&rt, alloc, &mut body, &mut out, &mut err, &asking);
-    assert!(rt; ended == Status::Bad && out.is_empty());
+    let mut console = captured(alloc);
+    let ended = fetch(&rt, &mut body, &mut console, &asking);
+    assert!(rt; ended == Status::Bad && console.out.is_empty());
     assert!(rt;
-        err.as_slice()
+        console
+            .err
+            .as_slice()
             .starts_with(b"the request has no room in a datagram")
     );
 }
@@ -319,11 +329,13 @@ fn a_registration_without_room_is_told(rt: HostRuntime) -> Result<(), Fail> {
             seconds: None,
         },
     };
-    let (mut out, mut err) = (Vec::new(alloc), Vec::new(alloc));
-    let ended = observe(&rt, alloc, &mut out, &mut err, &observing);
-    assert!(rt; ended == Status::Bad && out.is_empty());
+    let mut console = captured(alloc);
+    let ended = observe(&rt, &mut console, &observing);
+    assert!(rt; ended == Status::Bad && console.out.is_empty());
     assert!(rt;
-        err.as_slice()
+        console
+            .err
+            .as_slice()
             .starts_with(b"the request has no room in a datagram")
     );
     Ok(())
@@ -342,10 +354,10 @@ fn a_bad_target_of_an_observer_is_told(rt: HostRuntime) {
             seconds: None,
         },
     };
-    let (mut out, mut err) = (Vec::new(alloc), Vec::new(alloc));
-    let ended = observe(&rt, alloc, &mut out, &mut err, &observing);
-    assert!(rt; ended == Status::Bad && out.is_empty());
-    assert!(rt; err.as_slice() == b"a path begins with a slash, as /r/1\n".as_slice());
+    let mut console = captured(alloc);
+    let ended = observe(&rt, &mut console, &observing);
+    assert!(rt; ended == Status::Bad && console.out.is_empty());
+    assert!(rt; console.err.as_slice() == b"a path begins with a slash, as /r/1\n".as_slice());
 }
 
 // An error response of class 4 or 5 is printed, and the program ends with `Refused`.
@@ -389,10 +401,10 @@ fn a_bad_target_is_told(rt: HostRuntime) {
             shown: Shown::Hex,
         };
         let mut body = b"".as_slice();
-        let (mut out, mut err) = (Vec::new(alloc), Vec::new(alloc));
-        let ended = fetch(&rt, alloc, &mut body, &mut out, &mut err, &asking);
-        assert!(rt; ended == Status::Bad && out.is_empty(), "{target}");
-        assert!(rt; err.as_slice() == expected, "{target}");
+        let mut console = captured(alloc);
+        let ended = fetch(&rt, &mut body, &mut console, &asking);
+        assert!(rt; ended == Status::Bad && console.out.is_empty(), "{target}");
+        assert!(rt; console.err.as_slice() == expected, "{target}");
     }
 }
 
@@ -431,8 +443,7 @@ fn a_body_has_the_format_that_is_given(rt: HostRuntime) -> Result<(), Fail> {
         || answer_once(alloc, &server, [0x60, 0x44], &[]),
         || {
             let mut body = b"20".as_slice();
-            let (mut out, mut err) = (Vec::new(alloc), Vec::new(alloc));
-            fetch(&rt, alloc, &mut body, &mut out, &mut err, &asking)
+            fetch(&rt, &mut body, &mut captured(alloc), &asking)
         },
     );
     assert!(rt; asked?.as_slice() == b"\x40\x02\xb1\x72\x01\x31\x11\x32\x33x=1\xff20".as_slice());
@@ -463,11 +474,10 @@ fn ended_at<'a, R: Net + Clock + RandomSource + Files>(
         body,
         output,
     };
-    let (mut out, mut err) = (Vec::new(alloc), Vec::new(alloc));
-    let system = System { rt };
+    let mut console = captured(alloc);
     let mut input = Unreadable;
-    let ended = ask_by(&system, rt, alloc, &mut input, &mut out, &mut err, &asking);
-    (ended, out)
+    let ended = ask_by(&System { rt }, rt, &mut input, &mut console, &asking);
+    (ended, console.out)
 }
 
 // With `-n` or `-e`, a POST doesn't read the input. Without them a POST reads the input as its

@@ -3,6 +3,7 @@
 //! The expected bytes are worked out by hand.
 ghost use Rattle.std.specs.Prelude.{◌≤◌, IfSome, length};
 
+use crate::fetch_tests::captured;
 use crate::serving::{extent_of, serve_without_store, slots_without_store};
 use coap_msg::{Emission, Endpoint};
 use coap_opts::Method;
@@ -54,9 +55,7 @@ pub(crate) fn check_asked<R: Abort + Net + Clock + RandomSource + AllocGlobal>(
     status: Status,
     printed: &str,
 ) {
-    let alloc = rt.alloc();
-    let mut out = Vec::new(alloc);
-    let mut err = Vec::new(alloc);
+    let mut console = captured(rt.alloc());
     let asking = FetchOptions {
         confirmable: true,
         method,
@@ -66,11 +65,9 @@ pub(crate) fn check_asked<R: Abort + Net + Clock + RandomSource + AllocGlobal>(
         content_format: None,
         shown: Shown::Hex,
     };
-    let ended = fetch(rt, alloc, &mut payload, &mut out, &mut err, &asking);
-    assert!(rt;
-        ended == status && err.is_empty() && out.as_slice() == printed.as_bytes(),
-        "{path}"
-    );
+    let ended = fetch(rt, &mut payload, &mut console, &asking);
+    assert!(rt; ended == status && console.err.is_empty(), "{path}");
+    assert!(rt; console.out.as_slice() == printed.as_bytes(), "{path}");
 }
 
 // Installs a counter in slot 1, sends a POST and a GET to it, and sends a GET to the empty slot 2.
@@ -263,8 +260,7 @@ fn a_taken_port_is_status_3(rt: HostRuntime) -> Result<(), Fail> {
 fn a_refused_port_is_status_3(rt: HostRuntime) -> Result<(), Fail> {
     let alloc = rt.alloc();
     let port = free_port(&rt)?;
-    let mut out = Vec::new(alloc);
-    let mut err = Vec::new(alloc);
+    let mut console = captured(alloc);
     let asking = FetchOptions {
         confirmable: true,
         method: Method::Get,
@@ -275,9 +271,10 @@ fn a_refused_port_is_status_3(rt: HostRuntime) -> Result<(), Fail> {
         shown: Shown::Hex,
     };
     let mut payload: &[u8] = &[];
-    let ended = fetch(&rt, alloc, &mut payload, &mut out, &mut err, &asking);
+    let ended = fetch(&rt, &mut payload, &mut console, &asking);
     let told = b"UDP: Connection refused (os error 111)\n".as_slice();
-    assert!(rt; ended == Status::Failed && out.is_empty() && err.as_slice() == told);
+    assert!(rt; ended == Status::Failed);
+    assert!(rt; console.out.is_empty() && console.err.as_slice() == told);
     Ok(())
 }
 
@@ -354,10 +351,10 @@ fn observe_by_blocks<R: Abort + Net + Clock + RandomSource + AllocGlobal>(
             seconds: None,
         },
     };
-    let (mut out, mut err) = (Vec::new(alloc), Vec::new(alloc));
-    let ended = observe(rt, alloc, &mut out, &mut err, &observing);
-    assert!(rt; ended == Status::Done && err.is_empty());
-    assert!(rt; out.as_slice() == long_answer(alloc, " ")?.as_bytes());
+    let mut console = captured(alloc);
+    let ended = observe(rt, &mut console, &observing);
+    assert!(rt; ended == Status::Done && console.err.is_empty());
+    assert!(rt; console.out.as_slice() == long_answer(alloc, " ")?.as_bytes());
     Ok(())
 }
 

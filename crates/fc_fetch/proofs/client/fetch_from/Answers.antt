@@ -8,11 +8,11 @@ pub returns-in_err-fetch-clause-fault : goal.returns-in_err-fetch-clause-fault
 returns-in_err-fetch-clause-fault g c =
     let client_request = c.with_format-asked.result in
     raised c.from_residual.result c.in_err-fetch.field-0.0
-    (IsFaultOf g.P.Peer.went g.P.Peer.came g.P.Peer.is_error (MakesCalls (g.P.Peer.called c.args.peer.now) (g.P.Peer.called c.fetch.new.peer)) c.args.asking.now c.args.target
-    c.args.payload.now c.args.id) c.from_residual.ensures.1
+    (IsFaultOf g.P.Peer.went g.P.Peer.came g.P.Peer.is_error (MakesCalls (g.P.Peer.called c.args.peer.now) (g.P.Peer.called c.fetch.new.peer)) c.args.asking.now c.args.fields.target
+    c.args.fields.payload.now c.args.id) c.from_residual.ensures.1
     (record {
       client_request = client_request;
-      asks = asks c.args.asking.now c.args.target c.args.payload c.in-Some.asked client_request c.in-Some.ensures.client_request c.with_format-asked.ensures.format c.with_format-asked.ensures.others;
+      asks = asks c.args.asking.now c.args.fields.target c.args.fields.payload c.in-Some.asked client_request c.in-Some.ensures.client_request c.with_format-asked.ensures.format c.with_format-asked.ensures.others;
       stops = c.in_err-fetch.ensures.fault;
     })
 
@@ -21,7 +21,7 @@ returns-clause-asked g c =
     let client_request = c.with_format-asked.result in
     record {
       client_request = client_request;
-      asks = asks c.args.asking.now c.args.target c.args.payload c.in-Some.asked client_request c.in-Some.ensures.client_request c.with_format-asked.ensures.format c.with_format-asked.ensures.others;
+      asks = asks c.args.asking.now c.args.fields.target c.args.fields.payload c.in-Some.asked client_request c.in-Some.ensures.client_request c.with_format-asked.ensures.format c.with_format-asked.ensures.others;
       fetched = c.in_ok-fetch.ensures.fetched;
       whole = c.in_ok-fetch.ensures.whole;
     }

@@ -2,6 +2,7 @@ use Rattle.std.proofs.Common.{refl, subst, sym}
 use Rattle.coap_client.proofs.Failing.{raised}
 use Rattle.fc_fetch.specs.Observing.{IsClientRequestStop, IsObserveStop, IsObservedAt, IsObservedIn}
 use Rattle.coap_uri.specs.Resources.{IsResourceOf}
+use Rattle.fc_fetch.specs.Rendering.{written_to}
 use Rattle.fc_fetch.proofs.Asked.{err_of, nothing_named, observed_client_request, observed_nothing, ok_of}
 use Rattle.fc_fetch.proofs.observer.observe_to_end.Goals as goal
 
@@ -11,11 +12,11 @@ returns-in-Some-clause-ended g c =
     let client_request = c.in-Some.client_request in
     ok_of c.observe_client_request.result
     (IsObservedAt g.C.Connector.connected g.C.Connector.drawn g.C.Server.Peer.went g.C.Server.Peer.came g.C.Server.Peer.is_time g.C.Server.Peer.called c.args.observing.now client_request address.server
-    (record { out = g.W.Write.contents c.args.out.now; err = g.E.Write.contents c.args.err.now })
-    (record { out = g.W.Write.contents c.observe_client_request.new.out; err = g.E.Write.contents c.observe_client_request.new.err }))
+    (written_to g.W.Write.contents g.E.Write.contents c.args.console.now)
+    (written_to g.W.Write.contents g.E.Write.contents c.observe_client_request.new.console))
     (IsObservedIn g.C.Connector.connected g.C.Connector.drawn g.C.Server.Peer.went g.C.Server.Peer.came g.C.Server.Peer.is_time g.C.Server.Peer.called c.args.observing.now
-    (record { out = g.W.Write.contents c.args.out.now; err = g.E.Write.contents c.args.err.now })
-    (record { out = g.W.Write.contents c.observe_client_request.new.out; err = g.E.Write.contents c.observe_client_request.new.err }))
+    (written_to g.W.Write.contents g.E.Write.contents c.args.console.now)
+    (written_to g.W.Write.contents g.E.Write.contents c.observe_client_request.new.console))
     (λ end h. record {
       address = address;
       address_is = c.in_ok-address.ensures.address;
