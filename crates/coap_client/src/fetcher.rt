@@ -228,8 +228,8 @@ impl FetchState {
     }
 
     // Handles `message`, the response to the outstanding request, and returns the effect on the
-    // fetch. Unless the fetch ends, the next request is then outstanding. Returns `AllocError` if
-    // memory can't be allocated.
+    // fetch. The next request is then outstanding if the result is `GoesOn`; otherwise the attempt
+    // is over. Returns `AllocError` if memory can't be allocated.
     fn handle(
         &mut self,
         client_request: &ClientRequest<'_>,

@@ -181,7 +181,8 @@ fn bind<'a>(alloc: Global) -> Arg<'a> {
     .default_value("127.0.0.1")
 }
 
-// Makes the option for the number of workers of `fcd serve`; workers run long programs.
+// Makes the option for the number of workers of `fcd serve`. They run expensive jobs only: long
+// programs, and, with `--store`, changes that are saved.
 fn expensive_workers<'a>(alloc: Global) -> Arg<'a> {
     option(
         alloc,

@@ -134,10 +134,11 @@ fn are_arguments(vars_size: u16, arguments: Arguments, regs: &Regs) -> bool
     }
 }
 
-/// Returns whether the `count` bytes from `pointer` on are in its region.
+/// Returns whether a helper may read the `count` bytes from `pointer` on.
 ///
-/// The greatest value of `count` is checked. Returns `false` if `count` isn't a number of at most
-/// 65,535.
+/// They must be in the pointer's region, for each offset of `pointer` and the greatest value of
+/// `count`. The region of the variables has `vars_size` bytes. Returns `false` if `pointer` isn't a
+/// pointer, or if `count` isn't a number of at most 65,535.
 fn are_bytes(vars_size: u16, pointer: Kind, count: Kind) -> bool
     requires { IsKind pointer }
     ensures { result ≡ are_bytes vars_size pointer count }

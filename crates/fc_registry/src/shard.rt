@@ -571,8 +571,9 @@ impl Shard {
         true
     }
 
-    // Returns whether the observers at `place` are idle at `now`: no notification has timed out,
-    // and no observer has a pending one.
+    // Returns whether the observers at `place` are idle at `now`, in milliseconds. They are idle if
+    // no notification has timed out, and no observer has a pending one. The observers cache until
+    // when they are idle, so `self` is mutable. No contract sees the cache.
     fn check_idle_at(&mut self, now: u64, place: usize) -> bool
         requires { place < 8 }
         ensures idle { result ≡ is_idle_at (record self.old { now = now }) place }

@@ -258,8 +258,10 @@ impl SlotState {
         }
     }
 
-    // Returns the outcome of the commit of a ticket's run. For a run that has nothing to write, the
-    // ticket and the slot aren't compared.
+    // Returns what the commit of a ticket's run would do; the slot doesn't change here. A run that
+    // has nothing to write keeps the slot, and isn't compared with it. Otherwise the slot has changed
+    // since the ticket (`Overtakes`), its last serial is used (`Ends`), or the run's variables are to
+    // be written (`Writes`).
     fn outcome_of(&self, outcome: &Outcome<'_>, ticket: &Ticket<'_>) -> CommitOutcome
         requires { IsOwn outcome.now ticket.now (as_seen self.now) }
         ensures { ComesTo ticket.now (as_seen self.now) result }

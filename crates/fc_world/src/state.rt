@@ -117,8 +117,9 @@ impl WorldState {
 }
 
 impl WorldState {
-    // Makes a server with the initial state `begin`, and no tasks. Returns an error if memory can't
-    // be allocated.
+    // Makes a world before any event: a server with empty slots and the initial state `begin`, and
+    // no tasks. The serial of `begin` is at most 2^63 - 1, the last serial. Returns `AllocError` if
+    // memory can't be allocated.
     pub(crate) fn new(alloc: Global, begin: &Begin) -> Result<WorldState, AllocError>
         requires { CanBegin begin.now }
         ensures serves { IfOk result (λ w. Serves (begin_of begin.now) w.server []) }

@@ -360,7 +360,7 @@ fn run_in(
     OK
 }
 
-// Returns the method of a request for C.
+// Returns the method of a request from C.
 fn method_for(is_post: bool) -> Method
     ensures { result ≡ method_for is_post }
 {
