@@ -54,7 +54,7 @@ pub struct FetchOptions<'a> {
     pub shown: Shown,
 }
 
-/// The fields of a request that a server sees: its resource, and its body.
+/// The resource and the body of a request.
 #[derive(Drop)]
 pub struct RequestFields<'a> {
     pub target: RequestTarget<'a>,

@@ -237,7 +237,7 @@ fn observe_client_request<'a, C: Connector, W: Write, E: Write>(
     }
 }
 
-/// Prints the notes of an observer, in this form and to this extent.
+/// A printer of an observer's notes, with their form and the extent of the observation.
 #[derive(Clone, Copy)]
 pub struct NotePrinter<'a> {
     pub observer: &'a Observer<'a>,
@@ -248,8 +248,8 @@ pub struct NotePrinter<'a> {
 impl<'a> NotePrinter<'a> {
     /// Prints as [`print_notes`](NotePrinter::print_notes) does, and then may deregister.
     ///
-    /// It deregisters if the server may still notify. That may be so if a message can't be shown,
-    /// or if printing, memory, the socket or the clock failed.
+    /// It doesn't deregister after a last response. After an error it deregisters, unless the server
+    /// rejected the registration or sent no response to it.
     ///
     /// # Errors
     /// Returns the reason as a [`NotesError`]. Some lines may have been printed.

@@ -36,7 +36,7 @@ pub(crate) enum Rendered {
     Over,
 }
 
-// Renders the notes of an observer in this form, within a time limit.
+// A renderer of an observer's notes, with their form and a time limit.
 #[derive(Clone, Copy)]
 pub(crate) struct NoteRenderer<'a> {
     pub(crate) observer: &'a Observer<'a>,

@@ -9,7 +9,7 @@ ghost use Rattle.fc_ticket.specs.declared.job.Job.{Job};
 ghost use Rattle.fc_front.specs.Contents.{Content};
 ghost use Rattle.fc_server.specs.States.{ServerState};
 ghost use Rattle.fc_server.specs.declared.gauges.Gauges.{Gauges};
-ghost use Rattle.fc_backend.specs.Called.{CountsObservers};
+ghost use Rattle.fc_backend.specs.Called.{CountsObservers, ReadsGauges};
 ghost use Rattle.fc_backend.specs.Logs.{TrackedLog as Log};
 ghost use Rattle.fc_locked.specs.SharedStores.{HasSaved};
 ghost use Rattle.fc_record.specs.ProgramRequests.{Requested};
@@ -44,10 +44,13 @@ pub fn workers_record_answered_changes<D: Device, K: Store, M: TimeSource, W: Wi
         → after.calls ≡ before.calls }
 {}
 
-/// A pool's gauges have the numbers of observers of the first shard and of the last, 0 and 7.
+/// A pool's gauges are those that the front returns for their time, and have each shard's numbers.
 ///
-/// A shard returned them. If three jobs were sent to workers, the gauges have three.
-pub fn gauges_of_a_pool_have_each_shard<B: Bench, G: Gate, W: Wire, M: TimeSource>()
+/// The numbers of the first shard and of the last, 0 and 7, are those that the shard returns. If
+/// three jobs were sent to workers, the gauges have three.
+pub fn gauges_of_a_pool_are_of_its_front_and_shards<B: Bench, G: Gate, W: Wire, M: TimeSource>()
+    ensures front { (state : PooledIngress B.Tallies) (gauges : Gauges) → (pooled_calls ⟦<(B, G, W, M) as WorkerParts>⟧.view).tells_gauges 61500 state gauges
+        → B.called (ReadsGauges 61500 gauges.front) }
     ensures first { (now : ℕ) (state : PooledIngress B.Tallies) (gauges : Gauges) → (pooled_calls ⟦<(B, G, W, M) as WorkerParts>⟧.view).tells_gauges now state gauges
         → B.called (CountsObservers 0 (slice_index_or gauges.observers.shards 0 [])) }
     ensures last { (now : ℕ) (state : PooledIngress B.Tallies) (gauges : Gauges) → (pooled_calls ⟦<(B, G, W, M) as WorkerParts>⟧.view).tells_gauges now state gauges

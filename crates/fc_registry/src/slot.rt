@@ -258,8 +258,8 @@ impl SlotState {
         }
     }
 
-    // Returns what the commit of a ticket's run would do; the slot doesn't change here. A run that
-    // has nothing to write keeps the slot, and isn't compared with it. Otherwise the slot has changed
+    // Returns the outcome that the commit of a ticket's run would have. The slot doesn't change. A
+    // run that has nothing to write keeps the slot, and isn't compared with it. Otherwise the slot has changed
     // since the ticket (`Overtakes`), its last serial is used (`Ends`), or the run's variables are to
     // be written (`Writes`).
     fn outcome_of(&self, outcome: &Outcome<'_>, ticket: &Ticket<'_>) -> CommitOutcome

@@ -6,7 +6,7 @@ use crate::observer_counts::ObserverCounts;
 use fc_front::FrontGauges;
 use std::fmt;
 
-/// The gauges of a server at one time.
+/// Exchanges, transfers and observers at one time, and the jobs sent to workers by then.
 #[derive(Clone, Copy, Debug, PartialEq, Eq)]
 pub struct Gauges {
     /// The jobs that were sent to workers since the server's start.

@@ -70,7 +70,8 @@ pub trait Ingress {
 
     /// Returns the server's gauges at `now`, in milliseconds. Nothing changes.
     ///
-    /// They count what the server holds then, and the jobs that it sent to workers.
+    /// The gauges count exchanges, transfers and observers at that time, with limits, and the jobs
+    /// that the server has sent to workers since its start.
     fn gauges(&self, now: u64) -> Gauges
         ensures { calls.tells_gauges now self.now result };
 

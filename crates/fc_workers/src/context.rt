@@ -14,7 +14,7 @@ use std::sync::Wait;
 
 /// The context shared by all workers.
 ///
-/// Their threads are started, and wait, by the runtime `rt`.
+/// The runtime `rt` starts the workers' threads, and makes their waits.
 #[derive(Drop)]
 pub struct Context<'a, B: Bench, G: Gate, W: Wire, M: TimeSource, R: Wait> {
     pub rt: &'a R,
