@@ -43,8 +43,8 @@ pub fn slice(bytes: &[u8], block2: Option<Block>) -> Result<Cut<'_>, PastEnd>
     }
 }
 
-// Returns the block with this number and size exponent, for `slice`. Returns `PastEnd` if it isn't
-// the first, and begins at or past the body's end.
+// Returns the block with this number and size exponent, for `slice`. Returns `PastEnd` if the block
+// isn't the first, and begins at or past the body's end.
 fn cut_at(bytes: &[u8], number: u32, szx: u8) -> Result<Cut<'_>, PastEnd>
     requires number { number < 2 ^ 20 }
     requires szx { szx < 8 }

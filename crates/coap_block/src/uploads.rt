@@ -80,15 +80,17 @@ impl Uploads {
 
     /// Joins the payload of a PUT to the transfer of its endpoint and slot.
     ///
-    /// The transfer ends with its last block, with a block that is refused, and once it is idle for
-    /// 247,000 ms. Without a block the payload is the whole body, and no transfer changes.
+    /// Returns [`Added::Continue`] if more blocks follow, and [`Added::Whole`] with the body after
+    /// the last block. Without a block the payload is the whole body, and no transfer changes. The
+    /// transfer ends with its last block, with a block that is refused, and once it is idle for
+    /// 247,000 ms.
     ///
-    /// The first of these conditions that holds refuses a block:
+    /// The first of these conditions that holds refuses a block, and is the result:
     ///
-    /// - A transfer starts while 16 others are in progress.
-    /// - The block doesn't begin at the sum of the payloads before it.
-    /// - The payload has a wrong length.
-    /// - The body would have more than 8,208 bytes.
+    /// - [`Added::Full`]: a transfer starts while 16 others are in progress.
+    /// - [`Added::Incomplete`]: the block doesn't begin at the sum of the payloads before it.
+    /// - [`Added::BadLength`]: the payload has a wrong length.
+    /// - [`Added::TooLarge`]: the body would have more than 8,208 bytes.
     pub fn add(
         &mut self,
         now: u64,
@@ -106,9 +108,9 @@ impl Uploads {
         }
     }
 
-    /// Returns how many transfers are in progress at `now`.
+    /// Returns how many transfers are in progress at `now`, and removes none.
     ///
-    /// A transfer that was idle for 247,000 ms by then isn't in progress. None is removed.
+    /// A transfer that was idle for 247,000 ms by then isn't in progress.
     pub fn held_at(&self, now: u64) -> usize
         ensures { result ≡ length (live now self.entry.now) }
     {
@@ -163,8 +165,9 @@ fn expire(held: &mut Vec<Transfer>, now: u64)
     held.retain(|transfer| is_under_way(now, transfer));
 }
 
-// Returns the place of a block's transfer, which number 0 starts as the last one, without any bytes,
-// unless it is in progress.
+// Returns the place of a block's transfer. A block with the number 0 starts the transfer, empty and
+// in the last place, unless it is in progress. Returns `Full` if 16 others are in progress then.
+// Returns `Incomplete` for a later block whose transfer isn't in progress.
 fn place_for(
     held: &mut Vec<Transfer>,
     now: u64,
@@ -207,7 +210,7 @@ fn place_of(held: &[Transfer], endpoint: Endpoint, slot: u8) -> Option<usize>
         .position(|transfer| is_transfer_of(endpoint, slot, transfer))
 }
 
-// Moves the transfer at this place behind the others.
+// Moves the transfer at this place to the end of the list.
 fn move_last(held: &mut Vec<Transfer>, place: usize)
     requires { place < length held.old.items }
     ensures held { (d : Transfer) → held.new.items
@@ -220,8 +223,10 @@ fn move_last(held: &mut Vec<Transfer>, place: usize)
     }
 }
 
-// Appends a block's payload to its transfer in place, or refuses it. Number 0 removes the payloads
-// before it.
+// Appends a block's payload to its transfer, and sets the transfer's time to `now`. A block with
+// the number 0 first removes the payloads so far. Returns `Incomplete` if the block doesn't begin
+// at the sum of the payloads before it. Otherwise returns `BadLength` if the payload has a wrong
+// length, or `TooLarge` if the body would have more than 8,208 bytes.
 fn join(
     transfer: &mut Transfer,
     now: u64,
@@ -248,7 +253,8 @@ fn join(
     append(&mut transfer.body, payload)
 }
 
-// Appends a payload to a body, or refuses it if the body would then have more than 8,208 bytes.
+// Appends a payload to a body. Returns `TooLarge`, and appends nothing, if the body would then have
+// more than 8,208 bytes.
 fn append(body: &mut Body, payload: &[u8]) -> Result<(), UploadRefusal>
     ensures { joined_seen result body.new.items ≡ body_with body.old.items payload.now }
 {
@@ -259,7 +265,8 @@ fn append(body: &mut Body, payload: &[u8]) -> Result<(), UploadRefusal>
     Ok(())
 }
 
-// Returns a payload without a block as the whole body, or its refusal.
+// Returns a payload without a block as the whole body, or `TooLarge` if it has more than 8,208
+// bytes.
 fn whole(payload: &[u8]) -> Added
     ensures { add_seen result ≡ body_with [] payload.now }
 {

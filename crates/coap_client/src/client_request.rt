@@ -181,11 +181,11 @@ impl<'a> ClientRequest<'a> {
         Ok(())
     }
 
-    /// Writes the GET of a further block of a state, for an observer.
+    /// Writes an observer's request for a further block of a state: a GET with Block2.
     ///
-    /// See [`Observer::ask_block`](crate::Observer::ask_block). The request's message ID and its
-    /// token are `id`. It has no body and no Observe. The request replaces the contents of
-    /// `datagram`.
+    /// The block has the number `number`, and `szx` is the exponent of its size, less 4. The
+    /// request is confirmable. `id` is the request's message ID and, in two bytes, its token. The
+    /// request has no body and no Observe. It replaces the contents of `datagram`.
     ///
     /// # Errors
     /// Returns `AllocError` if memory can't be allocated for the list of options.
@@ -311,7 +311,8 @@ fn method_code(method: Method) -> Code
     }
 }
 
-// Returns the maximum number of bytes of a body in one request, if the body has `count` bytes.
+// Returns the maximum number of bytes of a body in one request, if the body has `count` bytes: at
+// most 1,024 for PUT, and else `count`.
 fn most_at_once(method: Method, count: usize) -> usize
     ensures { result ≡ spec.most_at_once method count }
 {

@@ -44,7 +44,9 @@ pub trait Peer {
         ensures called { OnOk result (Adds (called self.old) (called self.new) (Sends datagram.now.items ∷ [])) }
         ensures error { IfErr result is_error };
 
-    /// Begins a wait of `seconds` seconds.
+    /// Begins a wait that ends `seconds` seconds from now, and returns immediately.
+    ///
+    /// `receive` returns `None` once the wait has ended. The new wait replaces the one before.
     ///
     /// # Errors
     /// Returns an error if there is no clock.

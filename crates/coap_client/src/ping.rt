@@ -34,7 +34,7 @@ pub fn ping<P: Peer>(peer: &mut P, id: u16) -> Result<(), FetchFault>
 }
 
 // Waits for the Reset message with this message ID. Returns `true` if it arrives, and `false` if
-// the wait is over. Other datagrams are skipped.
+// the wait ends before. Skips other datagrams. Returns `FetchFault::Socket` if receiving fails.
 fn is_rejected<P: Peer>(peer: &mut P, id: u16, buffer: &mut Buffer) -> Result<bool, FetchFault>
     ensures pong { IfOk result (λ is. OnTrue is (CamePong P.came id)) }
     ensures called { IfOk result (λ is. MakesCalls (P.called peer.old) (P.called peer.new) (IsOverUnlessPong id is)) }

@@ -113,9 +113,10 @@ pub fn ask<'b, P: Peer>(
     Ok(Some(message))
 }
 
-// Sends a confirmable or a non-confirmable request, and waits for the response. Unlike `ask`, it
-// doesn't acknowledge the response. Returns the length of the response in bytes, or `None` if none
-// arrives. Returns `FetchFault::Rejected` after a Reset message.
+// Sends a confirmable or a non-confirmable request, and waits for the response. Doesn't acknowledge
+// the response, unlike `ask`. Returns the length of the response in bytes, or `None` if none
+// arrives. Returns `FetchFault::Rejected` after a Reset message, and `FetchFault::Socket` if the
+// peer returns an error.
 fn transmit<P: Peer>(
     peer: &mut P,
     request: &SentRequest<'_>,
@@ -136,7 +137,8 @@ fn transmit<P: Peer>(
 }
 
 // Sends a confirmable request up to five times, and waits for the response. Returns the length of
-// the response in bytes, or `None` if none arrives.
+// the response in bytes, or `None` if none arrives. Returns `FetchFault::Rejected` after a Reset
+// message, and `FetchFault::Socket` if the peer returns an error.
 fn ask_again<P: Peer>(
     peer: &mut P,
     request: &SentRequest<'_>,
@@ -164,7 +166,8 @@ fn ask_again<P: Peer>(
 }
 
 // Sends a non-confirmable request once, and waits for the response. Returns the length of the
-// response in bytes, or `None` if none arrives.
+// response in bytes, or `None` if none arrives. Returns `FetchFault::Rejected` after a Reset
+// message, and `FetchFault::Socket` if the peer returns an error.
 fn ask_once<P: Peer>(
     peer: &mut P,
     request: &SentRequest<'_>,
@@ -196,7 +199,8 @@ pub fn send<P: Peer>(peer: &mut P, request: &Datagram, seconds: u64) -> Result<(
 }
 
 // Waits for a separate response, since the request was acknowledged or is non-confirmable. Returns
-// the length of the response in bytes, or `None` if none arrives.
+// the length of the response in bytes, or `None` if none arrives. Returns `FetchFault::Rejected`
+// after a Reset message, and `FetchFault::Socket` if the peer returns an error.
 fn await_separate<P: Peer>(
     peer: &mut P,
     request: &SentRequest<'_>,
@@ -218,7 +222,8 @@ fn await_separate<P: Peer>(
 // Receives datagrams until one ends the wait or the wait is over; other datagrams are skipped.
 // `awaited` says whether a separate response is awaited. Returns `Answer` for a response,
 // `Acknowledged` for an empty acknowledgement, or `Nothing` if the wait is over. Returns
-// `FetchFault::Rejected` after a Reset message.
+// `FetchFault::Rejected` after a Reset message, and `FetchFault::Socket` if the peer returns an
+// error.
 fn listen<P: Peer>(
     peer: &mut P,
     request: &SentRequest<'_>,
@@ -261,7 +266,8 @@ pub fn is_passed_over(awaited: bool, handled: ReplyClass) -> bool
 }
 
 // Classifies a datagram with respect to a request; a datagram that encodes no message is `Other`.
-// Acknowledges a confirmable response that was received before again (RFC 7252, section 4.2).
+// Acknowledges again a confirmable response that was received before (RFC 7252, section 4.2).
+// Returns `FetchFault::Socket` if sending fails.
 fn handle_from<P: Peer>(
     peer: &mut P,
     request: &SentRequest<'_>,
@@ -313,6 +319,7 @@ fn handle_message(request: &SentRequest<'_>, message: &Message<'_>) -> ReplyClas
 }
 
 // Acknowledges a confirmable message (RFC 7252, section 4.2). Sends nothing for any other datagram.
+// Returns `FetchFault::Socket` if sending fails.
 pub fn acknowledge<P: Peer>(peer: &mut P, bytes: &[u8]) -> Result<(), FetchFault>
     ensures went { OnOk result ((m : wire.Message) → reading_of bytes.now ≡ Ok m → m.kind ≡ Confirmable
         → P.went (message_bytes (acknowledgement m.id))) }
@@ -326,6 +333,7 @@ pub fn acknowledge<P: Peer>(peer: &mut P, bytes: &[u8]) -> Result<(), FetchFault
 }
 
 // Acknowledges a confirmable message (RFC 7252, section 4.2). Sends nothing for any other message.
+// Returns `FetchFault::Socket` if sending fails.
 fn acknowledge_message<P: Peer>(peer: &mut P, message: &Message<'_>) -> Result<(), FetchFault>
     ensures went { OnOk result (message.now.kind ≡ Confirmable → P.went (message_bytes (acknowledgement message.now.id))) }
     ensures called { OnOk result (Adds (P.called peer.old) (P.called peer.new) (acknowledges_kind message.now.kind message.now.id)) }

@@ -68,7 +68,8 @@ impl<'a, T: Ticks> UdpPeer<'a, T> {
         })
     }
 
-    // Returns the time that is left of the wait, or zero if the wait is over.
+    // Returns the time that is left of the wait, or zero if the wait is over. Returns the clock's
+    // error if the clock can't be read.
     fn left(&self) -> io::Result<Duration>
         ensures left { IfOk result (IsLeftOf T.is_read self.now.until) }
         ensures error { IfErr result T.is_error }
@@ -85,9 +86,10 @@ impl<'a, T: Ticks> UdpPeer<'a, T> {
     }
 
     // Waits up to `left` for a datagram, and returns its length in bytes. Returns `None` if nothing
-    // arrived, or if a signal interrupted the wait. A datagram from another host is ignored: it may
-    // have arrived before the socket was connected. A datagram that fills the buffer is ignored
-    // too, since it may be truncated.
+    // arrives, or if a signal interrupts the wait. Returns `None` for a datagram from another
+    // address or port, which may have arrived before the socket was connected. Returns `None` for a
+    // datagram that fills the buffer, since it may be truncated. Returns any other error of the
+    // socket.
     fn receive_once(&self, left: Duration, buffer: &mut Buffer) -> io::Result<Option<usize>>
         ensures whole { IfOk result (λ r. IfSome r (λ count. count < length buffer.new)) }
         ensures error { IfErr result (λ e. is_transient (error_kind e) ≡ false) }

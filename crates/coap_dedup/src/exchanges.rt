@@ -92,7 +92,9 @@ impl Exchanges {
 
     /// Expires exchanges past their lifetime, and classifies a request.
     ///
-    /// `endpoint` and `id` are the request's endpoint and message ID.
+    /// `endpoint` and `id` are the request's endpoint and message ID. Returns [`Looked::New`] if no
+    /// stored exchange has them. Otherwise the request is a duplicate, and the result has its
+    /// class.
     pub fn look(&mut self, now: u64, endpoint: Endpoint, id: u16) -> Looked
         requires { self.old.now ≤ now }
         ensures looked { look_of result (room_at (expired self.old now) endpoint.ip) ≡ look_at (expired self.old now) endpoint id }
@@ -111,7 +113,9 @@ impl Exchanges {
 
     /// Returns the room for a new request from an address.
     ///
-    /// An address that has reached its share has no room, whatever else is stored.
+    /// Returns [`Room::OverShare`] if the address has reached its share, whatever else is stored.
+    /// Otherwise returns [`Room::Full`] if there is no place for another exchange, and else
+    /// [`Room::Free`].
     pub fn room(&self, ip: [u8; 4]) -> Room
         ensures { result ≡ room_at self.entry.now ip }
     {
@@ -190,7 +194,7 @@ impl Exchanges {
         self.requests.expire(now);
     }
 
-    /// Returns how many exchanges are within their lifetime at `now`. None is expired.
+    /// Returns how many exchanges are within their lifetime at `now`, and expires none.
     pub fn held_at(&self, now: u64) -> usize
         ensures { result ≡ length (expired self.entry.now now).held }
     {

@@ -46,7 +46,8 @@ impl Model for Requests {
 }
 
 impl Requests {
-    // Makes an empty buffer with room for `capacity` requests.
+    // Makes an empty buffer with room for `capacity` requests. Returns `AllocError` if memory can't
+    // be allocated.
     pub(crate) fn new(alloc: Global, capacity: usize) -> Result<Requests, AllocError>
         requires { capacity ≤ 65536 }
         ensures { IfOk result (λ x. x ≡ buffer [] capacity) }
@@ -149,8 +150,8 @@ impl Requests {
             .count()
     }
 
-    // Removes the oldest request, which has this key. It isn't inlined, since its caller usually
-    // finds that no request has expired.
+    // Removes the oldest request, which has this key. The function isn't inlined, since its caller
+    // usually finds that no request has expired.
     #[inline(never)]
     fn pop(&mut self, key: Key)
         requires { option_map (λ o. o.key) (slice_get self.old.items 0) ≡ Some key }
@@ -185,9 +186,10 @@ impl Requests {
         Err(low)
     }
 
-    // Returns whether fewer than `share` requests are of an address. The keys of an address are
-    // adjacent in the order of keys, so the key at the end of a full share decides. It isn't
-    // inlined: its caller usually finds fewer requests than a share, and doesn't call it.
+    // Returns whether fewer than `share` of the stored requests are from an address. The keys of an
+    // address are adjacent in the order of keys, so the key at the end of a full share decides. The
+    // function isn't inlined: its caller usually finds fewer requests than a share, and doesn't
+    // call the function.
     #[inline(never)]
     pub(crate) fn are_fewer(&self, ip: [u8; 4], share: usize) -> bool
         ensures { result ≡ nat_lt (length (filter (is_of_address ip) self.now.items)) share }
@@ -202,7 +204,8 @@ impl Requests {
         !self.at(self.first(), start + (share - 1)).key.is_of(ip)
     }
 
-    // Returns the index of an address's first request in the order of keys, or its insertion point.
+    // Returns the index, in the order of keys, of an address's first request. If there is no such
+    // request, returns the index at which it would be.
     fn start_of(&self, ip: [u8; 4]) -> usize
         ensures start { IsStart ip (keys (by_key self.now.items)) result }
         ensures bytes { AreBytes ip }
@@ -212,7 +215,7 @@ impl Requests {
         }
     }
 
-    // Returns the number of the oldest request, or 0 if none is stored.
+    // Returns the number of the oldest stored request, or 0 if none is stored.
     fn first(&self) -> u64
         ensures { IsOldest self.now.items result }
     {
@@ -237,7 +240,7 @@ impl Requests {
     }
 }
 
-// Returns the low 16 bits of a number. No two stored requests have the same.
+// Returns the low 16 bits of a number. Two stored requests never have the same low bits.
 fn low_bits(number: u64) -> u16
     ensures { result ≡ number % 65536 }
 {

@@ -131,7 +131,8 @@ impl Joining {
     }
 
     // Handles `message`, the response to the request for the next block, and returns its effect.
-    // Sets the next block, unless the joining ends.
+    // Sets the next block, unless the joining ends. Returns `AllocError` if memory can't be
+    // allocated.
     fn handle(&mut self, message: &Message<'_>) -> Result<Step, AllocError>
         requires { IsBlock self.old.number self.old.szx }
         ensures own { OnOk result (IsBlock self.new.number self.new.szx) }
@@ -156,8 +157,9 @@ impl Joining {
         }
     }
 
-    // Sets the next block, that of `part`. Appends the payload of `message`, the response before
-    // it, and replaces the ETag by that response's.
+    // Sets the next block to that of `part`. Appends the payload of `message`, the response to the
+    // request before, and replaces the ETag by that of `message`. Returns `AllocError` if memory
+    // can't be allocated.
     fn go_on(&mut self, part: Part, message: &Message<'_>) -> Result<(), AllocError>
         requires { IsFurther part }
         ensures own { OnOk result (IsBlock self.new.number self.new.szx) }
@@ -178,16 +180,20 @@ impl Joining {
 impl Observation {
     /// Requests the further blocks of a state, one after the other, and joins them.
     ///
+    /// Returns [`Completion::Whole`] with the joined blocks, or [`Completion::Newer`] after a
+    /// notification that is to be shown. Returns [`Completion::Unfetched`] if the blocks can't be
+    /// fetched.
+    ///
     /// Each block follows the response with the block before it. The message IDs count up from
     /// `ids`, which is the next message ID afterwards; those of the registration and of the
     /// deregistration are skipped. Confirmable notifications that arrive meanwhile are
-    /// acknowledged. A notification that is to be shown ends the joining, and is at the start of
-    /// `buffer`. It is recorded as shown if it is a state. After a notification that isn't newer,
-    /// the same block is requested again.
+    /// acknowledged. A notification that is to be shown is at the start of `buffer`. It is recorded
+    /// as shown if it is a state. After a notification that isn't newer, the client requests the
+    /// block again.
     ///
     /// # Errors
-    /// Returns an error if a notification can't be shown, or if sending, receiving or allocating
-    /// memory fails.
+    /// Returns an error if a notification can't be shown, or if sending, receiving, reading the
+    /// clock or allocating memory fails.
     pub fn complete<P: Peer>(
         &mut self,
         alloc: Global,
@@ -228,7 +234,8 @@ impl Observation {
 
     // Handles the message that ended the wait for a block: the block, or a notification. Returns
     // the message's effect. The message is the first `count` bytes of `buffer`; `id` is the
-    // request's message ID.
+    // request's message ID. Returns an error if a notification can't be shown, if the clock can't
+    // be read, or if memory can't be allocated.
     fn handle_block<P: Peer>(
         &mut self,
         peer: &mut P,
@@ -266,8 +273,8 @@ impl Observation {
     }
 
     // Returns a notification if it is to be shown, and records it as shown if it is a state.
-    // Returns `None` if it isn't newer or is a duplicate, and `FetchFault::Part` if it can't be
-    // shown.
+    // Returns `None` if the notification isn't newer or is a duplicate. Returns `FetchFault::Part`
+    // if the notification can't be shown, and `FetchFault::Memory` if memory can't be allocated.
     fn note(
         &mut self,
         came: DatedMessage,
@@ -298,8 +305,8 @@ impl Observation {
     }
 }
 
-// Returns the message ID of a request for a further block, if `next` is the next one. Skips the
-// IDs of the registration and of the deregistration.
+// Returns the message ID of a request for a further block: `next`, or the observer's third ID. The
+// observer's first two IDs are skipped, since the registration and the deregistration have them.
 fn block_id(observer: &Observer<'_>, next: u16) -> u16
     ensures { result ≡ block_id observer.now next }
 {

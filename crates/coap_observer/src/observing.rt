@@ -110,8 +110,9 @@ impl<'a> Observer<'a> {
     //
     // The request has the token `own` and the message ID `id`; notifications have the observer's
     // token. Writes the response or the notification to the start of `buffer`, and returns its
-    // length in bytes. The caller has to acknowledge it. Returns `None` if neither arrives, and
-    // `FetchFault::Rejected` after a Reset message for the request.
+    // length in bytes. The caller has to acknowledge that message. Returns `None` if neither
+    // arrives. Returns `FetchFault::Rejected` after a Reset message for the request, and
+    // `FetchFault::Socket` if the peer returns an error.
     fn ask<P: Peer>(
         &self,
         own: &[u8],
@@ -142,8 +143,9 @@ impl<'a> Observer<'a> {
     }
 
     // Waits for the response to an acknowledged request, or for a notification. Returns the length
-    // of the one that arrives, or `None` if neither arrives. Returns `FetchFault::Rejected` if the
-    // request is rejected.
+    // in bytes of the message that arrives, or `None` if neither arrives. Returns
+    // `FetchFault::Rejected` if the request is rejected, and `FetchFault::Socket` if the peer
+    // returns an error.
     fn await_answer<P: Peer>(
         &self,
         own: &[u8],
@@ -277,7 +279,9 @@ impl<'a> Observer<'a> {
 
     /// Deregisters with the request from [`Observer::deregistration`].
     ///
-    /// It does the same as [`Observer::deregister`], but allocates no memory.
+    /// Sends the confirmable request until it is acknowledged. Confirmable notifications that
+    /// arrive before that are acknowledged, and not shown. Allocates no memory, unlike
+    /// [`Observer::deregister`].
     ///
     /// # Errors
     /// Returns an error if no acknowledgement arrives, if the request is rejected, or if sending or
@@ -362,7 +366,8 @@ impl Observation {
 
 // Receives the next notification during a wait, and skips other datagrams. Acknowledges the
 // notification if it is confirmable, and then reads the clock. The notification is at the start of
-// `buffer`. Returns its length and the time, or `None` if the wait is over.
+// `buffer`. Returns its length in bytes and the time in milliseconds, or `None` if the wait is
+// over. Returns `FetchFault::Socket` if the peer returns an error.
 fn handle<P: Peer>(
     peer: &mut P,
     token: &[u8],
@@ -430,8 +435,9 @@ fn handle_message(token: &[u8], own: &[u8], id: u16, message: &Message<'_>) -> R
 
 // Waits for an acknowledgement of the deregistration with this message ID, with or without a
 // response. Returns `true` if one arrives, and `false` if the wait is over. Returns
-// `FetchFault::Rejected` after a Reset message. Confirmable notifications with the token are
-// acknowledged, since the server would otherwise retransmit them (RFC 7641, section 3.5).
+// `FetchFault::Rejected` after a Reset message, and `FetchFault::Socket` if the peer returns an
+// error. Confirmable notifications with the token are acknowledged, since the server would
+// otherwise retransmit them (RFC 7641, section 3.5).
 fn is_acknowledged<P: Peer>(
     peer: &mut P,
     token: &[u8],
@@ -459,7 +465,8 @@ fn is_acknowledged<P: Peer>(
     Ok(false)
 }
 
-// Acknowledges a confirmable notification with this token, and ignores any other datagram.
+// Acknowledges a confirmable notification with this token, and ignores any other datagram. Returns
+// `FetchFault::Socket` if sending fails.
 fn acknowledge_notification<P: Peer>(
     peer: &mut P,
     token: &[u8],

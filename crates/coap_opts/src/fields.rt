@@ -16,7 +16,9 @@ use crate::path::resource_named;
 use crate::request::Resource;
 use crate::uint::decode_uint;
 
-/// Decodes an integer whose option allows at most 2 bytes.
+/// Returns the integer in the first value of an option, or `None` if no value is stored.
+///
+/// The option has the number `number`, and its row allows at most 2 bytes.
 pub(crate) fn u16_of(firsts: &Firsts<'_>, number: u16) -> Option<u16>
     requires short { AreShort firsts.now }
     requires allows { allows_at_most 2 (row_of number) ≡ true }
@@ -33,7 +35,9 @@ fn decode_u16(bytes: &[u8]) -> u16
     decode_uint(bytes) as u16
 }
 
-/// Decodes an integer whose option allows at most 3 bytes.
+/// Returns the integer in the first value of an option, or `None` if no value is stored.
+///
+/// The option has the number `number`, and its row allows at most 3 bytes.
 pub(crate) fn u24_of(firsts: &Firsts<'_>, number: u16) -> Option<u32>
     requires short { AreShort firsts.now }
     requires allows { allows_at_most 3 (row_of number) ≡ true }
@@ -50,7 +54,9 @@ fn decode_u24(bytes: &[u8]) -> u32
     decode_uint(bytes) as u32
 }
 
-/// Decodes the value of Block1 or Block2.
+/// Returns the block in the first value of an option, or `None` if no value is stored.
+///
+/// The option has the number `number`, that of Block1 or Block2.
 pub(crate) fn block_of(firsts: &Firsts<'_>, number: u16) -> Option<Block>
     requires short { AreShort firsts.now }
     requires allows { allows_at_most 3 (row_of number) ≡ true }

@@ -49,7 +49,7 @@ impl<'a> Firsts<'a> {
         }
     }
 
-    /// Returns the first value of the option with this number, if there is one.
+    /// Returns the first value of the option with this number, or `None` if no value is stored.
     pub(crate) fn of(&self, number: u16) -> Option<&'a [u8]>
         ensures { lent result ≡ first_at self.now number }
     {

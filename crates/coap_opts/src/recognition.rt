@@ -10,9 +10,10 @@ use crate::number::{
 use crate::served::{OPTIONS, ROWS, Row};
 use coap_msg::Code;
 
-/// Returns the place in [`OPTIONS`] of the row with this option number, if there is one.
+/// Returns the place in [`OPTIONS`] of the row with this option number.
 ///
-/// The numbers stand in the order of the table: a row's place is its index there.
+/// Returns `None` if no row has the number. The numbers stand in the order of the table: a row's
+/// place is its index there.
 #[tactic(auto, unfolding(crate::specs::Recognition::row_place, crate::specs::Served::rows))]
 #[inline(always)]
 pub(crate) fn row_place(number: u16) -> Option<usize>
@@ -35,11 +36,11 @@ pub(crate) fn row_place(number: u16) -> Option<usize>
     }
 }
 
-/// Returns the place of an option's row, if the option is recognised in a message with this code.
+/// Returns the place of an option's row, or `None` if the option isn't recognised.
 ///
-/// A recognised option is known, has a legal length and is defined for the method. It doesn't
-/// repeat a non-repeatable option (RFC 7252, sections 5.4.1, 5.4.3 and 5.4.5). `before` is the
-/// number of the message's previous option, if there is one.
+/// `code` is the message's code. A recognised option is known, has a legal length and is defined
+/// for the method. It doesn't repeat a non-repeatable option (RFC 7252, sections 5.4.1, 5.4.3 and
+/// 5.4.5). `before` is the number of the message's previous option, if there is one.
 #[tactic(auto, unfolding(crate::specs::Recognition::is_recognised))]
 pub(crate) fn recognised_place(
     code: Code,

@@ -101,7 +101,7 @@ fn fit_head(code: Code, id: u16)
     let _ = id;
 }
 
-// Encodes an ETag in 8 bytes; `None` if there is none.
+// Returns the value of an ETag option, 8 bytes, or `None` if the response has no ETag.
 fn etag_bytes(version: Option<u64>) -> Option<UintBytes>
     ensures { option_map (λ v. v.items) result ≡ option_map (to_be_bytes w64) version }
 {
@@ -111,21 +111,21 @@ fn etag_bytes(version: Option<u64>) -> Option<UintBytes>
     Some(bytes)
 }
 
-// Encodes the value of Observe; `None` if there is none.
+// Returns the value of an Observe option, or `None` if the response has no sequence number.
 fn observe_bytes(sequence: Option<u32>) -> Option<UintBytes>
     ensures { option_map (λ v. v.items) result ≡ option_map uint_bytes sequence }
 {
     Some(encode_uint(u64::from(sequence?)))
 }
 
-// Encodes the value of Content-Format; `None` if there is none.
+// Returns the value of a Content-Format option, or `None` if the response has no format.
 fn format_bytes(format: Option<u16>) -> Option<UintBytes>
     ensures { option_map (λ v. v.items) result ≡ option_map uint_bytes format }
 {
     Some(encode_uint(u64::from(format?)))
 }
 
-// Encodes the value of Block1 or Block2; `None` if there is none.
+// Returns the value of a Block1 or Block2 option, or `None` if the response has no such block.
 fn block_bytes(block: Option<Block>) -> Option<UintBytes>
     ensures { option_map (λ v. v.items) result ≡ option_map spec.block_bytes block }
 {

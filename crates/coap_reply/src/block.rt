@@ -52,7 +52,8 @@ impl<'a> BodyBlock<'a> {
     }
 }
 
-// Returns the requested block, with a size that isn't reserved.
+// Returns the requested block, or `None` if no block is requested. A block of the reserved size
+// becomes one of 1,024 bytes.
 fn asked_block(asked: Option<Block>) -> Option<Block>
     ensures { result ≡ option_map asked_place asked }
 {

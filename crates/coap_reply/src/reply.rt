@@ -161,8 +161,8 @@ pub fn reset(to: Endpoint, id: u16, emission: &mut Emission)
 // Number of sequence numbers (RFC 7641, section 4.4).
 const SEQUENCE_NUMBERS: u64 = 0x0100_0000;
 
-// Returns the options of a 2.05: the ETag of a revision counter. If the client observes the slot,
-// also the sequence number, which is the counter's lowest 24 bits.
+// Returns the options of a 2.05: the ETag of a revision counter and, if `observed`, the sequence
+// number. The sequence number is the counter's lowest 24 bits.
 fn version(serial: u64, observed: bool) -> ReplyOptions
     ensures options { reply_options result ≡ etag serial ++ observe_option observed serial }
     ensures blocks { HasNoBlock result }

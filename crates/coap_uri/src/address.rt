@@ -95,8 +95,8 @@ fn is_uri(text: &str) -> bool
     text.contains("://") && !text.starts_with('/')
 }
 
-// Parses a path, with its query, at a port of this host. Escapes aren't decoded. Returns
-// `AddressError::NoMemory` if memory can't be allocated.
+// Returns the address of a path with its query, at this port of 127.0.0.1. Escapes aren't decoded.
+// Returns `AddressError::NoMemory` if memory can't be allocated.
 fn at_port(alloc: Global, text: &str, port: u16) -> Result<Address, AddressError>
     ensures address { IfOk result (IsAtPort text.now port) }
     ensures memory { IfErr result (λ error. error ≡ NoMemory) }
@@ -120,7 +120,8 @@ fn split_query(text: &str) -> (&str, &str)
     }
 }
 
-// Splits a query at each `&`, without reading escapes. An empty text has no arguments.
+// Splits a query at each `&`, and leaves escapes as they are. An empty query has no arguments.
+// Returns `AllocError` if memory can't be allocated.
 fn arguments(alloc: Global, query: &str) -> Result<Vec<Vec<u8>>, AllocError>
     ensures { IfOk result (λ v. texts_in v.items ≡ plain_pieces 38 query.now) }
 {
@@ -192,7 +193,7 @@ fn host_of(name: &str) -> Option<Ipv4Addr>
 }
 
 // Returns the segments of a URI's path, with their escapes decoded. Returns `AddressError::Escape`
-// if a decoded segment contains a slash.
+// if a decoded segment contains a slash, and `AddressError::NoMemory` if memory can't be allocated.
 fn whole_segments_of(alloc: Global, path: &str) -> Result<Vec<Vec<u8>>, AddressError>
     ensures segments { IfOk result (λ v. texts_in v.items ≡ segments_in path.now) }
     ensures whole { IfOk result (λ v. list_any has_slash (segments_in path.now) ≡ false) }
@@ -205,8 +206,9 @@ fn whole_segments_of(alloc: Global, path: &str) -> Result<Vec<Vec<u8>>, AddressE
     Ok(segments)
 }
 
-// Returns the segments of a URI's path, with their escapes decoded. The path `/` has none (RFC
-// 7252, section 6.4), nor has a path that doesn't begin with a slash.
+// Returns the segments of a URI's path, with their escapes decoded. A path has no segments if it is
+// `/` (RFC 7252, section 6.4) or doesn't begin with a slash. Returns `AllocError` if memory can't
+// be allocated.
 fn segments_of(alloc: Global, path: &str) -> Result<Vec<Vec<u8>>, AllocError>
     ensures { IfOk result (λ v. texts_in v.items ≡ segments_in path.now) }
 {
@@ -223,7 +225,8 @@ fn have_slash(segments: &[Vec<u8>]) -> bool
     segments.iter().any(|segment| segment.contains(&b'/'))
 }
 
-// Returns the path with a slash before each of these segments.
+// Returns the path with a slash before each of these segments, or an empty path if there are none.
+// Returns `AllocError` if memory can't be allocated.
 fn path_of(alloc: Global, segments: &[Vec<u8>]) -> Result<Vec<u8>, AllocError>
     ensures { IfOk result (λ v. v.items ≡ path_text (texts_in segments.now)) }
 {
@@ -246,7 +249,7 @@ fn query_of(uri: &Url) -> &str
 }
 
 // Splits a text at an ASCII character and decodes the escapes of each piece. An empty text has no
-// pieces.
+// pieces. Returns `AllocError` if memory can't be allocated.
 fn pieces(alloc: Global, text: &str, parting: char) -> Result<Vec<Vec<u8>>, AllocError>
     requires { parting < 128 }
     ensures { IfOk result (λ v. texts_in v.items ≡ decoded_pieces parting text.now) }
@@ -261,7 +264,8 @@ fn pieces(alloc: Global, text: &str, parting: char) -> Result<Vec<Vec<u8>>, Allo
     Ok(pieces)
 }
 
-// Decodes the escapes of a text.
+// Returns the bytes of a text with its escapes decoded. Returns `AllocError` if memory can't be
+// allocated.
 fn decode(alloc: Global, text: &str) -> Result<Vec<u8>, AllocError>
     ensures { IfOk result (λ v. v.items ≡ percent_decode text.now) }
 {

@@ -29,7 +29,8 @@ pub fn assemble(alloc: Global, text: &str) -> Result<Vec<Insn>, AsmError>
 /// Assembles the lines of a source text, one after another.
 ///
 /// # Errors
-/// Returns the errors of [`assemble`].
+/// Returns the first line with a mistake, and its mistake. Returns `NoMemory` if memory can't be
+/// allocated before such a line is found.
 fn assemble_lines(alloc: Global, names: &Names, text: &str) -> Result<Vec<Insn>, AsmError>
     ensures program { IfOk result (λ v. IsAssembled (lines_of text.now) v.items) }
     ensures slots { IfOk result (λ v. IsTrue (is_program v.items)) }

@@ -29,6 +29,9 @@ pub fn words<'a>(alloc: Global, line: &'a str) -> Result<Vec<&'a str>, AllocErro
 }
 
 /// Splits a text without a comment into its words, at spaces and commas.
+///
+/// # Errors
+/// Returns `AllocError` if memory can't be allocated.
 fn parts<'a>(alloc: Global, code: &'a str) -> Result<Vec<&'a str>, AllocError>
     ensures { IfOk result (λ v. map (λ word. word.now) v.items ≡ split_words code.now) }
 {
@@ -40,6 +43,9 @@ fn parts<'a>(alloc: Global, code: &'a str) -> Result<Vec<&'a str>, AllocError>
 }
 
 /// Appends the parts of a text between commas, other than empty ones.
+///
+/// # Errors
+/// Returns `AllocError` if memory can't be allocated.
 fn push_words<'a>(words: &mut Vec<&'a str>, part: &'a str) -> Result<(), AllocError>
     ensures { OnOk result (map (λ word. word.now) words.new.items ≡ map (λ word. word.now) words.old.items ++ split_commas part.now) }
 {
@@ -69,6 +75,9 @@ pub fn read(names: &Names, words: &[&str]) -> Result<Option<Insn>, Mistake>
 }
 
 /// Parses the operands of a mnemonic, and returns the instruction with them.
+///
+/// # Errors
+/// Returns the mistake of the operands, `Operand` in preference to `OutOfRange`.
 fn insn(mnemonic: Mnemonic, operands: &[&str]) -> Result<Insn, Mistake>
     ensures { result ≡ insn_from mnemonic (map (λ word. word.now) operands.now) }
 {
@@ -104,6 +113,10 @@ fn insn(mnemonic: Mnemonic, operands: &[&str]) -> Result<Insn, Mistake>
 }
 
 /// Parses `DST, SRC|NUMBER`, the operands of an arithmetic instruction.
+///
+/// # Errors
+/// Returns `Operand` unless there are two operands of these sorts. Otherwise returns `OutOfRange`
+/// if the number doesn't fit 32 bits.
 fn arithmetic(op: AluOp, width: Width, operands: &[&str]) -> Result<Insn, Mistake>
     ensures { result ≡ insn_from (Mnemonic.Alu op width) (map (λ word. word.now) operands.now) }
 {
@@ -118,6 +131,10 @@ fn arithmetic(op: AluOp, width: Width, operands: &[&str]) -> Result<Insn, Mistak
 }
 
 /// Parses `DST, SRC, BITS`, the operands of a move with sign extension.
+///
+/// # Errors
+/// Returns `Operand` unless there are three operands of these sorts. Otherwise returns `OutOfRange`
+/// if a move to `width` can't sign-extend that number of bits.
 fn extend(width: Width, operands: &[&str]) -> Result<Insn, Mistake>
     ensures { result ≡ insn_from (Mnemonic.SignExtend width) (map (λ word. word.now) operands.now) }
 {
@@ -131,6 +148,10 @@ fn extend(width: Width, operands: &[&str]) -> Result<Insn, Mistake>
 }
 
 /// Parses `DST, NUMBER`, the operands of a wide load.
+///
+/// # Errors
+/// Returns `Operand` unless there are two operands of these sorts. Otherwise returns `OutOfRange`
+/// if the number is below 0 or doesn't fit 64 bits.
 fn load_wide(operands: &[&str]) -> Result<Insn, Mistake>
     ensures { result ≡ insn_from Mnemonic.LoadWide (map (λ word. word.now) operands.now) }
 {
@@ -140,6 +161,10 @@ fn load_wide(operands: &[&str]) -> Result<Insn, Mistake>
 }
 
 /// Parses `DST, BASE, OFFSET`, the operands of a load.
+///
+/// # Errors
+/// Returns `Operand` unless there are three operands of these sorts. Otherwise returns `OutOfRange`
+/// if the offset doesn't fit 16 bits.
 fn load(loaded: LoadType, operands: &[&str]) -> Result<Insn, Mistake>
     ensures { result ≡ insn_from (Mnemonic.Load loaded) (map (λ word. word.now) operands.now) }
 {
@@ -154,6 +179,10 @@ fn load(loaded: LoadType, operands: &[&str]) -> Result<Insn, Mistake>
 }
 
 /// Parses `BASE, OFFSET, NUMBER`, the operands of a store of a number.
+///
+/// # Errors
+/// Returns `Operand` unless there are three operands of these sorts. Otherwise returns `OutOfRange`
+/// if the offset doesn't fit 16 bits, or the number doesn't fit 32 bits.
 fn store_imm(size: Size, operands: &[&str]) -> Result<Insn, Mistake>
     ensures { result ≡ insn_from (Mnemonic.StoreImm size) (map (λ word. word.now) operands.now) }
 {
@@ -168,6 +197,10 @@ fn store_imm(size: Size, operands: &[&str]) -> Result<Insn, Mistake>
 }
 
 /// Parses `BASE, OFFSET, SRC`, the operands of a store of a register.
+///
+/// # Errors
+/// Returns `Operand` unless there are three operands of these sorts. Otherwise returns `OutOfRange`
+/// if the offset doesn't fit 16 bits.
 fn store(size: Size, operands: &[&str]) -> Result<Insn, Mistake>
     ensures { result ≡ insn_from (Mnemonic.Store size) (map (λ word. word.now) operands.now) }
 {
@@ -182,6 +215,10 @@ fn store(size: Size, operands: &[&str]) -> Result<Insn, Mistake>
 }
 
 /// Parses `SRC, SRC|NUMBER, TARGET`, the operands of a conditional jump.
+///
+/// # Errors
+/// Returns `Operand` unless there are three operands of these sorts. Otherwise returns `OutOfRange`
+/// if the number doesn't fit 32 bits, or the target doesn't fit 16 bits.
 fn jump_if(relation: Relation, width: Width, operands: &[&str]) -> Result<Insn, Mistake>
     ensures { result ≡ insn_from (Mnemonic.JumpIf relation width) (map (λ word. word.now) operands.now) }
 {
@@ -196,9 +233,11 @@ fn jump_if(relation: Relation, width: Width, operands: &[&str]) -> Result<Insn, 
     }))
 }
 
-/// Parses the only operand as a writable register.
+/// Parses the only operand as a writable register, `r0` to `r9`.
 ///
-/// Returns the mistake `Operand` if there isn't exactly one operand.
+/// # Errors
+/// Returns the mistake `Operand` if there isn't exactly one operand, or if it isn't such a
+/// register.
 fn only_target(operands: &[&str]) -> Result<Target, Mistake>
     ensures { result ≡ if_ok (one_of (map (λ word. word.now) operands.now)) target_from }
 {
@@ -208,9 +247,11 @@ fn only_target(operands: &[&str]) -> Result<Target, Mistake>
     }
 }
 
-/// Parses the only operand as a 32-bit number.
+/// Parses the only operand as a signed 32-bit number.
 ///
-/// Returns the mistake `Operand` if there isn't exactly one operand.
+/// # Errors
+/// Returns the mistake `Operand` if there isn't exactly one operand, or if the operand isn't a
+/// number. Returns the mistake `OutOfRange` if the number doesn't fit.
 fn only_imm(operands: &[&str]) -> Result<i32, Mistake>
     ensures { result ≡ if_ok (one_of (map (λ word. word.now) operands.now)) imm_from }
 {

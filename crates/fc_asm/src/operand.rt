@@ -9,6 +9,9 @@ use crate::error::Mistake;
 use fc_isa::{Operand, Reg, SignExtension, Target, Width};
 
 /// Parses a register, `r0` to `r10`.
+///
+/// # Errors
+/// Returns `Operand` for any other word.
 pub fn register(word: &str) -> Result<Reg, Mistake>
     ensures { result ≡ register_from word.now }
 {
@@ -23,6 +26,9 @@ const REGISTERS: [&'static str; 11] = [
 ];
 
 /// Parses a destination register, `r0` to `r9`, which programs may write.
+///
+/// # Errors
+/// Returns `Operand` for any other word.
 pub fn target(word: &str) -> Result<Target, Mistake>
     ensures { result ≡ target_from word.now }
 {
@@ -35,6 +41,10 @@ pub fn target(word: &str) -> Result<Target, Mistake>
 }
 
 /// Parses a signed 32-bit number.
+///
+/// # Errors
+/// Returns `Operand` if the word isn't a decimal number, or `OutOfRange` if the number doesn't fit
+/// 32 bits.
 pub fn imm(word: &str) -> Result<i32, Mistake>
     ensures { result ≡ imm_from word.now }
 {
@@ -48,6 +58,10 @@ pub fn imm(word: &str) -> Result<i32, Mistake>
 }
 
 /// Parses a signed 16-bit number.
+///
+/// # Errors
+/// Returns `Operand` if the word isn't a decimal number, or `OutOfRange` if the number doesn't fit
+/// 16 bits.
 pub fn offset(word: &str) -> Result<i16, Mistake>
     ensures { result ≡ offset_from word.now }
 {
@@ -61,6 +75,10 @@ pub fn offset(word: &str) -> Result<i16, Mistake>
 }
 
 /// Parses an unsigned 64-bit number; `-0` is zero.
+///
+/// # Errors
+/// Returns `Operand` if the word isn't a decimal number. Returns `OutOfRange` if the number is
+/// below 0 or doesn't fit 64 bits.
 pub fn wide(word: &str) -> Result<u64, Mistake>
     ensures { result ≡ wide_from word.now }
 {
@@ -84,6 +102,10 @@ pub fn wide(word: &str) -> Result<u64, Mistake>
 }
 
 /// Parses a register or a signed 32-bit number.
+///
+/// # Errors
+/// Returns `Operand` if the word is neither a register nor a decimal number. Returns `OutOfRange`
+/// if the number doesn't fit 32 bits.
 pub fn operand(word: &str) -> Result<Operand, Mistake>
     ensures { result ≡ operand_from word.now }
 {
@@ -95,7 +117,10 @@ pub fn operand(word: &str) -> Result<Operand, Mistake>
 
 /// Parses the number of bits that a move to `width` sign-extends.
 ///
-/// The number is 8 or 16, or also 32 if `width` is 64 bits. Any other number is out of range.
+/// The number is 8 or 16, or also 32 if `width` is 64 bits.
+///
+/// # Errors
+/// Returns `Operand` if the word isn't a decimal number, or `OutOfRange` for any other number.
 pub fn extension(width: Width, word: &str) -> Result<SignExtension, Mistake>
     ensures { result ≡ extension_from width word.now }
 {

@@ -80,8 +80,9 @@ pub trait Bench {
 
     /// Handles a datagram, at a time in milliseconds.
     ///
-    /// A job is written over `job`, a response over `reply`. The result says which of the two was
-    /// written, if either was. See [`Front::handle`](fc_front::Front::handle).
+    /// Returns `Job` if a job was written over `job`, and `Reply` if a response was written over
+    /// `reply`. Otherwise the datagram is a signal for the observers (`Signal`), or nothing is to
+    /// be sent (`Nothing`). See [`Front::handle`](fc_front::Front::handle).
     fn handle<R: Wait>(
         &self,
         rt: &R,
@@ -128,8 +129,9 @@ pub trait Bench {
 
     /// Takes a snapshot of a job's slot, with these readings.
     ///
-    /// The snapshot is written over `found`, except its program, which is in the result. `Stale`
-    /// ends the job of a lease: `tallies` count that job. See
+    /// The snapshot is written over `found`, except its program, which is in the result. The result
+    /// is `Missing` if the slot is empty, and `Refused` if memory can't be allocated. `Stale` means
+    /// that the job's lease isn't active, and ends the job: `tallies` count that job. See
     /// [`Shard::take_into`](fc_registry::Shard::take_into).
     fn take<R: Wait>(
         &self,
@@ -194,8 +196,8 @@ pub trait Bench {
 
     /// Installs a program in `job`'s slot.
     ///
-    /// Returns `None` if the install can't be saved: then no slot changes, and the refusal is filed,
-    /// with the job's image. See [`Shard::install`](fc_registry::Shard::install).
+    /// Returns `None` if the install can't be saved: then no slot changes, and the refusal is
+    /// filed, with the job's image. See [`Shard::install`](fc_registry::Shard::install).
     fn install<R: Wait>(
         &self,
         rt: &R,
@@ -214,8 +216,8 @@ pub trait Bench {
 
     /// Removes the program in `job`'s slot.
     ///
-    /// Returns `None` if the removal can't be saved: then no slot changes, and the refusal is filed.
-    /// See [`Shard::remove`](fc_registry::Shard::remove).
+    /// Returns `None` if the removal can't be saved: then no slot changes, and the refusal is
+    /// filed. See [`Shard::remove`](fc_registry::Shard::remove).
     fn remove<R: Wait>(
         &self,
         rt: &R,

@@ -153,7 +153,7 @@ impl<J: ServerName> TrackLog<J> {
         job
     }
 
-    /// Returns its tracks. The thread's own track is among them.
+    /// Returns the tracks of the log. The thread's own track is among them.
     pub fn into_tracks(self) -> ServerTracks<J>
         ensures tracks { result ≡ self.tracks }
         ensures may_file { MayFileAll J.first_job self.who self.tracks }
@@ -190,7 +190,8 @@ pub fn begin_logs<J: ServerName>(
     Ok(logs)
 }
 
-// Begins the next tracks, one for each thread: its own, under the thread's key.
+// Begins the next tracks, one for each thread: its own, under the thread's key. Returns an error if
+// memory for the list can't be allocated.
 fn begin_threads<J: ServerName>(
     alloc: Global,
     book: &ServerBook<J>,

@@ -16,10 +16,9 @@ pub trait Wire {
 
     /// Sends `emission`, the reply of the job with this number.
     ///
-    /// Returns whether the emission went out. The thread that ran the job calls this function, and
-    /// counts the result. The number is the job's at the channel, or 2^64 - 1 if the job wasn't
-    /// sent there. The emission is the answer of some front to some job, or the notification of
-    /// some shard.
+    /// Returns whether the emission went out, which the thread that ran the job counts. The number
+    /// is the job's at the channel, or 2^64 - 1 if the job wasn't sent there. The emission is the
+    /// answer of some front to some job, or the notification of some shard.
     fn send<R: Wait>(&self, rt: &R, number: u64, emission: &Emission, log: &mut CallLog) -> bool
         requires { GoesOut emission.now }
         ensures { called (SendsReply number emission.now result) log.old log.new };

@@ -163,9 +163,10 @@ impl<J: BookName> Tracks<J> {
         }
     }
 
-    /// Begins the next track, and returns it in a new owner.
+    /// Begins the next track for a new owner, and returns that owner.
     ///
-    /// The new owner is that of a thread or a message, and may begin no track.
+    /// The new owner is a thread's or a message's, and may begin no track. This owner may begin
+    /// tracks.
     pub fn begin_tracks(&mut self, book: &Book<J>) -> Tracks<J>
         requires may_begin { self.old.may_begin ≡ true }
         ensures new { result ≡ own_view self.old.next [] }

@@ -52,9 +52,10 @@ fn call_in_turn<J: BookName, R: Wait>(
     Some((tracks, answers))
 }
 
-/// Runs two threads that call two counters in a book that `J` names.
+/// Runs two threads, each of which makes `calls` calls of two counters alternately.
 ///
-/// See [`run_callers`], which makes the book.
+/// The calls are filed in a book that `J` names. Returns `None` if memory can't be allocated, or if
+/// a counter is at its maximum.
 fn run_callers_in<J: BookName + Send + Sync, R: Threads + Wait + Sync>(
     rt: &R,
     alloc: Global,

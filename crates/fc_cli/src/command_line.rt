@@ -57,8 +57,9 @@ pub fn explain<R: Runtime>(rt: &R, error: &Error) -> anyhow::Result<Status>
 
 /// Parses the words of the command line as `command` defines them.
 ///
-/// If the words don't match, prints why and returns the program's status as the inner error. See
-/// [`explain`].
+/// If the words don't match, prints why and returns the program's status as the inner error. The
+/// status is `Done` for words that ask for help or the version. Otherwise it is `Failed` if memory
+/// couldn't be allocated, and else `Bad`.
 ///
 /// # Errors
 /// Returns an error if printing fails.
@@ -93,8 +94,8 @@ pub fn exit_code<E: Write>(err: &mut E, ended: anyhow::Result<Status>) -> ExitCo
 
 /// Calls `work` with the words of the command line, and returns the exit code.
 ///
-/// `work` writes its messages to `err`. If a word isn't UTF-8, `work` isn't called, and the exit
-/// status is 2. See [`words`]. An error is written to `err`, and has the exit status 3.
+/// `work` writes its messages to `err`. If a word isn't UTF-8, `work` isn't called, `err` gets a
+/// message, and the exit status is 2. An error is written to `err`, and has the exit status 3.
 pub fn run_main<R, E, F>(rt: &R, err: &mut E, work: F) -> ExitCode
 where
     R: Runtime + AllocGlobal,
@@ -109,7 +110,7 @@ where
 
 // Calls `work` with the words of the command line, and returns its status.
 //
-// Returns `Bad` without the call if a word isn't UTF-8.
+// Returns `Bad` without the call if a word isn't UTF-8. Returns the error of `words` or of `work`.
 fn run_words<R, E, F>(rt: &R, err: &mut E, work: F) -> anyhow::Result<Status>
 where
     R: Runtime + AllocGlobal,

@@ -54,8 +54,8 @@ pub fn timers_in(alloc: Global, matches: &ArgMatches<'_>) -> Result<Vec<Timer>, 
     }
 }
 
-// Reads the timers of `texts`. Returns the error of the first text that is refused, as `timers_in`
-// does.
+// Reads the timers of `texts`. Returns the error of the first text that is refused: `Form` if it
+// gives no timer, or `Memory` if memory can't be allocated.
 fn timers_of(alloc: Global, texts: &[&str]) -> Result<Vec<Timer>, BadTimer>
     ensures timers { IfOk result (λ v. AreTimers (map (λ text. text.now) texts.now) v.items) }
     ensures refused { IfErr result (AreRefusedBy (map (λ text. text.now) texts.now)) }
@@ -67,7 +67,8 @@ fn timers_of(alloc: Global, texts: &[&str]) -> Result<Vec<Timer>, BadTimer>
     Ok(timers)
 }
 
-// Reads the timer of `text`, and adds it to `timers`. Returns the error of a text that is refused.
+// Reads the timer of `text`, and adds it to `timers`. Returns `Form` if the text gives no timer, or
+// `Memory` if memory can't be allocated.
 fn push_timer(text: &str, timers: &mut Vec<Timer>) -> Result<(), BadTimer>
     ensures { MatchResult result (λ done. Pushes text.now timers.old.items timers.new.items) (IsRefusedBy text.now) }
 {

@@ -36,7 +36,7 @@ pub fn timers_have_periods_and_slots()
     ensures beyond { IsNoTimerText (codes "1000:64") }
 {}
 
-/// The texts of `--log` that give a period of reports.
+/// Some texts of `--log` give a period of reports.
 ///
 /// `report:60` is each minute, and the longest period is a day. Of several texts, the last one
 /// counts.

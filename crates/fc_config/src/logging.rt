@@ -52,7 +52,7 @@ pub(crate) fn logs_in(matches: &ArgMatches<'_>) -> Option<LogOptions>
 }
 
 // Reads the period of reports, in milliseconds. Returns `Some(None)` if no value gives a period.
-// Returns `None` if `logs_in` refuses a value.
+// Returns `None` if a value of `--log` is refused, as by `logs_in`.
 fn period_in(matches: &ArgMatches<'_>) -> Option<Option<u64>>
     ensures { IfSome result (ArePeriods (log_texts (found_of matches.now)) None) }
 {

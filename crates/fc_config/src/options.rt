@@ -171,6 +171,7 @@ fn port<'a>(alloc: Global) -> Arg<'a> {
         .value_parser(value_parser!(u16).range(1..))
 }
 
+// Makes `--bind`, the option for the server's address, by default 127.0.0.1.
 fn bind<'a>(alloc: Global) -> Arg<'a> {
     option(
         alloc,

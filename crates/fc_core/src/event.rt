@@ -114,7 +114,7 @@ impl Event<'_> {
     ghost use Rattle.std.specs.Prelude.{◌≡◌};
     ghost use Rattle.fc_core.specs.Transitions.{names};
 
-    /// Returns the number of the job that the event names, if it names one.
+    /// Returns the number of the job that the event names, or `None` if it names no job.
     pub fn job(&self) -> Option<usize>
         ensures { result ≡ names self.now }
     {

@@ -285,7 +285,7 @@ impl Stage {
 ///
 /// These functions are for a caller that borrows the snapshot and the answer of a stage separately.
 impl Step {
-    /// Continues after a request's snapshot; `count` snapshots came before it.
+    /// Returns the next action after a request's snapshot; `count` snapshots came before it.
     ///
     /// If the snapshot gave a program, the program's run is committed next. Otherwise `answer` is
     /// written, and sent next: 4.04 if the slot is empty, 5.03 if memory can't be allocated. The
@@ -305,11 +305,11 @@ impl Step {
         }
     }
 
-    /// Continues after the snapshot of a lease.
+    /// Returns the next action after the snapshot of a lease.
     ///
     /// If the snapshot gave a program, or the slot is empty, the lease needs a message ID next. A
-    /// lease that isn't active has ended. If memory can't be allocated, the lease still needs its
-    /// snapshot.
+    /// lease that isn't active has ended (`Gone`). If memory can't be allocated, the lease still
+    /// needs its snapshot.
     pub fn turn_took(turn: Turn, taken: Taken) -> Step
         ensures { (content : Content) → LeadsTo taken (stages.turn_took turn) result content }
     {
@@ -321,12 +321,12 @@ impl Step {
         }
     }
 
-    /// Continues after a commit.
+    /// Returns the next action after a commit.
     ///
-    /// If the commit was done, the answer is that of the run, and the head word is raised first if
+    /// If the commit was done, `answer` is that of the run, and the head word is raised first if
     /// the slot changed. If the slot had changed since the snapshot, the job takes another
-    /// snapshot, at most eight in all. Otherwise the answer is 5.03: the slot is at its last
-    /// serial, or the outcome doesn't belong to the ticket.
+    /// snapshot, at most eight in all. Otherwise `answer` is 5.03: the slot is at its last serial,
+    /// or the outcome doesn't belong to the ticket.
     pub fn committed(
         count: u8,
         outcome: &Outcome<'_>,
@@ -354,8 +354,9 @@ impl Step {
         }
     }
 
-    // Continues if the slot has changed since the snapshot; `count` is the number of snapshots so
-    // far. The job takes another snapshot; after the eighth, `answer` is 5.03 and is sent next.
+    // Returns the next action if the slot has changed since the snapshot. The job takes another
+    // snapshot; after the eighth, `answer` is 5.03 and is sent next. `count` is the number of
+    // snapshots so far.
     fn overtaken(count: u8, answer: &mut Answer) -> Step
         ensures { StandsAt result answer.new (stages.retaken count) }
     {
@@ -366,8 +367,8 @@ impl Step {
         Step::ToAnswer
     }
 
-    // Continues after a failed allocation, at the slot's last serial, or after a wrong call:
-    // `answer` is 5.03, and is sent next.
+    // Writes a 5.03 over `answer`, and returns the next action, which sends this answer. The causes
+    // are a failed allocation, the slot's last serial, and a wrong call.
     fn unavailable(answer: &mut Answer) -> Step
         ensures { StandsAt result answer.new (ToAnswer Unavailable) }
     {

@@ -161,7 +161,8 @@ impl Task {
 
     /// Runs the snapshot's program, and commits the run in `shard`.
     ///
-    /// `now` is in milliseconds. See [`Step::committed`].
+    /// `now` is in milliseconds. The commit determines the job's answer or its next snapshot (see
+    /// [`Step::committed`]). Nothing changes unless the job is to commit a run next.
     pub fn commit(&mut self, frame: &mut Frame, shard: &mut Shard, now: u64)
         requires owned { IsOwned shard.old self.old.job.origin.slot }
         requires fits { FitsStage self.old.job (slot_in shard.old self.old.job.origin.slot) self.old.stage }
@@ -176,7 +177,10 @@ impl Task {
         stage.step = run_and_commit(frame, *count, &ticket, shard, now, &mut stage.answer);
     }
 
-    /// Removes the program of the job's slot in `shard`. See [`Stage::removed`].
+    /// Removes the program of the job's slot in `shard`.
+    ///
+    /// The removal determines the job's answer (see [`Stage::removed`]). Nothing changes unless the
+    /// job is to remove a program next.
     pub fn remove(&mut self, shard: &mut Shard)
         requires { IsOwned shard.old self.old.job.origin.slot }
         ensures task { (k : ℕ) → TaskMoves (Event.Remove k) shard.old self.old self.new }
@@ -210,6 +214,9 @@ impl Task {
     }
 
     /// Reads the receipt of the program of the job's slot in `shard`.
+    ///
+    /// The answer is the receipt, or 4.04 for an empty slot. Nothing changes unless the job is to
+    /// read a receipt next.
     pub fn describe(&mut self, shard: &Shard)
         ensures { (k : ℕ) → TaskMoves (Event.Receipt k) shard.entry.now self.old self.new }
     {
@@ -258,6 +265,8 @@ impl Task {
     }
 
     /// Publishes the new head word of the job's slot.
+    ///
+    /// Nothing changes unless the job is to raise a head word next.
     pub fn raise(&mut self, heads: &mut Heads)
         ensures task { (k : ℕ) (shard : Shard) → TaskMoves (Event.Raise k) shard self.old self.new }
         ensures words { (k : ℕ) (shard : Shard) (common : Common) →
@@ -314,7 +323,8 @@ impl Task {
     ///
     /// `now` is in milliseconds. No program runs if the slot was empty. The observer is notified if
     /// the lease is still active. The datagram is written over `emission`, and the task has ended.
-    /// Returns whether there is a datagram to send.
+    /// Returns whether there is a datagram to send. The result is `false`, and nothing changes,
+    /// unless the task is to notify an observer next.
     pub fn note(
         &mut self,
         frame: &mut Frame,
@@ -340,7 +350,9 @@ impl Task {
         sent
     }
 
-    /// Ends the task: releases the task's lease in `shard`. `now` is in milliseconds.
+    /// Releases the lease of the task in `shard`, and ends the task.
+    ///
+    /// `now` is in milliseconds. Nothing changes if the task has no lease, or has ended.
     pub fn give_up(&mut self, shard: &mut Shard, now: u64)
         requires owned { IsOwned shard.old self.old.job.origin.slot }
         requires fits { FitsStage self.old.job (slot_in shard.old self.old.job.origin.slot) self.old.stage }
@@ -446,7 +458,7 @@ fn ticket_if<'a>(program: &'a Option<Arc<Verified>>, found: &'a SlotSnapshot) ->
 
 // Notifies the observer of a lease. Runs the program of the lease's ticket, or reports that the
 // slot was empty if `found` is `None`. The datagram is written over `emission`. Returns whether
-// there is a datagram to send.
+// there is a datagram to send; there is none if the lease isn't active any more.
 fn note(
     frame: &mut Frame,
     shard: &mut Shard,

@@ -93,6 +93,11 @@ fn is_defined(constants: &[Constant<'_>], name: &[u8], line: usize) -> bool {
 }
 
 /// Returns whether a name is that of a register, an instruction or a helper.
+///
+/// Returns `false` for a name that isn't UTF-8.
+///
+/// # Errors
+/// Returns `AllocError` if memory can't be allocated.
 fn is_meant(name: &[u8], alloc: Global) -> Result<bool, AllocError> {
     match str::from_utf8(name) {
         Ok(word) => Ok(

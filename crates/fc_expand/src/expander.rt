@@ -106,9 +106,13 @@ pub fn expand(alloc: Global, text: &[u8]) -> Result<Vec<u8>, ExpandError>
     expand_lines(text, names)
 }
 
-/// Returns the labels of a source, with slots counted from the lines before them.
+/// Returns the labels of a source in order, each with its line and slot.
 ///
-/// If several lines have the same label, each is returned.
+/// A label's slot is the number of slots in the lines before it. A repeated label is returned each
+/// time; `expand_line` reports it.
+///
+/// # Errors
+/// Returns `AllocError` if memory can't be allocated.
 fn labels_of<'a>(alloc: Global, text: &'a [u8]) -> Result<Vec<Label<'a>>, AllocError> {
     let mut labels = Vec::new(alloc);
     let mut slot: u32 = 0;
@@ -125,6 +129,9 @@ fn labels_of<'a>(alloc: Global, text: &'a [u8]) -> Result<Vec<Label<'a>>, AllocE
 }
 
 /// Expands the lines of a source, with these meanings of its names.
+///
+/// # Errors
+/// Returns the first line with a mistake, or `NoMemory` if memory can't be allocated.
 fn expand_lines(text: &[u8], names: LabelNames<'_>) -> Result<Vec<u8>, ExpandError> {
     let mut out = Vec::with_capacity(names.alloc, text.len())?;
     let mut slot: u32 = 0;
@@ -143,9 +150,12 @@ fn expand_lines(text: &[u8], names: LabelNames<'_>) -> Result<Vec<u8>, ExpandErr
     Ok(out)
 }
 
-/// Appends the replacement of the line `code`, and returns its number of slots.
+/// Appends the replacement of the line `code`, and returns the line's number of slots.
 ///
 /// `line` is the line's number, counted from 1, and `slot` the slot of its instruction.
+///
+/// # Errors
+/// Returns the first mistake in the line, or `NoMemory` if memory can't be allocated.
 fn expand_line(
     out: &mut Vec<u8>,
     code: &[u8],
@@ -190,6 +200,9 @@ fn is_taken(labels: &[Label<'_>], name: &[u8], line: usize) -> bool {
 /// Appends the replacements of a line's words, and all text between them.
 ///
 /// Tabs and carriage returns are replaced by spaces.
+///
+/// # Errors
+/// Returns the mistake of the first bad number or name, or `NoMemory` if memory can't be allocated.
 fn expand_words(out: &mut Vec<u8>, body: &[u8], place: &Place<'_>) -> Result<(), PieceError> {
     let mut at = 0;
     for _piece in 0..body.len() {
@@ -223,7 +236,10 @@ fn expand_piece(
     }
 }
 
-/// Appends `bytes` as `push_spaced` does, and returns their number.
+/// Appends bytes, with spaces for tabs and carriage returns, and returns their number.
+///
+/// # Errors
+/// Returns `NoMemory` if memory can't be allocated.
 fn spaced(out: &mut Vec<u8>, bytes: &[u8]) -> Result<usize, PieceError>
     ensures { IfOk result (λ n. n ≡ length bytes.now) }
 {
@@ -231,10 +247,13 @@ fn spaced(out: &mut Vec<u8>, bytes: &[u8]) -> Result<usize, PieceError>
     Ok(bytes.len())
 }
 
-/// Appends the replacement of the first word of `rest`, and returns its size.
+/// Appends the replacement of the first word of `rest`, and returns the word's size in bytes.
 ///
 /// A hexadecimal number and a name as an operand have replacements; any other word is appended
-/// unchanged. The size is the word's. `before` is the line's text before `rest`.
+/// unchanged. `before` is the line's text before `rest`.
+///
+/// # Errors
+/// Returns the mistake in the number or name, or `NoMemory` if memory can't be allocated.
 fn word(
     out: &mut Vec<u8>,
     before: &[u8],
@@ -259,6 +278,10 @@ fn word(
 /// Appends the replacement of a name that is an operand and no constant.
 ///
 /// A name that the instruction doesn't accept at this place is appended unchanged.
+///
+/// # Errors
+/// Returns `UnknownLabel` or `UnknownHelper` if the instruction requires a label or a helper, and
+/// none has the name. Returns `NoMemory` if memory can't be allocated.
 fn push_name(
     out: &mut Vec<u8>,
     name: &[u8],

@@ -153,6 +153,9 @@ fn hexadecimal(digits: &[u8]) -> Result<u64, PieceError> {
 }
 
 /// Appends a number in decimal digits.
+///
+/// # Errors
+/// Returns `NoMemory` if memory can't be allocated.
 pub(crate) fn push_number(out: &mut Vec<u8>, alloc: Global, number: u64) -> Result<(), PieceError> {
     let text = format!(in alloc; "{number}")?;
     Ok(out.extend_from_slice(text.as_bytes())?)

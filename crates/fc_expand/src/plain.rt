@@ -58,6 +58,9 @@ fn begins_number(byte: u8) -> bool
 }
 
 /// Appends bytes, with spaces for tabs and carriage returns.
+///
+/// # Errors
+/// Returns `AllocError` if memory can't be allocated.
 pub(crate) fn push_spaced(out: &mut Vec<u8>, bytes: &[u8]) -> Result<(), AllocError>
     ensures { OnOk result (out.new.items ≡ out.old.items ++ map as_space bytes.now) }
 {

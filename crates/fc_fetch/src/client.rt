@@ -139,7 +139,9 @@ pub fn fetch<R: Net + Clock + RandomSource, I: Read, W: Write, E: Write>(
     fetch_by(&System { rt }, input, console, asking)
 }
 
-/// Sends a request as [`fetch`] does, to a server that `connector` connects to.
+/// Sends a request to a server that `connector` connects to, and prints the response.
+///
+/// Returns the status of [`fetch`], and writes the reason of a failure to `console.err`.
 pub fn fetch_by<C: Connector, I: Read, W: Write, E: Write>(
     connector: &C,
     input: &mut I,
@@ -156,10 +158,9 @@ pub fn fetch_by<C: Connector, I: Read, W: Write, E: Write>(
     }
 }
 
-/// Sends a request as [`fetch_by`] does, and writes the bytes of a success to `file`.
+/// Sends a request, prints the response's code, and writes the bytes of a success to `file`.
 ///
-/// Of a success, it prints the code alone. Any other response is printed whole, and `file` isn't
-/// written to.
+/// Any response other than a success is printed whole, and `file` isn't written to.
 ///
 /// Returns the status of [`fetch`]. Returns `Failed` if writing the file fails: `console.err` then
 /// gets the file's name.
@@ -209,7 +210,8 @@ fn answer<'a, C: Connector, I: Read>(
     }
 }
 
-// Parses the address of a target, or returns `FetchStop::Address`.
+// Returns the address of a target. Returns `FetchStop::Address` if the target is no address, or if
+// memory can't be allocated.
 pub(crate) fn address_of<'a>(
     alloc: Global,
     target: &str,
@@ -225,7 +227,7 @@ pub(crate) fn address_of<'a>(
 }
 
 // Returns the resource that an address names. Returns `FetchStop::Path` or `FetchStop::Argument` if
-// it names none.
+// the address names none, and `FetchStop::Memory` if memory can't be allocated.
 pub(crate) fn resource_at<'a, 'b>(
     alloc: Global,
     address: &'b Address,
@@ -241,8 +243,8 @@ pub(crate) fn resource_at<'a, 'b>(
     }
 }
 
-// Reads the request's body, to the end of the input. `source` is the input's name, for the reason
-// of a failure.
+// Reads the request's body, to the end of the input. Returns `FetchStop::Input` with the input's
+// name, `source`, if reading fails or memory can't be allocated.
 fn body_of<'a, I: Read>(
     alloc: Global,
     input: &mut I,
@@ -316,7 +318,7 @@ pub(crate) fn connect<'a, C: Connector>(
 }
 
 // Draws the first message ID from two random bytes, so that earlier messages don't disclose it (RFC
-// 7252, section 4.4). Returns `FetchStop::Random` if the system has none.
+// 7252, section 4.4). Returns `FetchStop::Random` if the system provides no random bytes.
 pub(crate) fn first_id<'a, C: Connector>(connector: &C) -> Result<u16, FetchStop<'a>>
     ensures id { IfOk result (IsDrawnId C.drawn) }
     ensures stop { IfErr result IsOfRandom }
@@ -337,8 +339,9 @@ enum KeepError<'a> {
     Print(#[source] PrintError),
 }
 
-// Writes the bytes of a success to a file and prints its code, or prints another response. Returns
-// the client's status, `Failed` if writing fails: the reason is then written to `console.err`.
+// Writes the bytes of a success to a file and prints its code, or prints another response whole.
+// Returns `Done` for a success, and `Refused` for any other code. Returns `Failed` if writing
+// fails, and writes the reason to `console.err`.
 fn keep_answer<W: Write, E: Write, F: Write>(
     console: &mut Console<W, E>,
     file: &mut ResponseFile<'_, F>,
@@ -357,8 +360,9 @@ fn keep_answer<W: Write, E: Write, F: Write>(
     }
 }
 
-// Prints a response's code, then writes its bytes to a file. The order matters: if standard output
-// is closed, a file that is opened first gets its descriptor.
+// Prints a response's code, then writes its bytes to a file. Returns `KeepError::Print` if printing
+// fails, and `KeepError::File` with the file's name if writing fails. The order matters: if
+// standard output is closed, a file that is opened first gets its descriptor.
 fn keep<'a, W: Write, F: Write>(
     out: &mut W,
     file: &mut ResponseFile<'a, F>,
@@ -376,7 +380,8 @@ fn keep<'a, W: Write, F: Write>(
     }
 }
 
-// Prints a response, and returns the client's status: by its code, or `Failed` if printing fails.
+// Prints a response to `console.out`. Returns `Done` for a success, and `Refused` for any other
+// code. Returns `Failed` if printing fails, and writes the reason to `console.err`.
 fn print_answer<W: Write, E: Write>(
     console: &mut Console<W, E>,
     shown: Shown,

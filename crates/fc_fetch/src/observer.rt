@@ -136,7 +136,10 @@ pub fn observe<R: Net + Clock + RandomSource, W: Write, E: Write>(
     observe_by(&System { rt }, console, observing)
 }
 
-/// Observes as [`observe`] does, at a server that `connector` connects to.
+/// Observes a resource of a server that `connector` connects to.
+///
+/// Prints one line for each state. Returns the status of [`observe`], and writes the reason of a
+/// failure to `console.err`.
 pub fn observe_by<C: Connector, W: Write, E: Write>(
     connector: &C,
     console: &mut Console<W, E>,
@@ -152,8 +155,9 @@ pub fn observe_by<C: Connector, W: Write, E: Write>(
     }
 }
 
-// Returns the status of a program whose observation ended. Writes to `err` if the last response is
-// a success without a sequence number; returns `Failed` if that fails.
+// Returns the status of a program whose observation ended: `Refused` after a last response, and
+// else `Done`. If the last response is a success, writes to `err` that it has no sequence number.
+// Returns `Failed` if that line can't be written.
 fn finish<E: Write>(err: &mut E, end: ObservationEnd) -> Status
     ensures { IsToldEnd end (E.contents err.old) (E.contents err.new) result }
 {
@@ -167,7 +171,8 @@ fn finish<E: Write>(err: &mut E, end: ObservationEnd) -> Status
     }
 }
 
-// Reports in a line that the last response has no sequence number.
+// Reports in a line that the last response has no sequence number. Returns an error if writing
+// fails.
 fn write_unobserved<E: Write>(err: &mut E) -> io::Result<()>
     ensures { OnOk result (Appends (E.contents err.old) (E.contents err.new) unobserved_text) }
 {
@@ -177,7 +182,7 @@ fn write_unobserved<E: Write>(err: &mut E) -> io::Result<()>
     )
 }
 
-// Observes the target, to the observation's end. Returns the reason if it fails.
+// Observes the target, and returns how the observation ends, or the reason if it fails.
 fn observe_to_end<'a, C: Connector, W: Write, E: Write>(
     connector: &C,
     console: &mut Console<W, E>,
@@ -202,7 +207,7 @@ fn observe_to_end<'a, C: Connector, W: Write, E: Write>(
 }
 
 // Observes the client request's resource at the server of this address, with a random token and
-// message ID.
+// message ID. Returns how the observation ends, or the reason if it fails.
 fn observe_client_request<'a, C: Connector, W: Write, E: Write>(
     connector: &C,
     console: &mut Console<W, E>,
@@ -246,10 +251,11 @@ pub struct NotePrinter<'a> {
 }
 
 impl<'a> NotePrinter<'a> {
-    /// Prints as [`print_notes`](NotePrinter::print_notes) does, and then may deregister.
+    /// Registers, prints the notes, and deregisters if the server may still notify.
     ///
-    /// It doesn't deregister after a last response. After an error it deregisters, unless the server
-    /// rejected the registration or sent no response to it.
+    /// [`print_notes`](NotePrinter::print_notes) prints the notes. The server sends no notification
+    /// after a last response. After an error the server may still notify, unless it rejected the
+    /// registration or sent no response.
     ///
     /// # Errors
     /// Returns the reason as a [`NotesError`]. Some lines may have been printed.
@@ -285,11 +291,12 @@ impl<'a> NotePrinter<'a> {
 
     /// Registers, and prints the response and later notifications, one line each.
     ///
-    /// It ends when as many lines were printed as are wanted, when the time is over, or when no
-    /// further notification comes. Each note came, each state is newer than the one before it (RFC
-    /// 7641, section 3.4), and none is printed twice. The blocks of a state of several blocks are
-    /// joined. If a newer notification arrives meanwhile, the state isn't printed. If its further
-    /// blocks can't be fetched, a line on `console.err` reports this.
+    /// Returns how the observation ends: as many lines were printed as are wanted, the time is
+    /// over, or no further notification comes. Each note came, each state is newer than the one
+    /// before it (RFC 7641, section 3.4), and none is printed twice. The blocks of a state of
+    /// several blocks are joined. If a newer notification arrives meanwhile, the state isn't
+    /// printed. If the state's further blocks can't be fetched, a line on `console.err` reports the
+    /// failure.
     ///
     /// # Errors
     /// Returns the reason as a [`NotesError`]. Some lines may have been printed.
@@ -345,7 +352,11 @@ impl<'a> NotePrinter<'a> {
         Ok(ObservationEnd::Counted)
     }
 
-    // Registers, and prints the response if it is the last.
+    // Registers the observer, and prints the response if no notification follows it. Returns
+    // `First::Only` with the response's code then. Otherwise returns `First::State` with the length
+    // of the response in bytes, which is at the start of `buffer`. Returns an error if registering,
+    // reading the clock or printing fails, if the response can't be shown, or if memory can't be
+    // allocated.
     fn print_first<P: Peer, W: Write>(
         &self,
         alloc: Global,

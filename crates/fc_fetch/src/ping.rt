@@ -45,7 +45,9 @@ pub fn ping<R: Net + Clock + RandomSource, E: Write>(
     ping_by(&System { rt }, alloc, err, pinging)
 }
 
-/// Pings as [`ping`] does, and connects to the server through `connector`.
+/// Pings a server that `connector` connects to, and prints nothing.
+///
+/// Returns the status of [`ping`], and writes the reason of a failure to `err`.
 pub fn ping_by<C: Connector, E: Write>(
     connector: &C,
     alloc: Global,

@@ -54,8 +54,10 @@ pub(crate) struct Progress<'a> {
 }
 
 impl<'a> NoteRenderer<'a> {
-    // Renders notes until one has a line, and returns `None`; or returns how the observation ends.
-    // The first note is `next`, if there is one.
+    // Renders notes until one is printed as a line, and returns `None`. Returns how the observation
+    // ends if the time is over, or after the last note is printed. The first note is `next`, if
+    // there is one. Returns an error if a note can't be shown, if printing or a call of the peer
+    // fails, or if memory can't be allocated.
     pub(crate) fn print_line<P: Peer, W: Write, E: Write>(
         &self,
         peer: &mut P,
@@ -104,7 +106,9 @@ impl<'a> NoteRenderer<'a> {
         Ok(Some(ObservationEnd::Over))
     }
 
-    // Returns the next note, or waits for it if it hasn't arrived.
+    // Returns `next`, or waits for the next note if `next` is `None`. Returns `None` if the time is
+    // over. Returns an error if a note can't be shown, if a call of the peer fails, or if memory
+    // can't be allocated.
     fn next_note<P: Peer>(
         &self,
         peer: &mut P,
@@ -129,7 +133,9 @@ impl<'a> NoteRenderer<'a> {
         }
     }
 
-    // Prints a state, or its blocks, joined.
+    // Renders a state: prints it, or first requests its further blocks if it has several. Returns
+    // the effect. Returns an error if a notification can't be shown, if writing or a call of the
+    // peer fails, or if memory can't be allocated.
     fn render<P: Peer, W: Write, E: Write>(
         &self,
         peer: &mut P,
@@ -166,8 +172,11 @@ impl<'a> NoteRenderer<'a> {
         }
     }
 
-    // Requests the further blocks of a state and begins the rest of the time again. Then prints the
-    // state, or reports why not.
+    // Requests the further blocks of a state, and begins the rest of the time again. Returns `Line`
+    // after printing the state. Returns `Missing` after reporting that blocks can't be fetched. If
+    // a newer notification arrived, returns `Newer`, or `Over` if the time is over. Returns an
+    // error if a notification can't be shown, if writing or a call of the peer fails, or if memory
+    // can't be allocated.
     fn render_blocks<P: Peer, W: Write, E: Write>(
         &self,
         peer: &mut P,
@@ -225,7 +234,8 @@ fn message_of(buffer: &Buffer, noted: NotedMessage) -> Message<'_>
     message
 }
 
-// Prints the last note.
+// Prints the last note, and returns the end of the observation, with the note's code. Returns an
+// error if printing fails, or if memory can't be allocated.
 fn print_last<W: Write>(
     alloc: Global,
     out: &mut W,
@@ -242,7 +252,7 @@ fn print_last<W: Write>(
 }
 
 // Begins the joining of a state whose first block is `message`. Returns `None` if `message` isn't
-// the first of several blocks.
+// the first of several blocks, and `FetchFault::Memory` if memory can't be allocated.
 fn begin_joining(alloc: Global, message: &Message<'_>) -> Result<Option<Joining>, FetchFault>
     ensures begun { IfOk result (IsBegun message.now) }
     ensures refused { IfErr result (λ fault. (has_further message.now ≡ true) × IsNoMemory fault) }
@@ -250,7 +260,7 @@ fn begin_joining(alloc: Global, message: &Message<'_>) -> Result<Option<Joining>
     Ok(Joining::begin(alloc, message)?)
 }
 
-// Reports in a line that a state isn't printed.
+// Reports in a line that a state isn't printed, and why. Returns an error if writing fails.
 fn write_missing<E: Write>(err: &mut E, cause: Unfetched) -> io::Result<()>
     ensures { OnOk result (Appends (E.contents err.old) (E.contents err.new) (missing_text cause)) }
 {

@@ -21,7 +21,7 @@ pub(crate) struct TimeLimit {
     pub(crate) start: u64,
 }
 
-// Returns the length of the first wait, in seconds.
+// Returns the length of the first wait in seconds: the time limit, or a day without a limit.
 pub(crate) fn first_wait(seconds: Option<u32>) -> u64
     ensures { result ≡ spec.first_wait seconds }
 {
@@ -31,7 +31,8 @@ pub(crate) fn first_wait(seconds: Option<u32>) -> u64
     }
 }
 
-// Returns the length in seconds of a wait that begins at `now`, in milliseconds.
+// Returns the length in seconds of a wait that begins at `now`, in milliseconds. The wait lasts for
+// the rest of the time limit, rounded up, or a day without a limit.
 fn rest_wait(limit: TimeLimit, now: u64) -> u64
     ensures { result ≡ spec.rest_wait limit.seconds limit.start now }
 {
@@ -45,7 +46,8 @@ fn rest_wait(limit: TimeLimit, now: u64) -> u64
     }
 }
 
-// Reads the clock, and begins a wait for the rest of the time. Returns its length in seconds.
+// Reads the clock, and begins a wait for the rest of the time. Returns the wait's length in
+// seconds, or `FetchFault::Socket` if the peer returns an error.
 pub(crate) fn begin_rest<P: Peer>(peer: &mut P, limit: TimeLimit) -> Result<u64, FetchFault>
     ensures called { IfOk result (λ rest. MakesCalls (P.called peer.old) (P.called peer.new) (BeginsRest limit.seconds limit.start rest)) }
     ensures fault { IfErr result (IsOfPeer P.is_error ⊥) }
@@ -56,7 +58,8 @@ pub(crate) fn begin_rest<P: Peer>(peer: &mut P, limit: TimeLimit) -> Result<u64,
     Ok(rest)
 }
 
-// Reads the clock: returns the milliseconds since some start.
+// Reads the clock, and returns the milliseconds since some start. Returns `FetchFault::Socket` if
+// the peer returns an error.
 pub(crate) fn time<P: Peer>(peer: &mut P) -> Result<u64, FetchFault>
     ensures time { IfOk result P.is_time }
     ensures called { IfOk result (λ time. Adds (P.called peer.old) (P.called peer.new) (Reads time ∷ [])) }
@@ -65,7 +68,7 @@ pub(crate) fn time<P: Peer>(peer: &mut P) -> Result<u64, FetchFault>
     Ok(peer.now()?)
 }
 
-// Begins a wait of `seconds` seconds.
+// Begins a wait of `seconds` seconds. Returns `FetchFault::Socket` if the peer returns an error.
 pub(crate) fn begin_wait<P: Peer>(peer: &mut P, seconds: u64) -> Result<(), FetchFault>
     ensures called { OnOk result (Adds (P.called peer.old) (P.called peer.new) (Waits seconds ∷ [])) }
     ensures fault { IfErr result (IsOfPeer P.is_error ⊥) }
@@ -73,7 +76,9 @@ pub(crate) fn begin_wait<P: Peer>(peer: &mut P, seconds: u64) -> Result<(), Fetc
     Ok(peer.begin_wait(seconds)?)
 }
 
-// Waits for the next notification to show, until the time is over if it ends.
+// Waits for the next notification that is to be shown. If the wait is over, returns `None` if
+// `ends` is set, and else waits for a further day. Returns an error if a notification can't be
+// shown, if a call of the peer fails, or if memory can't be allocated.
 pub(crate) fn await_note<P: Peer>(
     peer: &mut P,
     observer: &Observer<'_>,

@@ -234,7 +234,9 @@ impl<J: ServerName> ServerTracks<J> {
         }
     }
 
-    /// Begins the next track, for a new owner, and returns that owner.
+    /// Begins the next track for a new owner, and returns that owner.
+    ///
+    /// The new owner may begin no track.
     pub fn begin_tracks(&mut self, book: &ServerBook<J>) -> ServerTracks<J>
         requires may_begin { self.old.may_begin ≡ true }
         ensures new { result ≡ own_view self.old.next [] }
@@ -363,8 +365,8 @@ impl<J: ServerName> ServerTracks<J> {
 
     /// Files that the program of `job`, an install, isn't installed.
     ///
-    /// Memory can't be allocated. The entry is filed for thread `who` and for the job whose track is
-    /// first.
+    /// The reason is that memory can't be allocated. The entry is filed for thread `who` and for
+    /// the job whose track is first.
     pub fn refuse_install(&mut self, book: &ServerBook<J>, who: u64, job: &Job)
         requires thread { HasOwnTrack J.first_job who self.old }
         requires job { HasJobFirst J.first_job self.old }
@@ -412,10 +414,9 @@ fn file_alone_as<X: FiledName, J: ServerName>(
     steps::file_alone::<X>(&book.words, &mut tracks.seat);
 }
 
-/// Files the rejection of the image of `job`, an install.
+/// Files the rejection of the image of `job`, an install, for [`ServerTracks::reject_image`].
 ///
-/// `X` names the entry. It becomes the last one on the tracks of thread `who` and of the job. See
-/// [`ServerTracks::reject_image`].
+/// The entry that `X` names becomes the last one on the tracks of thread `who` and of the job.
 fn reject_as<X: FiledName, J: ServerName>(
     book: &ServerBook<J>,
     tracks: &mut ServerTracks<J>,
@@ -432,10 +433,9 @@ fn reject_as<X: FiledName, J: ServerName>(
     file_alone_as::<X, J>(book, tracks, who);
 }
 
-/// Files that the program of `job`, an install, isn't installed.
+/// Files that the program of `job` isn't installed, for [`ServerTracks::refuse_install`].
 ///
-/// `X` names the entry. It becomes the last one on the tracks of thread `who` and of the job. See
-/// [`ServerTracks::refuse_install`].
+/// The entry that `X` names becomes the last one on the tracks of thread `who` and of the job.
 fn refuse_as<X: FiledName, J: ServerName>(
     book: &ServerBook<J>,
     tracks: &mut ServerTracks<J>,
@@ -539,9 +539,10 @@ fn look_as<X: FiledName, J: ServerName>(
     steps::look::<X>(&book.words, &mut tracks.seat, slot)
 }
 
-/// Skips the shard of an index if its idle word is later than `now`, and files the skip.
+/// Skips the shard of an index if its idle word is later than `now`, in milliseconds.
 ///
-/// `X` names the entry. See [`ServerTracks::skip_if_idle`].
+/// Returns whether the shard was skipped. A skip is filed as the entry that `X` names; otherwise
+/// nothing is filed. See [`ServerTracks::skip_if_idle`].
 fn skip_as<X: FiledName, J: ServerName>(
     book: &ServerBook<J>,
     tracks: &mut ServerTracks<J>,

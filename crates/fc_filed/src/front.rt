@@ -78,7 +78,8 @@ impl<J: ServerName> FiledFront<J> {
 
     /// Handles a datagram at `now` ms, as [`Front::handle`] does, and files that.
     ///
-    /// A job that the datagram produces begins a track.
+    /// Returns `Job` if a job was written over `job`, and `Reply` if a datagram to send was written
+    /// over `reply`. A job that the datagram produces begins a track.
     pub fn handle(
         &mut self,
         book: &ServerBook<J>,
@@ -116,9 +117,9 @@ impl<J: ServerName> FiledFront<J> {
 
     /// Handles a datagram at `now` ms, as [`Front::handle`] does, and files that.
     ///
-    /// A job that the datagram produces begins no track: the entry is on the track that is first.
-    /// A server with locks (`fc_locked`) calls it for its threads: all jobs of a thread have one
-    /// track.
+    /// Returns `Job` if a job was written over `job`, and `Reply` if a datagram to send was written
+    /// over `reply`. A job begins no track: the entry is on the track that is first. A server with
+    /// locks (`fc_locked`) makes this call for its threads: all jobs of a thread have one track.
     pub fn handle_for_first(
         &mut self,
         book: &ServerBook<J>,
@@ -165,7 +166,8 @@ impl<J: ServerName> FiledFront<J> {
 
     /// Fires the timer of a slot at `now` ms, as [`Front::fire`] does, and files that.
     ///
-    /// Its job begins no track: the entry is on the one that is first.
+    /// The timer's job is written over `job`. The job begins no track: the entry is on the track
+    /// that is first.
     #[tactic(auto, unfolding(fc_calls::specs::Doings::FiresAt))]
     pub fn fire_for_first(
         &mut self,
@@ -187,6 +189,9 @@ impl<J: ServerName> FiledFront<J> {
     }
 
     /// Draws a message ID at `now` ms, as [`Front::fresh_id`] does, and files that.
+    ///
+    /// Returns `None`, and draws nothing, if the next message ID was last drawn less than
+    /// EXCHANGE_LIFETIME before. The call is filed in both cases.
     pub fn fresh_id(
         &mut self,
         book: &ServerBook<J>,
@@ -205,6 +210,10 @@ impl<J: ServerName> FiledFront<J> {
     }
 
     /// Answers the job at `now` ms, as [`Front::respond`] does, and files that.
+    ///
+    /// If the result is `Sent`, the response is written over `reply`. Returns `Late` if the job has
+    /// no exchange or the exchange's lifetime has passed, and `NoId` if no message ID is available.
+    /// The call is filed in each case.
     pub fn respond(
         &mut self,
         book: &ServerBook<J>,

@@ -440,7 +440,10 @@ fn file_answer<Y: FiledName, J: ServerName, P: Part, A, B, X: OperationName<A, B
     file_as::<Y, J, P>(book, tracks, track, who);
 }
 
-/// Saves the update of the change that a call makes in a shard, if it makes one.
+/// Saves the update of the change that a call makes in a shard.
+///
+/// Returns `Saved` if the update is stored, and `Refused` if the store refuses it. Returns
+/// `Unchanging`, and saves nothing, if the call changes no slot. The call itself isn't made here.
 fn save_planned<C: Change, K: Store>(shard: &Shard, store: &mut K, call: &C) -> PlannedChange
     requires may { C.may_ask call.now shard.now }
     ensures unchanging { result ≡ Unchanging → (store.new ≡ store.old)

@@ -47,7 +47,7 @@ impl<J: ServerName, K: Store> Model for FiledStore<J, K> {
 }
 
 impl<J: ServerName, K: Store> FiledStore<J, K> {
-    /// Makes a filed store of an opened one. Its track is empty.
+    /// Makes a filed store of an opened one, with an empty track.
     pub fn new(store: K, track: FiledTrack<StoreOf<J>>) -> FiledStore<J, K>
         requires ready { K.is_ready store }
         requires settled { K.is_clean store → FindsRaised K.Store store }

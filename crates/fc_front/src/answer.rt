@@ -105,7 +105,10 @@ impl Answer {
         }
     }
 
-    /// Writes the answer of a run over this answer. See [`Answer::ran`].
+    /// Writes the answer of a run over this answer, and consumes `mark`.
+    ///
+    /// The answer has the outcome's code, the requested block of the reply, and the ticket's
+    /// serial, as that of [`Answer::ran`].
     pub fn write_run(&mut self, outcome: &Outcome<'_>, ticket: &Ticket<'_>, mark: Mark)
         requires { AreOne outcome.now ticket.now mark }
         ensures { self.new ≡ Ran (run_answer ticket.now (meaning_of outcome.now) mark.observed) }
@@ -127,7 +130,7 @@ impl Answer {
         };
     }
 
-    /// Writes the answer of a job whose last call wasn't a run. See [`Answer::other`].
+    /// Overwrites this answer with that of a job whose last call wasn't a run.
     pub fn write_other(&mut self, end: End)
         ensures { self.new ≡ content_of end }
     {

@@ -55,6 +55,9 @@ impl Front {
     }
 
     /// Answers a job, as [`Front::respond`] does, and returns the response to send.
+    ///
+    /// Returns `Late` if the job has no exchange or the exchange's lifetime has passed, and `NoId`
+    /// if no message ID is available. Then nothing is sent.
     pub fn answer(&mut self, now: u64, job: &Job, answer: &Answer) -> Answered
         requires { IsOf job.now answer.now }
         ensures answered { AnswersIn (advanced self.old now) job.now answer.now result }

@@ -43,7 +43,7 @@ use std::marker::Model;
 /// The job and the response are written over those that the caller passes.
 #[derive(Clone, Copy, PartialEq, Eq)]
 pub enum Handled {
-    /// Nothing: the datagram is ignored.
+    /// Nothing is sent: the datagram is ignored, or no message ID is available for its response.
     Nothing,
     /// A datagram to send immediately, which was written.
     Reply,
@@ -113,8 +113,9 @@ impl Front {
     ///
     /// `now` is in milliseconds; the clock is advanced to it, and old exchanges expire. The result
     /// is `Job` if a request is served, and its job is written over `job`. It is `Reply` if a
-    /// datagram is to be sent immediately, which is written over `reply`. Otherwise the contract
-    /// says nothing of the two. Neither is moved.
+    /// datagram is to be sent immediately, which is written over `reply`. It is `Signal` for an
+    /// Acknowledgement or a Reset message for the observers, and otherwise `Nothing`. In the last
+    /// two cases the contract says nothing of `job` and `reply`. Neither is moved.
     #[tactic(auto, unfolding(crate::specs::Receiving::received))]
     pub fn handle(
         &mut self,

@@ -61,7 +61,7 @@ impl MessageIds {
 }
 
 // Returns whether `now` is less than EXCHANGE_LIFETIME after `last`, the time when a message ID was
-// last drawn.
+// last drawn. Returns `false` if the message ID was never drawn.
 fn is_recent(now: u64, last: Option<u64>) -> bool
     ensures { result ≡ is_recent now last }
 {

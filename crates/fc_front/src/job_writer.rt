@@ -168,7 +168,8 @@ fn write_run(ask: &mut Ask, method: Method, slot: u8, request: &Request<'_>)
     }
 }
 
-// Writes the same as `write_run`, over an action that isn't a run.
+// Writes the action of running `slot`'s program on a request over `ask`, an action that isn't a
+// run.
 fn write_run_anew(ask: &mut Ask, method: Method, slot: u8, request: &Request<'_>)
     requires { IsServable (asked_by request.now) }
     ensures { ask.new ≡ Ask.Run (request_asked method slot (asked_by request.now)) }

@@ -65,7 +65,7 @@ impl Network {
         self.first_bits(ip) == self.first_bits(self.ip)
     }
 
-    // Returns the first bits of an address, as many as the network has.
+    // Returns the first bits of an address, as many as the network has, as a number.
     fn first_bits(&self, ip: [u8; 4]) -> u64
         ensures { result ≡ address_number ip / 2 ^ (32 - self.now.bits) }
     {

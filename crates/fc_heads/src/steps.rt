@@ -63,6 +63,8 @@ pub(crate) fn arrive(words: &Words) -> Seat<u8, View>
 }
 
 /// Exchanges the knowledge of two handles.
+///
+/// For each slot, each handle has then seen the greater of the values that the two had seen.
 pub(crate) fn meet(words: &Words, one: &mut Seat<u8, View>, other: &mut Seat<u8, View>)
     requires size { words.now.shared.table_id.words ≡ 64 }
     requires one { one.old.table_id ≡ words.now.shared.table_id }

@@ -68,7 +68,7 @@ pub fn helper_of(number: i32) -> Option<Helper>
     }
 }
 
-/// Returns the name by which a source calls a helper.
+/// Returns the name of a helper in a source.
 pub fn name_of(helper: Helper) -> &'static str
     ensures { result.now ≡ helper_name helper }
 {

@@ -12,7 +12,7 @@ pub const NO_READINGS: Readings = [0; READINGS];
 
 /// Returns whether two readings are the same.
 ///
-/// A commit uses it to compare an outcome's readings with those of the ticket.
+/// A commit compares an outcome's readings with those of the ticket.
 pub fn are_same_readings(readings: &[u8], other: &[u8]) -> bool
     ensures { IsTrue result ↔ (readings.now ≡ other.now) }
 {

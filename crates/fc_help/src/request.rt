@@ -297,7 +297,7 @@ impl Request {
 
     /// Returns whether the two requests are the same in all fields.
     ///
-    /// A commit uses it to compare the outcome's request with the ticket's.
+    /// A commit compares the outcome's request with the ticket's.
     pub fn is(&self, other: &Request) -> bool
         ensures { IsTrue result ↔ (self.now ≡ other.now) }
     {

@@ -53,9 +53,9 @@ impl Vars {
         self.bytes.as_slice()
     }
 
-    /// Returns whether the bytes are the same.
+    /// Returns whether two sets of variables have the same bytes.
     ///
-    /// A commit uses it to compare the outcome's and the slot's variables with the ticket's.
+    /// A commit compares the outcome's and the slot's variables with the ticket's.
     pub fn is(&self, other: &Vars) -> bool
         ensures { IsTrue result ↔ (self.now ≡ other.now) }
     {

@@ -49,7 +49,8 @@ impl<'a, C: Clock> TimeSource for Elapsed<'a, C> {
         self.milliseconds()
     }
 
-    // Returns the low 16 bits of the time in milliseconds.
+    // Returns the low 16 bits of the time in milliseconds. The word spreads retransmissions (RFC
+    // 7252, section 4.2), and is no secret.
     fn random<R: Wait>(&self, rt: &R) -> u16 {
         let _ = rt;
         (self.milliseconds() % 0x1_0000) as u16

@@ -63,8 +63,8 @@ impl ScriptedHost {
 
     /// Waits until a worker ends a job, and returns the last emission sent.
     ///
-    /// Returns `None` if none was sent since [`ScriptedHost::begin`]. It returns immediately if a
-    /// job has ended since then, and never if no job ends.
+    /// Returns `None` if none was sent since [`ScriptedHost::begin`]. The call returns immediately
+    /// if a job has ended since then, and never if no job ends.
     pub fn wait<R: Wait>(&self, rt: &R) -> Option<Emission> {
         let mut work = self
             .done

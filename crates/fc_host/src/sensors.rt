@@ -112,7 +112,8 @@ impl<'a, F: Files + Eprint> FileSensors<'a, F> {
     }
 
     // Reads up to 56 bytes from the start of the file over `sensed`; the missing bytes are zeros.
-    // Returns why there are fewer than 56 bytes.
+    // Returns the trouble if not all 56 bytes were read: `Fifo` for a FIFO, which isn't read,
+    // `Short` with the number of bytes, or `Unread` with the error.
     fn read(&self, sensed: &mut Sensed) -> Result<(), Trouble> {
         *sensed = NOTHING;
         if fs::metadata(self.files, self.path)?.file_type().is_fifo() {
@@ -138,8 +139,8 @@ impl<'a, F: Files + Eprint> FileSensors<'a, F> {
 }
 
 impl<'a, F: Files + Eprint> Sensors for FileSensors<'a, F> {
-    // Reads the file at the first call, and if `now` is later than the time of the last read.
-    // Returns the readings of the last read.
+    // Returns the readings of the file's last read. The file is read at the first call, and if
+    // `now` is later than the time of the last read.
     fn sense<R: Wait>(&self, rt: &R, now: u64) -> Sensed {
         let mut kept = self.kept.lock(rt);
         // an earlier time belongs to a delayed run, and the kept readings are newer

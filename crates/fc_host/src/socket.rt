@@ -98,7 +98,8 @@ impl<'a> Receiving<'a> {
 impl<'a> Source for Receiving<'a> {
     ghost received = { λ receive before after. after ≡ before };
 
-    // Receives a datagram. A datagram from an IPv6 address is dropped, and the result is `None`.
+    // Receives a datagram. Returns `None` if none was received in time, or if receiving failed. A
+    // datagram from an IPv6 address is dropped, and the result is `None` too.
     fn receive(
         &mut self,
         wait: Option<u64>,

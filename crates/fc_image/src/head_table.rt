@@ -29,9 +29,10 @@ pub fn loops_by_head(version: ImageVersion, code: &[Insn]) -> [Option<Loop>; MOS
     heads
 }
 
-/// Returns the loop of which an instruction is the back jump, or `None`.
+/// Returns the loop of which an instruction would be the back jump, or `None`.
 ///
-/// See [`loop_at`]. Unless loops are `allowed`, the result is `None`.
+/// Returns `None` if loops aren't `allowed`, and the result of [`loop_at`] if they are. Other
+/// instructions may still disturb the loop.
 pub(crate) fn loop_if(allowed: bool, code: &[Insn], slot: usize, insn: &Insn) -> Option<Loop>
     requires count { length code.now ≤ 1024 }
     requires slot { slot < length code.now }

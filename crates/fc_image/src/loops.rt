@@ -100,7 +100,7 @@ pub(crate) fn bound_of(jump: &Jump) -> Option<u32>
     }
 }
 
-/// Returns the step by which an instruction counts a register up, or `None`.
+/// Returns the step of an instruction that counts a register up, or `None`.
 ///
 /// The step is the immediate of an `add64` to the register `counter`, if it is 1 or more. For any
 /// other instruction the result is `None`.

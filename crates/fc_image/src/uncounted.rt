@@ -85,7 +85,7 @@ fn unformed(code: &[Insn], slot: usize, insn: &Insn) -> Uncounted
     }
 }
 
-/// Returns the missing part of a conditional jump, like `unformed`.
+/// Returns the missing part of a conditional jump that can't be a loop's back jump.
 fn unformed_jump(code: &[Insn], slot: usize, jump: &Jump) -> Uncounted
     requires count { length code.now ≤ 1024 }
     requires slot { slot < length code.now }
@@ -134,7 +134,7 @@ fn disturbed(code: &[Insn], counted: &Loop) -> Option<Uncounted>
 
 /// Returns how an instruction disturbs a loop, or `None` if it doesn't.
 ///
-/// The check of loops and the explanation of a refused jump use it.
+/// The check of loops and the explanation of a refused jump call this function.
 pub(crate) fn how_disturbed(counted: &Loop, slot: usize, insn: &Insn) -> Option<Disturbance>
     requires { slot < 1024 }
     ensures { IsHow counted.now slot insn.now result }

@@ -25,8 +25,11 @@ pub fn encode(alloc: Global, program: &[Insn]) -> Result<Vec<u8>, AllocError>
 
 /// Appends the bytes of an instruction's slots.
 ///
-/// A wide load appends both its slots, and `WideSecond` appends nothing. If memory can't be
-/// allocated, the contract doesn't say what `bytes` contains.
+/// A wide load appends both its slots, and `WideSecond` appends nothing.
+///
+/// # Errors
+/// Returns `AllocError` if memory can't be allocated. The contract then doesn't say what `bytes`
+/// contains.
 fn write(bytes: &mut Vec<u8>, insn: Insn) -> Result<(), AllocError>
     ensures { IfOk result (λ _. bytes.new.items ≡ bytes.old.items ++ flat_map bytes_of_fields (insn_slots insn)) }
 {

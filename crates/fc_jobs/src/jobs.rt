@@ -38,11 +38,11 @@ impl<M: Drop> Jobs<M> {
         Ok((jobs, sent, gots))
     }
 
-    /// Sends a job under the next number, from 0 on, or returns it.
+    /// Sends a job under the next number, from 0 on, or returns the job if it can't be sent.
     ///
-    /// Returns `None` if the job was sent. The call waits while the channel is full. The numbers
-    /// end at 2^61, from which on each job is returned. If a job is returned, `sent` is unchanged;
-    /// the dispatcher then runs the job itself.
+    /// Returns `None` if the job was sent. The call waits while the channel is full. The job is
+    /// returned if memory can't be allocated, or if its number would be 2^61 or more. Then `sent`
+    /// is unchanged, and the dispatcher runs the job itself.
     pub fn send<R: Wait>(&self, rt: &R, message: M, sent: &mut Sent<M>) -> Option<M>
         requires { sent.old.channel ≡ self.now }
         ensures sent { MatchOption result (sent.new ≡ with_sent sent.old message)

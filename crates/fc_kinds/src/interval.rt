@@ -145,7 +145,7 @@ fn masked(a: Interval, b: Interval) -> Interval
     }
 }
 
-/// Returns `n` modulo the width, the number of bits by which a count of `n` shifts.
+/// Returns the number of bits of a shift whose count is `n`: `n` modulo the width.
 fn count(width: Width, n: u64) -> u32
     ensures { result ≡ n % bits_of width }
 {

@@ -92,7 +92,9 @@ pub(crate) fn store_imm(
 /// The state doesn't change. The variables have `vars_size` bytes.
 ///
 /// # Errors
-/// Returns the broken rule as [`store_imm`] does, or if the stored register isn't a number.
+/// Returns the broken rule if the base isn't a pointer, the bytes aren't in its region, or the
+/// region is the request or the readings. Also returns the broken rule if the stored register isn't
+/// a number.
 #[tactic(auto, unfolding(crate::specs::Transfer::transfer))]
 pub(crate) fn store(
     size: Size,

@@ -16,7 +16,7 @@ const REQUEST: u16 = 1104;
 /// Length of the readings, in bytes.
 const READINGS: u16 = 64;
 
-/// Returns the least and the greatest distance by which an operand moves a pointer.
+/// Returns the least and the greatest distance over which an operand moves a pointer.
 ///
 /// `b` is the operand's abstract value.
 ///

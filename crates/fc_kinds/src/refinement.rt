@@ -9,7 +9,7 @@ use crate::kind::{Kind, Regs};
 use crate::operands::{num, operand_kind};
 use fc_isa::{Jump, Operand, Relation, Width};
 
-/// Returns the relation by which a jump's operands are refined on a branch.
+/// Returns the relation that refines a jump's operands on a branch.
 ///
 /// On the branch not taken it is the opposite relation. A signed comparison and a test of bits
 /// refine nothing, and are returned unchanged for both branches.

@@ -21,7 +21,7 @@ pub fn fronts_hold_for_247_seconds()
         (gauges.exchanges ≡ 0) × (gauges.transfers ≡ 0) }
 {}
 
-/// The limits of a front: those of its policy, and 16 transfers.
+/// A front has the limits of its policy, and 16 transfers at most.
 ///
 /// By default there are at most 1,024 exchanges. A policy of 100,000 means 65,536, and one of 0
 /// means 1.

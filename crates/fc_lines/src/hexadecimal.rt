@@ -49,8 +49,8 @@ pub fn write<W: Write>(out: &mut W, bytes: &[u8]) -> io::Result<()>
     }
 }
 
-// Writes a datagram of at most 64 bytes. Most datagrams are that short, and a buffer for the
-// longest datagram would have to be zeroed in each call.
+// Writes a datagram of at most 64 bytes as hex digits. Most datagrams are that short, and a buffer
+// for the longest datagram would have to be zeroed in each call. Returns the writer's error.
 fn write_short<W: Write>(out: &mut W, bytes: &[u8]) -> io::Result<()>
     requires { length bytes.now ≤ 64 }
     ensures { OnOk result (Appends (W.contents out.old) (W.contents out.new) (encode_lower bytes.now)) }
@@ -59,7 +59,7 @@ fn write_short<W: Write>(out: &mut W, bytes: &[u8]) -> io::Result<()>
     write_by(out, bytes, &mut digits)
 }
 
-// Writes a datagram of up to 1,280 bytes.
+// Writes a datagram of up to 1,280 bytes as hex digits. Returns the writer's error.
 fn write_long<W: Write>(out: &mut W, bytes: &[u8]) -> io::Result<()>
     requires { length bytes.now ≤ 1280 }
     ensures { OnOk result (Appends (W.contents out.old) (W.contents out.new) (encode_lower bytes.now)) }
@@ -68,7 +68,7 @@ fn write_long<W: Write>(out: &mut W, bytes: &[u8]) -> io::Result<()>
     write_by(out, bytes, &mut digits)
 }
 
-// Writes bytes as hex digits. `room` is the buffer for the digits.
+// Writes bytes as hex digits. `room` is the buffer for the digits. Returns the writer's error.
 fn write_by<W: Write>(out: &mut W, bytes: &[u8], room: &mut [u8]) -> io::Result<()>
     requires { 2 * length bytes.now ≤ length room.old }
     ensures { OnOk result (Appends (W.contents out.old) (W.contents out.new) (encode_lower bytes.now)) }

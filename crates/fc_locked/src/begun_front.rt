@@ -47,10 +47,10 @@ impl<B: Books> BegunFront<B> {
         }
     }
 
-    /// Handles a datagram, and files the call. See [`Front::handle`].
+    /// Handles a datagram at `now` ms, and files the call.
     ///
-    /// A job is written over `job`, a response over `reply`. The result says which of the two was
-    /// written, if either was.
+    /// Returns `Job` if a job was written over `job`, and `Reply` if a response was written over
+    /// `reply`. See [`Front::handle`] for the other results.
     pub(crate) fn handle(
         &mut self,
         book: &ServerBook<ServerOf<B>>,
@@ -69,7 +69,7 @@ impl<B: Books> BegunFront<B> {
             .handle_for_first(book, tracks, log.who, now, endpoint, bytes, job, reply)
     }
 
-    /// Returns how many exchanges and transfers the front holds at `now`, and their limits.
+    /// Returns how many exchanges and transfers the front holds at `now` ms, and their limits.
     ///
     /// A read changes nothing and isn't filed. See [`Front::gauges`].
     pub(crate) fn gauges(&self, now: u64) -> FrontGauges
@@ -78,7 +78,7 @@ impl<B: Books> BegunFront<B> {
         self.filed.gauges(now)
     }
 
-    /// Advances the clock to `now`, and files the call. See [`Front::tick`].
+    /// Advances the clock to `now` ms, and files the call. See [`Front::tick`].
     pub(crate) fn tick(
         &mut self,
         book: &ServerBook<ServerOf<B>>,
@@ -90,7 +90,9 @@ impl<B: Books> BegunFront<B> {
         self.filed.tick(book, &mut log.tracks, log.who, now);
     }
 
-    /// Fires the timer of a slot, and files the call. See [`Front::fire`].
+    /// Fires the timer of a slot at `now` ms, and files the call. See [`Front::fire`].
+    ///
+    /// The timer's job is written over `job`.
     pub(crate) fn fire(
         &mut self,
         book: &ServerBook<ServerOf<B>>,
@@ -107,9 +109,9 @@ impl<B: Books> BegunFront<B> {
             .fire_for_first(book, tracks, log.who, slot, now, job);
     }
 
-    /// Draws a message ID, and files the call. See [`Front::fresh_id`].
+    /// Draws a message ID at `now` ms, and files the call.
     ///
-    /// Returns `None` if none is available.
+    /// Returns `None` if none is available. See [`Front::fresh_id`].
     pub(crate) fn fresh_id(
         &mut self,
         book: &ServerBook<ServerOf<B>>,
@@ -121,9 +123,11 @@ impl<B: Books> BegunFront<B> {
         self.filed.fresh_id(book, &mut log.tracks, log.who, now)
     }
 
-    /// Answers a job, and files the call. See [`Front::respond`].
+    /// Answers a job at `now` ms, and files the call.
     ///
-    /// If the result is `Sent`, the response is written over `reply`. Otherwise none is to be sent.
+    /// If the result is `Sent`, the response is written over `reply`. Otherwise none is to be sent:
+    /// the job has no live exchange (`Late`), or no message ID is available (`NoId`). See
+    /// [`Front::respond`].
     pub(crate) fn respond(
         &mut self,
         book: &ServerBook<ServerOf<B>>,

@@ -122,7 +122,8 @@ impl<B: Books, P: Part, L: Ledger> Counted<B, P, L> {
 
     /// Advances the shard to `now` ms if it is idle then, and files that.
     ///
-    /// It also notes in the book until when the shard is idle. See [`FiledShard::advance_if_idle`].
+    /// Returns whether the shard was advanced. If it wasn't, nothing changes, and nothing is filed.
+    /// An advance also notes in the book until when the shard is idle.
     pub(crate) fn advance_if_idle(
         &mut self,
         book: &ServerBook<ServerOf<B>>,
@@ -210,8 +211,8 @@ impl<B: Books, P: Part, L: Ledger> Counted<B, P, L> {
     }
 }
 
-// Returns the slot that a call changes in a shard, if the change has to be saved: if the store is
-// persistent. The shard isn't changed.
+// Returns the slot that a call changes in a shard, if the change has to be saved. Returns `None` if
+// the store isn't persistent, or if the call changes no slot. The shard isn't changed.
 fn slot_to_save<C: Change, B: Books, K: Store>(
     store: &SharedStore<B, K>,
     shard: &Shard,
@@ -228,9 +229,10 @@ fn slot_to_save<C: Change, B: Books, K: Store>(
     call.plan(shard).map(|update| update.slot)
 }
 
-// Saves the change that a call makes in a shard, makes the call, and files it with its save. Before
-// the save it notes in the book until when the shard is idle: other threads can skip the shard
-// meanwhile.
+// Saves the change that a call makes in a shard, makes the call, and files it with its save.
+// Returns `None` if the change can't be saved: then the shard is unchanged, and the refusal is
+// filed. Before the save, the book gets the time until which the shard is idle, so that other
+// threads can skip the shard meanwhile.
 fn change_saved<C: FiledChange + Drop, B: Books, P: Part, K: Store, R: Wait>(
     filed: &mut FiledShard<ServerOf<B>, P>,
     rt: &R,

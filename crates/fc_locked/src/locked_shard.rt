@@ -106,6 +106,7 @@ impl<const INDEX: u8, B: Books> LockedShard<INDEX, B> {
 
     /// Advances the shard to `now` ms if it is idle then, under its lock, and files that.
     ///
+    /// Returns whether the shard was advanced. If it wasn't, nothing changes, and nothing is filed.
     /// An advance also notes in the book until when the shard is idle.
     pub(crate) fn advance_if_idle<R: Wait>(
         &self,

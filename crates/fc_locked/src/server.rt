@@ -252,8 +252,8 @@ impl<'a, B: Books, D: Device, K: Store + Drop> Locked<'a, B, D, K> {
 
     /// Runs a call that leaves a shard unchanged, at the shard with this index, 0 to 7.
     ///
-    /// It holds that shard's lock, and no other. The call may write its result to `room`. An index
-    /// above 7 is treated as 7. Nothing is filed.
+    /// The function holds that shard's lock, and no other. The call may write its result to `room`.
+    /// An index above 7 is treated as 7. Nothing is filed.
     pub fn inspect<C: ShardCall, R: Wait>(
         &self,
         rt: &R,
@@ -278,8 +278,8 @@ impl<'a, B: Books, D: Device, K: Store + Drop> Locked<'a, B, D, K> {
     }
 
     // Runs a call that changes no slot, at the shard with this index, 0 to 7, and files it in
-    // `log`. It holds that shard's lock, and no other. The call may write its result to `room`. An
-    // index above 7 is treated as 7.
+    // `log`. The function holds that shard's lock, and no other. The call may write its result to
+    // `room`. An index above 7 is treated as 7.
     fn ask<C: FiledCall, R: Wait>(
         &self,
         rt: &R,
@@ -307,8 +307,9 @@ impl<'a, B: Books, D: Device, K: Store + Drop> Locked<'a, B, D, K> {
         }
     }
 
-    // Advances the shard with this index, 0 to 7, to a time in milliseconds if it is idle then, and
-    // files that in `log`. It holds that shard's lock, and no other. An index above 7 is treated as
+    // Advances the shard with this index, 0 to 7, to a time in milliseconds if it is idle then.
+    // Returns whether the shard was advanced. An advance is filed in `log`; otherwise nothing
+    // changes. The function holds that shard's lock, and no other. An index above 7 is treated as
     // 7.
     fn advance_shard<R: Wait>(
         &self,
@@ -334,9 +335,9 @@ impl<'a, B: Books, D: Device, K: Store + Drop> Locked<'a, B, D, K> {
     }
 
     // Saves the change that a call makes in `slot`, runs the call at the shard that owns the slot,
-    // and files it in `log`. It holds that shard's lock, and inside it the store's if the change has
-    // to be saved. Returns `None` if it can't be saved; the refusal is filed. The tallies count the
-    // change.
+    // and files it in `log`. The function holds that shard's lock, and inside it the store's if the
+    // change has to be saved. Returns `None` if the change can't be saved: then no slot changes,
+    // and the refusal is filed. The tallies count the change.
     fn change<C: FiledChange + Drop, R: Wait>(
         &self,
         rt: &R,
@@ -364,7 +365,9 @@ impl<'a, B: Books, D: Device, K: Store + Drop> Locked<'a, B, D, K> {
         }
     }
 
-    // Does what `change` does, in a slot of one of the shards 0 to 3.
+    // Saves the change that a call makes in a slot of the shards 0 to 3, then runs the call, and
+    // files it, for `change`. Returns `None` if the change can't be saved: then no slot changes,
+    // and the refusal is filed.
     fn change_low<C: FiledChange + Drop, R: Wait>(
         &self,
         rt: &R,
@@ -404,7 +407,9 @@ impl<'a, B: Books, D: Device, K: Store + Drop> Locked<'a, B, D, K> {
         }
     }
 
-    // Does what `change` does, in a slot of one of the shards 4 to 7.
+    // Saves the change that a call makes in a slot of the shards 4 to 7, then runs the call, and
+    // files it, for `change`. Returns `None` if the change can't be saved: then no slot changes,
+    // and the refusal is filed.
     fn change_high<C: FiledChange + Drop, R: Wait>(
         &self,
         rt: &R,

@@ -73,11 +73,14 @@ impl<B: Books, K: Store> SharedStore<B, K> {
         self.is_persistent() && self.saving.load(Ordering::SeqCst) & shard_bit(slot.number()) != 0
     }
 
-    /// Saves the change that a call makes in `slot`, makes the call, and files it with its save.
+    /// Saves the change that `call` makes in `slot`, then makes the call, and files both as one
+    /// entry.
     ///
-    /// The store is persistent. The caller holds the lock of the slot's shard, `filed`, so no other
-    /// save sets or clears its bit. The store's lock is held until the call is filed. Returns
-    /// `None` if the change can't be saved: then the shard is unchanged, and the refusal is filed.
+    /// The store is persistent. The caller holds the lock of the slot's shard, `filed`. The call
+    /// writes into `room`. `slot` is the call's slot; it only selects the shard's bit of `saving`.
+    /// The store's lock is held until the call is filed. A call that changes no slot is filed
+    /// without a save. Returns `None` if the store refuses the save: the shard is unchanged, and
+    /// the refusal is filed.
     pub(crate) fn change<C: FiledChange + Drop, P: Part, R: Wait>(
         &self,
         rt: &R,
@@ -107,7 +110,9 @@ impl<B: Books, K: Store> SharedStore<B, K> {
         answer
     }
 
-    // Does what `change` does, under the store's lock. The shard's bit is set.
+    // Saves the change of a call, makes the call, and files both, under the store's lock. The
+    // shard's bit of `saving` is set meanwhile. Returns `None` if the store refuses the save: the
+    // shard is unchanged, and the refusal is filed.
     fn change_locked<C: FiledChange + Drop, P: Part, R: Wait>(
         &self,
         rt: &R,

@@ -108,8 +108,9 @@ impl Observers {
 
     /// Registers an observer as the last entry (RFC 7641, section 4.1).
     ///
-    /// `serial` is the revision that its request found. An entry of the same endpoint and token is
-    /// removed. Returns [`Registered::Full`] if there are 32 others.
+    /// `serial` is the revision that its request found. Returns [`Registered::Replaced`] if an
+    /// entry with this endpoint and token is removed, and else [`Registered::Entered`]. Returns
+    /// [`Registered::Full`], and registers nothing, if 32 others are registered.
     pub fn register(
         &mut self,
         now: u64,
@@ -207,7 +208,8 @@ impl Observers {
         self.observer_out(turn)
     }
 
-    // Borrows the observer from its place in the list, for `out`.
+    // Borrows the observer that has this lease, for `out`. Returns `None` if the lease isn't
+    // active.
     fn observer_out(&self, turn: Turn) -> Option<Observer<'_>>
         ensures observer { option_map interest result ≡ option_map interest_of (entry_out turn self.now) }
         ensures confirmable { IfSome result (λ o. o.confirmable ≡ must_confirm_turn turn self.now) }
@@ -269,7 +271,9 @@ impl Observers {
         }
     }
 
-    /// Advances the clock to `now`, and returns the result of `must_confirm`.
+    /// Advances the clock, and returns whether this lease's notification must be confirmable.
+    ///
+    /// The clock advances to `now`. Returns `false` if the lease isn't active at that time.
     pub fn confirmable(&mut self, now: u64, turn: Turn) -> bool
         ensures answer { result ≡ must_confirm_turn turn (list_at_time now self.old) }
         ensures after { self.new ≡ list_at_time now self.old }
@@ -353,9 +357,9 @@ impl Observers {
 
     /// Advances the time to `now`, and returns the first notification that has to be retransmitted.
     ///
-    /// That is the first outstanding notification that timed out. If it was retransmitted four times
-    /// already, its observer is removed, and the result is `Removed` (RFC 7252, section 4.2; RFC
-    /// 7641, section 4.5). The result is `Quiet` if no notification timed out.
+    /// That is the first outstanding notification that timed out. If it was retransmitted four
+    /// times already, its observer is removed, and the result is `Removed` (RFC 7252, section 4.2;
+    /// RFC 7641, section 4.5). The result is `Quiet` if no notification timed out.
     pub fn tick(&mut self, now: u64) -> Ticked
         ensures answer { result ≡ ticked (list_at_time now self.old) }
         ensures after { self.new ≡ after_tick (list_at_time now self.old) }
@@ -406,9 +410,9 @@ impl Observers {
             || (!self.is_overdue(now) && !self.is_due(now, notify_serial))
     }
 
-    /// Returns the result of `is_idle`, and caches until when the list is idle.
+    /// Returns whether neither `tick` nor `next_due` has anything to do.
     ///
-    /// The cached time makes the next call short.
+    /// If the result is `true`, caches until when the list is idle, so that the next call is short.
     pub fn check_idle(&mut self, now: u64, notify_serial: u64) -> bool
         ensures idle { let w = list_at_time now self.old in
             result ≡ (is_none (overdue_entry w) && is_none (next_turn notify_serial w)) }
@@ -474,7 +478,7 @@ fn is_known(held: &[Entry], endpoint: Endpoint, token: &Token) -> bool
     held.iter().any(|entry| entry.is_entry_of(endpoint, token))
 }
 
-// Removes the entry of this endpoint and token.
+// Removes the entry of this endpoint and token, if the list has one. The list's capacity stays.
 fn remove_of(held: &mut Vec<Entry>, endpoint: Endpoint, token: &Token)
     ensures held { held.new.items
         ≡ without_those (is_entry_of endpoint token.now.items) held.old.items }

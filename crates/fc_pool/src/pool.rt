@@ -95,7 +95,7 @@ impl<'a, B: Bench, G: Gate, W: Wire, M: TimeSource, R: Wait> Ingress
     for PooledIngress<'a, B, G, W, M, R> {
     ghost calls = { pooled_calls ⟦<(B, G, W, M) as WorkerParts>⟧.view };
 
-    // Counts the job that a datagram produced.
+    // Handles a datagram by the dispatcher, and returns the dispatcher's result. A job is counted.
     fn handle(&mut self, now: u64, from: Endpoint, bytes: &[u8], reply: &mut Emission) -> Handled {
         let handled = self.dispatcher.handle(now, from, bytes, reply);
         if matches!(handled, Handled::Job) {
@@ -108,7 +108,8 @@ impl<'a, B: Bench, G: Gate, W: Wire, M: TimeSource, R: Wait> Ingress
         self.dispatcher.tick(now);
     }
 
-    // Counts the timer's job.
+    // Fires a timer by the dispatcher, and counts the timer's job. Returns `Sent` with the job's
+    // number if the job was sent to a worker, and `Ended` if it has ended here.
     fn fire(&mut self, slot: SlotNumber, now: u64) -> FireOutcome {
         let number = self.dispatcher.fire(slot, now);
         self.begun = self.begun.saturating_add(1);
@@ -160,8 +161,9 @@ impl<'a, B: Bench, G: Gate, W: Wire, M: TimeSource, R: Wait> Ingress
         }
     }
 
-    // Counts the job of the lease that a shard granted. Nothing is written over `emission`: the job
-    // was sent to a worker, or has ended here.
+    // Requests a lease by the dispatcher, and counts the job of a lease that the shard granted.
+    // Returns `Unsent` for such a job, which was sent to a worker or has ended here, and else
+    // `Nobody`. Nothing is written over `emission`.
     fn notify(&mut self, shard: u8, now: u64, emission: &mut Emission) -> NotifyOutcome {
         let _ = emission;
         if self.dispatcher.notify(shard, now) {
@@ -291,8 +293,8 @@ pub fn run_pool<
     run_named::<Brand, R, W, M, D, C, K, E, X, F>(rt, alloc, err, pool, store, driver, blanks, book)
 }
 
-// Runs a pool, with ledgers of the names `B`, and `book` for its calls. The errors are
-// those of `run_pool`.
+// Runs a pool, with ledgers of the names `B`, and `book` for its calls. Returns `AllocError` if
+// memory for the server, the workers or their statistics can't be allocated.
 fn run_named<
     B: Books + Send + Sync,
     R: Threads + Wait + Sync,

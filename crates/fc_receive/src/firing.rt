@@ -35,9 +35,9 @@ impl<'a, N: Ingress> Model for Firing<'a, N> {
 }
 
 impl<'a, N: Ingress> Firing<'a, N> {
-    /// Gives a server its timers.
+    /// Makes a server that fires these timers when they are due.
     ///
-    /// `jobs` has an element for each of them, and gets those of their jobs that workers have.
+    /// `jobs` has a place for each timer, and stores the timer's job while a worker has it.
     pub(crate) fn new(ingress: N, timers: Vec<Timer>, jobs: &'a TimerJobs) -> Firing<'a, N>
         ensures { result ≡ firing_from timers.items ingress }
     {
@@ -135,8 +135,8 @@ fn fire_if_due<N: Ingress>(
     timer.offloaded = begin_if_sent(outcome, place, jobs);
 }
 
-// Stores the job of the timer at `place` in `jobs` if it was sent to a worker. Returns whether it
-// was sent.
+// Stores the job of the timer at `place` in `jobs` if it was sent to a worker. Returns whether the
+// job was sent.
 fn begin_if_sent(outcome: FireOutcome, place: usize, jobs: &TimerJobs) -> bool
     ensures { result ≡ is_offloaded outcome }
 {

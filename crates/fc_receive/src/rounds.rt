@@ -89,8 +89,8 @@ pub(crate) fn run_rounds<R: Wait, N: Ingress, P: Preparation<N>, S: Source, K: S
 }
 
 // Returns how long the next receive waits after a round at `now`, in milliseconds. `None` is
-// unlimited. The wait ends when the first timer is due that the server fires itself. If there is
-// one, the clock is read, and the wait is counted from that time.
+// unlimited. The wait ends when the first of the server's own timers is due. If there is one, the
+// clock is read, and the wait is counted from that time.
 fn next_wait<R: Wait, N: Ingress, M: TimeSource>(
     rt: &R,
     ingress: &N,
@@ -110,9 +110,10 @@ fn next_wait<R: Wait, N: Ingress, M: TimeSource>(
     until_due(ended, due, wait)
 }
 
-// Returns how long the next receive waits if the server has no timer. After a round that received a
-// datagram the wait is 100 ms, and no shard is called. After an idle round it lasts until the
-// earliest time at which there may be work, and at least 100 ms.
+// Returns how long the next receive waits if the server has no timer, in milliseconds. After a
+// round that received a datagram the wait is 100 ms, and no shard is called. After an idle round it
+// lasts until the earliest time at which there may be work, and at least 100 ms. `None` means that
+// no shard expects work, so the wait is unlimited.
 fn next_call<N: Ingress>(ingress: &N, now: u64, idle: bool) -> Option<u64>
     ensures { EndsInTime (λ shard until. N.calls.stays_idle shard ingress.now until) now idle result }
 {

@@ -47,6 +47,8 @@ impl TimerJobs {
     }
 
     /// Returns whether a worker has a job of the timer at `place`.
+    ///
+    /// Returns `false` if no timer has this place.
     pub(crate) fn is_running(&self, place: usize) -> bool {
         match self.sent.get(place) {
             Some(sent) => sent.load(Ordering::SeqCst) != 0,

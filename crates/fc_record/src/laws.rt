@@ -13,7 +13,7 @@ ghost use Rattle.fc_record.specs.Reports.{datagram_counted, lease_counted, nothi
 ghost use Rattle.fc_server.specs.Notified.{Nobody, Starved, Unsent};
 ghost use Rattle.fc_server.specs.declared.gauges.Gauges.{Gauges};
 
-/// The exact texts of two uploads and two removals.
+/// The records of two uploads and two removals have exactly these texts.
 ///
 /// The text of an upload names the method, the slot, the sender, the code, the receipt and the
 /// image's digest. For a refused image it has the rule and its place instead of the receipt. The
@@ -53,7 +53,7 @@ pub fn reports_are_written_so()
         ≡ codes "report received=1204 forbidden=1 unavailable=3 notified=40 resent=2 removed=5 offloaded=9 exchanges=12/1024 transfers=3/16 observers/7=2 observers/12=1" }
 {}
 
-/// The counts of a report after one call.
+/// A report counts each call once, by the call's result.
 ///
 /// A datagram is one more that was received. If its immediate response is `60 83 00 01`, whose code
 /// is 4.03, one more was forbidden, and with `60 a3 00 01`, 5.03, one more was unavailable. Another

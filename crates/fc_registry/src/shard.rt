@@ -169,10 +169,13 @@ impl Shard {
 
     /// Takes a snapshot of the job's slot, with these readings.
     ///
-    /// Only a handle of the program needs memory. The job's lease is checked first, at the shard's
-    /// time: if it isn't active, the result is `Stale`. If the snapshot of an active lease finds
-    /// the slot empty, the lease is marked as missing. The snapshot of a request changes nothing.
-    /// See [`Taken`].
+    /// Returns the program and the data (`Given`), or `Missing` if the slot is empty. Returns
+    /// `Refused` if memory for a handle of the program can't be allocated; nothing else needs
+    /// memory.
+    ///
+    /// The job's lease is checked first, at the shard's time: if it isn't active, the result is
+    /// `Stale`. If the snapshot of an active lease finds the slot empty, the lease is marked as
+    /// missing. The snapshot of a request changes nothing.
     pub fn take(&mut self, job: &Job, readings: &Readings) -> Took
         requires { IsOwned self.old job.now.origin.slot }
         ensures taken { TakesAt job.now readings.now self.old result }
@@ -490,7 +493,8 @@ impl Shard {
         }
     }
 
-    // Returns the notify serial of the slot at a place.
+    // Returns the notify serial of the slot at a place: that of the last change that observers are
+    // notified of.
     fn noticed_at(&self, place: usize) -> u64
         requires { place < 8 }
         ensures { result ≡ noticed_at self.entry.now place }
@@ -609,7 +613,8 @@ impl Shard {
         (0..PLACES).find(|place| self.is_due_at(now, *place))
     }
 
-    // Returns the first place with a notification that has timed out at `now`, or `None`.
+    // Returns the first place with a notification that has timed out at `now`, or `None` if there
+    // is none.
     fn overdue_place(&self, now: u64) -> Option<usize>
         ensures place { result ≡ overdue_place (record self.entry.now { now = now }) }
         ensures within { IfSome result (λ k. k < 8) }
@@ -660,7 +665,8 @@ impl Shard {
     }
 }
 
-// Makes the empty lists of observers of the shard's slots.
+// Makes the empty lists of observers of the shard's slots. Returns an error if memory can't be
+// allocated.
 fn make_watches(alloc: Global, index: u8, confirm_after: u64) -> Result<Vec<Observers>, AllocError>
     requires { index < 8 }
     ensures { IfOk result (λ w. w.items ≡ new_watches index confirm_after 8) }

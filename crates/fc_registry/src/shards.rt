@@ -65,8 +65,8 @@ pub fn make_shards(
 /// milliseconds.
 ///
 /// # Errors
-/// Returns one of the slots that can't be restored, with the reason, or that memory can't be
-/// allocated.
+/// Returns `Slot` with the number of a slot that can't be restored, and the reason. Returns
+/// `Memory` if memory for the shards can't be allocated.
 pub fn restore_shards(
     alloc: Global,
     confirm_after: u64,
@@ -87,8 +87,8 @@ pub fn restore_shards(
     Ok(shards)
 }
 
-// Makes the shard with this index, whose slots are restored from their stored states. Returns the
-// reason if a slot isn't restored, or if memory can't be allocated.
+// Makes the shard with this index, whose slots are restored from their stored states. Returns
+// `Slot` with a slot that isn't restored and the reason, or `Memory` if memory can't be allocated.
 fn restore_shard(
     alloc: Global,
     index: u8,
@@ -109,7 +109,8 @@ fn restore_shard(
     Ok(shard)
 }
 
-// Restores a slot of a new shard. Returns the slot with the reason if it isn't restored.
+// Restores a slot of a new shard. If the slot isn't restored, returns `Slot` with its number and
+// the reason.
 fn restore_slot(
     alloc: Global,
     shard: &mut Shard,

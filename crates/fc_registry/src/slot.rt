@@ -97,7 +97,8 @@ impl SlotState {
 
     // Takes the snapshot of the lease `turn`, for `Shard::take_into`, at the shard's time. The
     // result is `Stale` if the lease isn't active. If the lease is active and the slot is empty,
-    // the lease is marked as missing. See `find` for the other results.
+    // the lease is marked as missing, and the result is `Missing`. Otherwise the result is `Given`,
+    // or `Refused` if memory for a handle of the program can't be allocated.
     pub(crate) fn take_turn(
         &self,
         watch: &mut Observers,
@@ -155,7 +156,8 @@ impl SlotState {
         }
     }
 
-    // Installs a program in a slot. At the last serial nothing changes, and the result is `AtEnd`.
+    // Installs a program in a slot. Returns the slot's new serial, and whether the slot was empty.
+    // At the last serial nothing changes, and the result is `AtEnd`.
     pub(crate) fn install(&mut self, program: Arc<Verified>, initial: InitialVars) -> Made
         ensures answer { result ≡ (install_in (as_seen self.old) program.value initial).answer }
         ensures slot { let old = as_seen self.old in
@@ -187,8 +189,9 @@ impl SlotState {
         self.body = body;
     }
 
-    // Sets a slot to its stored state, with an empty ring. Returns the reason if it can't; then the
-    // slot is unchanged. The slot's serial never falls.
+    // Sets a slot to its stored state, with an empty ring. The slot's serial never falls. Returns
+    // the reason if the slot can't be restored; then the slot is unchanged. A stored serial below
+    // the slot's serial, or above the last one, gives `State`.
     pub(crate) fn restore(&mut self, alloc: Global, stored: &StoredSlot) -> Result<(), RestoreError>
         ensures restored { OnOk result (as_seen self.new ≡ restored_slot stored.now) }
         ensures record { OnOk result (IsRecord (as_seen self.new)) }
@@ -205,8 +208,8 @@ impl SlotState {
         Ok(())
     }
 
-    // Removes the program of a slot. Nothing changes if the slot is empty (`Absent`) or at its last
-    // serial (`AtEnd`).
+    // Removes the program of a slot, and returns the slot's new serial. Nothing changes if the slot
+    // is empty (`Absent`) or at its last serial (`AtEnd`).
     pub(crate) fn remove(&mut self) -> Removal
         ensures answer { result ≡ (remove_from (as_seen self.old)).answer }
         ensures slot { as_seen self.new ≡ after_changes (as_seen self.old) (remove_from (as_seen self.old)).changes }
@@ -258,10 +261,10 @@ impl SlotState {
         }
     }
 
-    // Returns the outcome that the commit of a ticket's run would have. The slot doesn't change. A
-    // run that has nothing to write keeps the slot, and isn't compared with it. Otherwise the slot has changed
-    // since the ticket (`Overtakes`), its last serial is used (`Ends`), or the run's variables are to
-    // be written (`Writes`).
+    // Returns the effect that the commit of a ticket's run would have; the slot doesn't change
+    // here. The result is `Keeps` for a run that has nothing to write, which isn't compared with
+    // the slot. Otherwise the slot has changed since the ticket (`Overtakes`), its last serial is
+    // used (`Ends`), or the run's variables are to be written (`Writes`).
     fn outcome_of(&self, outcome: &Outcome<'_>, ticket: &Ticket<'_>) -> CommitOutcome
         requires { IsOwn outcome.now ticket.now (as_seen self.now) }
         ensures { ComesTo ticket.now (as_seen self.now) result }
@@ -279,7 +282,8 @@ impl SlotState {
 
     // Commits a run to its slot, for `Shard::commit`. A run that has nothing to write may register
     // the client as an observer or remove it, at the shard's time. Nothing changes unless the
-    // result is `Done`.
+    // result is `Done`. Returns `Stranger` if the outcome or the ticket doesn't belong to the slot,
+    // `Overtaken` after a conflict, and `Ended` at the last serial.
     pub(crate) fn commit(
         &mut self,
         watch: &mut Observers,
@@ -370,7 +374,7 @@ fn vars_after(outcome: &Outcome<'_>) -> Vars
     ensures vars { result ≡ (meaning_of outcome.now).vars }
     ensures size { length result ≡ outcome.now.program.vars_size }
 {
-    // This call tells the prover the greatest number of bytes of the variables.
+    // From this call the prover knows the greatest number of bytes of the variables.
     let _size = outcome.program().vars_size();
     Vars::of(outcome.after())
 }

@@ -94,7 +94,8 @@ pub fn begin_in(alloc: Global, line: &[u8]) -> Result<Option<Begin>, AllocError>
     }
 }
 
-// Returns the initial state that a line's words give, or `None` if they give none. See `begin_in`.
+// Returns the initial state that a line's words give, or `None` if the words don't have the form
+// that `begin_in` accepts. Returns an error if memory can't be allocated.
 fn begin_of(alloc: Global, words: &[&str]) -> Result<Option<Begin>, AllocError>
     ensures { IfOk result (λ found. IfSome found (SaysBegin (texts words.now))) }
 {

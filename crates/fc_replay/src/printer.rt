@@ -75,7 +75,7 @@ pub fn print_slot<W: Write>(
     Ok(())
 }
 
-// Prints a version, or a dash if there is no program.
+// Prints a version, or a dash if there is no program. Returns the writer's error.
 fn print_version<W: Write>(out: &mut W, version: Option<u64>) -> io::Result<()>
     ensures { OnOk result (Appends (W.contents out.old) (W.contents out.new) (version_text version)) }
 {
@@ -85,7 +85,8 @@ fn print_version<W: Write>(out: &mut W, version: Option<u64>) -> io::Result<()>
     }
 }
 
-// Prints variables as hex digits, or a dash if there are none.
+// Prints variables as hex digits, or a dash if there are none. Returns `Output` if writing fails,
+// and `Memory` if memory for the digits can't be allocated.
 fn print_vars<W: Write>(alloc: Global, out: &mut W, vars: &[u8]) -> Result<(), Stop>
     ensures { OnOk result (Appends (W.contents out.old) (W.contents out.new) (vars_text vars.now)) }
 {

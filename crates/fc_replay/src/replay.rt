@@ -76,6 +76,7 @@ fn begun(alloc: Global, text: &[u8]) -> Result<(Begin, &[u8]), AllocError>
 }
 
 // Returns the first line of a text, without its line feed, and the text after the line feed.
+// Without a line feed the first line is the whole text, and no text follows.
 fn first_line(text: &[u8]) -> (&[u8], &[u8])
     ensures { IsFirstLine text.now result.0.now result.1.now }
 {
@@ -107,7 +108,8 @@ fn list_of(text: &[u8]) -> &[u8]
 }
 
 // Replays a list that follows `before` lines, and prints the results. If a line is bad, the error
-// is `BadLine` with the line's number, and no event is executed.
+// is `BadLine` with the line's number, and no event is executed. Otherwise the error is `Output` if
+// printing fails, or `Memory` if memory can't be allocated.
 fn replay_lines<W: Write>(
     alloc: Global,
     begin: &Begin,
@@ -126,7 +128,7 @@ fn replay_lines<W: Write>(
     Ok(())
 }
 
-// Prints a line for each event: its emission, or `none`.
+// Prints a line for each event: its emission, or `none`. Returns `Output` if printing fails.
 fn print_emissions<W: Write>(out: &mut W, emissions: &[Option<Emission>]) -> Result<(), Stop>
     ensures { OnOk result (Appends (W.contents out.old) (W.contents out.new) (flat_map emitted_line emissions.now)) }
 {
@@ -155,8 +157,8 @@ fn lines(alloc: Global, list: &[u8], before: u64) -> Result<Vec<ListedEvent<'_>>
     Ok(lines)
 }
 
-// Returns the event of each line. `lines` follow `before` other lines. The errors are those of the
-// function `lines`.
+// Returns the event of each line. `lines` follow `before` other lines. Returns `BadLine` with the
+// number of the first line that is no event, or `Memory` if memory can't be allocated.
 fn events<'a>(
     alloc: Global,
     lines: &'a [ListedEvent<'_>],
@@ -176,7 +178,8 @@ fn events<'a>(
     Ok(events)
 }
 
-// Prints each slot whose serial is above 0, in the order of the slots' numbers.
+// Prints each slot whose serial is above 0, in the order of the slots' numbers. Returns `Output` if
+// printing fails, or `Memory` if memory for a slot's digits can't be allocated.
 fn print_slots<W: Write>(alloc: Global, out: &mut W, shards: &[Shard]) -> Result<(), Stop>
     requires { AreShards shards.now }
     ensures { OnOk result (Appends (W.contents out.old) (W.contents out.new) (told_of_all shards.now)) }

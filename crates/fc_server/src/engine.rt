@@ -234,8 +234,11 @@ impl Engine {
     ///
     /// `now` is in milliseconds. The effect is the event `Due`. If `Due` grants a lease, `Take`
     /// with these readings, `Fresh`, `Note` and `GiveUp` of the lease follow. `random` determines
-    /// how long the server waits for the acknowledgement of a confirmable notification. If the
-    /// result is `Sent`, the datagram to send is written over `emission`.
+    /// how long the server waits for the acknowledgement of a confirmable notification.
+    ///
+    /// If the result is `Sent`, the datagram to send is written over `emission`. Returns `Nobody`
+    /// if no observer has a pending notification, `Starved` if no message ID is available, and
+    /// otherwise `Unsent`: memory for the snapshot can't be allocated.
     pub fn notify(
         &mut self,
         shard: u8,
@@ -300,7 +303,9 @@ fn signal(server: &mut Server, endpoint: Endpoint, id: u16, reset: bool)
 }
 
 // Runs a lease that a shard has just granted, and releases the lease unless the notification has
-// ended it. If the result is `Sent`, the datagram to send is written over `emission`.
+// ended it. If the result is `Sent`, the datagram to send is written over `emission`. Returns
+// `Starved` if no message ID is available, and `Unsent` if memory for the snapshot can't be
+// allocated.
 fn tell(
     server: &mut Server,
     now: u64,
@@ -342,9 +347,10 @@ fn notify_outcome(sent: bool, starved: bool) -> NotifyOutcome
     }
 }
 
-// Runs the job that the front has just produced, by the job's first stage. Returns whether there is
-// a datagram to send, which is written over `reply`. The functions below, one for each first stage,
-// return the same.
+// Runs the job that the front has just produced, from its first stage to its answer. Returns
+// whether a datagram is to be sent, which is then written over `reply`. The functions from
+// `look_and_run` to `discover` do this for one first stage each. `run` also returns whether memory
+// for the snapshot was allocated.
 fn work_off(
     server: &mut Server,
     alloc: Global,
@@ -370,7 +376,8 @@ fn work_off(
 }
 
 // Runs a job that has ETags. If the slot's head word matches one of the ETags, the answer is 2.03
-// (Valid). Otherwise the slot's program runs.
+// (Valid). Otherwise the slot's program runs. Returns whether a datagram is to be sent, which is
+// then written over `reply`.
 fn look_and_run(
     server: &mut Server,
     now: u64,
@@ -396,7 +403,8 @@ struct Ran {
 }
 
 // Runs the program of a job's slot, and answers the job. An event that the job's stage doesn't need
-// has no effect. The datagram to send, if there is one, is written over `reply`.
+// has no effect. Returns whether memory for the snapshot was allocated or wasn't needed, and
+// whether a datagram is to be sent, which is then written over `reply`.
 fn run(
     server: &mut Server,
     now: u64,
@@ -420,7 +428,8 @@ fn run(
     }
 }
 
-// Installs the program of a job's image, and answers the job.
+// Installs the program of a job's image, and answers the job. Returns whether a datagram is to be
+// sent, which is then written over `reply`.
 fn install(
     server: &mut Server,
     alloc: Global,
@@ -437,7 +446,8 @@ fn install(
     server.respond(now, task, reply)
 }
 
-// Removes the program of a job's slot, and answers the job.
+// Removes the program of a job's slot, and answers the job. Returns whether a datagram is to be
+// sent, which is then written over `reply`.
 fn remove(server: &mut Server, now: u64, task: &mut Task, reply: &mut Emission) -> bool
     requires { IsBegun server.old task.old }
     ensures works { WorksOffUnread Stage.ToRemove now server.old task.old server.new (emission_if result reply.new) }
@@ -448,7 +458,8 @@ fn remove(server: &mut Server, now: u64, task: &mut Task, reply: &mut Emission) 
     server.respond(now, task, reply)
 }
 
-// Answers a job with the receipt of its slot's program, or with 4.04 if the slot is empty.
+// Answers a job with the receipt of its slot's program, or with 4.04 if the slot is empty. Returns
+// whether a datagram is to be sent, which is then written over `reply`.
 fn describe(server: &mut Server, now: u64, task: &mut Task, reply: &mut Emission) -> bool
     requires { IsBegun server.old task.old }
     ensures works { WorksOffUnread Stage.ToDescribe now server.old task.old server.new (emission_if result reply.new) }
@@ -458,7 +469,8 @@ fn describe(server: &mut Server, now: u64, task: &mut Task, reply: &mut Emission
     server.respond(now, task, reply)
 }
 
-// Answers a job with the links to the slots that have a program, by their head words.
+// Answers a job with the links to the slots that have a program, by their head words. Returns
+// whether a datagram is to be sent, which is then written over `reply`.
 fn discover(server: &mut Server, now: u64, task: &mut Task, reply: &mut Emission) -> bool
     requires { IsBegun server.old task.old }
     ensures works { (seen : ArrayVec ℕ) → WorksOffUnread (Stage.ToList seen) now server.old task.old server.new (emission_if result reply.new) }

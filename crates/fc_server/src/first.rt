@@ -58,7 +58,8 @@ impl FirstServer {
     /// `id` first. Its head words are those of the restored programs.
     ///
     /// # Errors
-    /// Returns a slot that can't be restored, with the reason, or that memory can't be allocated.
+    /// Returns `Slot` with the number of a slot that can't be restored, and the reason. Returns
+    /// `Memory` if memory can't be allocated.
     pub fn over(
         alloc: Global,
         stored: &[StoredSlot],

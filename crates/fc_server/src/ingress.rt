@@ -24,7 +24,7 @@ pub trait Ingress {
     ///
     /// A response is written over `reply`. The job of a request runs here or on a worker. A signal
     /// goes to each shard. Returns `Reply` if the written response is to be sent, and `Job` if a
-    /// worker has the job or has sent its response.
+    /// worker has the job or has sent its response. After any other result nothing is to be sent.
     fn handle(&mut self, now: u64, from: Endpoint, bytes: &[u8], reply: &mut Emission) -> Handled
         ensures { calls.handles now from bytes.entry self.old self.new result reply.new };
 
@@ -34,14 +34,17 @@ pub trait Ingress {
 
     /// Fires the timer of a slot at `now`, in milliseconds.
     ///
-    /// The timer's job, a POST of the slot's resource, runs here or on a worker. It sends nothing.
+    /// The timer's job, a POST of the slot's resource, runs here or on a worker. The job sends
+    /// nothing. Returns `Sent` with the job's number if the job was sent to a worker. Otherwise the
+    /// job has ended here. `Refused` means that it ended without a run, since memory for its
+    /// snapshot couldn't be allocated.
     fn fire(&mut self, slot: SlotNumber, now: u64) -> FireOutcome
         ensures { calls.fires slot now self.old self.new result };
 
-    /// Returns when the first timer is due that the server fires itself.
+    /// Returns the time at which the first of the server's own timers is due.
     ///
-    /// It fires the timer when it handles a datagram or its clock is advanced. The time is in
-    /// milliseconds; 2^64 - 1 means that the server has no timer.
+    /// The server fires such a timer when it handles a datagram or its clock is advanced. The time
+    /// is in milliseconds; 2^64 - 1 means that the server has no timer.
     fn first_due(&self) -> u64
         ensures { calls.is_first_due self.now result };
 
@@ -79,7 +82,8 @@ pub trait Ingress {
     ///
     /// `now` is in milliseconds. The lease of the observer runs here or on a worker. If the result
     /// is `Sent`, the datagram to send is written over `emission`. Nothing is written if a worker
-    /// has the lease or has sent the notification.
+    /// has the lease or has sent the notification (`Unsent`). `Nobody` means that no observer has a
+    /// pending notification.
     fn notify(&mut self, shard: u8, now: u64, emission: &mut Emission) -> NotifyOutcome
         ensures { calls.notifies shard now self.old self.new (notified_as result emission.new) };
 }

@@ -102,8 +102,9 @@ impl Server {
 
     /// Handles a datagram received at `now`, in milliseconds.
     ///
-    /// The job of a request is written over `job`, and a response over `reply`. See
-    /// [`Front::handle`].
+    /// Returns `Job` if the job of a request was written over `job`, and `Reply` if a datagram to
+    /// send was written over `reply`. The result is `Signal` for an Acknowledgement or a Reset
+    /// message for the observers, and otherwise `Nothing`.
     pub fn handle(
         &mut self,
         now: u64,
@@ -433,7 +434,7 @@ impl Server {
     }
 
     // Notifies the observer of a task's lease at `now`, in milliseconds, for `work`. Returns the
-    // datagram to send, if there is one.
+    // datagram to send, or `None` if the lease isn't active or the task isn't at this stage.
     fn tell(&mut self, now: u64, random: u16, task: &mut Task) -> Option<Emission>
         requires { AtWork self.old task.old }
         ensures { (k : ℕ) → Does (Event.Note k now random) self.old task.old self.new task.new result }
@@ -450,7 +451,8 @@ impl Server {
     ///
     /// `now` is in milliseconds. No program runs if the slot was empty. The observer is notified if
     /// the lease is still active. The datagram is written over `emission`. Returns whether there is
-    /// a datagram to send.
+    /// a datagram to send. The result is `false`, and nothing changes, unless the task is to notify
+    /// an observer next.
     pub fn note(&mut self, now: u64, random: u16, task: &mut Task, emission: &mut Emission) -> bool
         requires { AtWork self.old task.old }
         ensures { (k : ℕ) →
@@ -468,8 +470,9 @@ impl Server {
         task.give_up(&mut self.shards[task.job.origin.slot.shard()], now);
     }
 
-    // Answers a task at `now`, in milliseconds, if the task's stage has an answer, for `work`.
-    // Returns the datagram to send, if there is one.
+    // Answers a task at `now`, in milliseconds, for `work`. Returns the datagram to send. Returns
+    // `None` if the task's stage has no answer, if the exchange's lifetime has passed, or if no
+    // message ID is available.
     fn answer(&mut self, now: u64, task: &mut Task) -> Option<Emission>
         requires { AtWork self.old task.old }
         ensures { Responds now self.old task.old self.new task.new result }
@@ -485,7 +488,8 @@ impl Server {
     /// Applies `Answer`: answers a task if the task's stage has an answer.
     ///
     /// `now` is in milliseconds. The datagram is written over `reply`. Returns whether there is a
-    /// datagram to send. A task with an answer has then ended, even if nothing is sent.
+    /// datagram to send. There is none without an answer, without a live exchange, or without a
+    /// message ID. A task with an answer has then ended, even if nothing is sent.
     pub fn respond(&mut self, now: u64, task: &mut Task, reply: &mut Emission) -> bool
         requires { AtWork self.old task.old }
         ensures { Responds now self.old task.old self.new task.new (emission_if result reply.new) }

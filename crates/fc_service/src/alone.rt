@@ -30,7 +30,7 @@ impl<'a, 'b, Z: Sensors, C: Recorder> Preparation<RecordedAlone<'b, C>> for Sens
 impl LineIngress for SingleThread {
     ghost hands = { HandsAlone };
 
-    // The random word is 0, since the output is to be the same each time.
+    // Sets the readings. The random word is 0, so that the output is the same each time.
     fn hand(&mut self, readings: &Readings) {
         self.set_handed(readings, 0);
     }

@@ -205,7 +205,7 @@ pub fn restarts_keep_the_order_of_observe()
 
 /// A server with one worker counts the replies of its rounds, of the worker and of the dispatcher.
 ///
-/// The rounds sent one reply at once. The worker sent two and failed to send eight, and the
+/// The rounds sent one reply immediately. The worker sent two and failed to send eight, and the
 /// dispatcher's jobs sent four and failed to send sixteen.
 pub fn replies_of_all_threads_are_counted<
     Z: Sensors,
@@ -331,8 +331,8 @@ pub fn starts_begin_above_saved_serials<S: Store>()
 /// calls continues it. The machine stops at some place of the order: after the calls `earlier`, and
 /// before `later`. So far the medium has returned the data that was written to it. Then a start
 /// finds the slots of the longer history, which has the calls up to there. It may also find one
-/// update that was refused since the last one was stored (`found`). A slot that hasn't changed since
-/// the start may have another serial than the found one.
+/// update that was refused since the last one was stored (`found`). A slot that hasn't changed
+/// since the start may have another serial than the found one.
 pub fn starts_find_what_was_served<
     Z: Sensors,
     S: Source,
@@ -352,10 +352,10 @@ pub fn starts_find_what_was_served<
 /// The next start begins with the programs of the history, if a crash comes at any place of it.
 ///
 /// At this place a start finds the slots of the history `h` (`FindsHistory`), and the medium is
-/// clean. A crash leaves the slots `found`, and the next start restores them. Then each slot has the
-/// program, the version and the variables that the history leaves in it, or an update of the slot
-/// was refused. If the update of slot 5 was refused, and that of slot 6 was stored, slot 6 has no
-/// refused update.
+/// clean. A crash leaves the slots `found`, and the next start restores them. Then each slot has
+/// the program, the version and the variables that the history leaves in it, or an update of the
+/// slot was refused. If the update of slot 5 was refused, and that of slot 6 was stored, slot 6 has
+/// no refused update.
 pub fn next_starts_begin_as_served<P: Store>()
     ensures begins { (first next : ServerState) (stored found : StoredSlots) (opened closed : P) (calls later : List FiledEntry) (h : History)
         → (finds : FindsHistory P.Store first stored opened closed calls later h) → AreStoredAtFirst first stored

@@ -198,7 +198,9 @@ struct Received<S: Source + Drop> {
     replies: Replies,
 }
 
-// Serves to the end. If there are reports, the reporter counts what is passed to the sink.
+// Serves to the end, and returns the source and the numbers of replies. If there are reports, the
+// reporter counts the datagrams that are passed to the sink. Returns why the server doesn't start
+// if the clock can't be read or memory can't be allocated.
 fn serve_counted<
     R: Threads + Wait + Clock + Sync,
     S: Source + Drop,
@@ -275,8 +277,9 @@ fn serve_to_end<
     Ok(serve_pooled(rt, err, service, slots, source, sink, &wire, &times, &jobs)?)
 }
 
-// Returns whether a server runs all jobs on the receiving thread. With a persistent store it never
-// does, so that other jobs run while a change is saved.
+// Returns whether a server runs all jobs on the receiving thread: with one worker, and a store that
+// isn't persistent. With a persistent store it never does, so that other jobs run while a change is
+// saved.
 fn is_one_thread<P: Store>(workers: u8, store: &ReadyStore<P>) -> bool
     ensures one { result ≡ true → IsOneThread workers P.persistent }
     ensures more { result ≡ false → IsOneThread workers P.persistent → ⊥ }

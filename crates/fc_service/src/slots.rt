@@ -62,15 +62,16 @@ impl<P: Store + Drop> Slots<P> {
     /// Restores the slots of a store, and saves the serial at which they start.
     ///
     /// `stored` has the store's slots 0 to 63, which are restored as by [`restored_slots`]. Another
-    /// start would find just these slots, as in a store that was opened. If the store is persistent,
-    /// their serial is then saved with slot 0, whose program stays. After that save, each later start
-    /// over the store has a greater serial, even if the clock is set back.
+    /// start would find just these slots, as in a store that was opened. If the store is
+    /// persistent, their serial is then saved with slot 0, whose program stays. After that save,
+    /// each later start over the store has a greater serial, even if the clock is set back.
     ///
     /// Returns the slots, and `true` unless the store refuses the save. A server can start without
     /// it: a full disk, for example, doesn't prevent GETs.
     ///
     /// # Errors
-    /// Returns a slot that can't be restored, with the reason, or that memory can't be allocated.
+    /// Returns `Slot` with the number of a slot that can't be restored, and the reason. Returns
+    /// `Memory` if memory can't be allocated.
     pub fn restored(
         alloc: Global,
         store: P,
@@ -131,7 +132,8 @@ impl Slots<NoStore> {
 /// verified again.
 ///
 /// # Errors
-/// Returns a slot that can't be restored, with the reason, or that memory can't be allocated.
+/// Returns `Slot` with the number of a slot that can't be restored, and the reason. Returns
+/// `Memory` if memory can't be allocated.
 pub fn restored_slots(
     alloc: Global,
     stored: &[StoredSlot],

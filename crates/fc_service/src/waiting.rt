@@ -25,7 +25,8 @@ pub(crate) struct LockStep<'a, R: Wait, N: Ingress> {
 impl<'a, R: Wait, N: Ingress> Ingress for LockStep<'a, R, N> {
     ghost calls = { calls_through (λ waiting. waiting.ingress) (waited_calls N.calls) };
 
-    // Waits for the worker of the datagram's job, and returns its response as an immediate one.
+    // Handles a datagram, waits for the worker of its job, and returns the worker's response as an
+    // immediate one. Returns `Nothing` if the worker sent no response.
     fn handle(&mut self, now: u64, from: Endpoint, bytes: &[u8], reply: &mut Emission) -> Handled {
         self.scripted.begin(self.rt, now);
         match self.ingress.handle(now, from, bytes, reply) {
@@ -44,7 +45,8 @@ impl<'a, R: Wait, N: Ingress> Ingress for LockStep<'a, R, N> {
         self.ingress.tick(now);
     }
 
-    // Waits for the worker of the timer's job.
+    // Fires a timer. If the timer's job was sent to a worker, waits for the worker, and returns
+    // `Ended`.
     fn fire(&mut self, slot: SlotNumber, now: u64) -> FireOutcome {
         self.scripted.begin(self.rt, now);
         match self.ingress.fire(slot, now) {
@@ -96,7 +98,7 @@ impl<'a, R: Wait, N: Ingress> Ingress for LockStep<'a, R, N> {
 impl<'a, R: Wait, N: Ingress> LineIngress for LockStep<'a, R, N> {
     ghost hands = { λ readings old new. new.ingress ≡ old.ingress };
 
-    // The workers' snapshots get the readings, from the scripted host.
+    // Passes the readings to the scripted host, from which the workers' snapshots get them.
     fn hand(&mut self, readings: &Readings) {
         self.scripted.set(self.rt, *readings);
     }

@@ -60,7 +60,8 @@ fn columns_in(row: &Row) -> Result<Columns, Unread>
     })
 }
 
-// Reads the second column, a number or NULL.
+// Reads the second column: a number, or NULL as `None`. Returns the reason `BadRow::Version` if its
+// value is neither.
 fn version_in(row: &Row) -> Result<Option<u64>, Unread>
     ensures ok { IfOk result (λ v. column row.now 1 ≡ or_null (λ n. Int (pos n)) v) }
     ensures bad { IfErr result (λ e. length row.now ≡ 4 → AreUnreadColumns row.now e) }
@@ -68,7 +69,8 @@ fn version_in(row: &Row) -> Result<Option<u64>, Unread>
     column(row, 1, BadRow::Version)
 }
 
-// Reads the fourth column, a blob or NULL.
+// Reads the fourth column: a blob, or NULL as `None`. Returns the reason `BadRow::Program` if its
+// value is neither, and `Unread::Memory` if memory can't be allocated.
 fn vars_in(row: &Row) -> Result<Option<Vec<u8>>, Unread>
     ensures ok { IfOk result (λ v. column row.now 3 ≡ or_null (λ b. Blob b.items) v) }
     ensures bad { IfErr result (λ e. length row.now ≡ 4 → AreUnreadColumns row.now e) }
@@ -76,7 +78,8 @@ fn vars_in(row: &Row) -> Result<Option<Vec<u8>>, Unread>
     column(row, 3, BadRow::Program)
 }
 
-// Reads the column at the index `at`. `bad` is the reason if its value isn't of the type `T`.
+// Reads the column at the index `at`. Returns the reason `bad` if the column's value isn't of the
+// type `T`, and `Unread::Memory` if memory can't be allocated.
 fn column<T: FromSql>(row: &Row, at: usize, bad: BadRow) -> Result<T, Unread>
     ensures ok { IfOk result (λ x. T.FromSql.reads_as (column row.now at) x) }
     ensures bad { IfErr result (IsUnreadColumn T.FromSql.is_readable row.now at bad) }

@@ -26,13 +26,13 @@ pub fn open(rt: &HostRuntime, path: &str) -> Result<FileOfSlots, OpenError>
     open_from(rt, path, Wary)
 }
 
-/// Opens the store, as [`open`] does, with a contract about its contents.
+/// Opens the store in the file at `path`, with a contract about the store's contents.
 ///
 /// In contracts, `S` states the first contents of the files, which no program can read, and what a
 /// torn write may leave. `Wary` supposes that a torn write may leave any bytes.
 ///
 /// # Errors
-/// Returns why the file can't be opened, as [`open`] does.
+/// Returns why the file can't be opened. A file that isn't a store of slots keeps its contents.
 pub fn open_from<S: Start>(
     rt: &HostRuntime,
     path: &str,
@@ -49,7 +49,8 @@ pub fn open_from<S: Start>(
     }
 }
 
-// Opens the database in the file at `path`, and makes the file if there is none.
+// Opens the database in the file at `path`, and makes the file if there is none. Returns the
+// database's error if opening fails.
 fn connect<S: Start>(
     rt: &HostRuntime,
     path: &str,

@@ -52,7 +52,8 @@ pub fn load<S: Alter + Drop>(
     }
 }
 
-// Reads the stored slots of the table, for `load`. Returns an error if a transaction is open.
+// Reads the stored slots of the table, for `load`. Returns the error of `read_table`, or an error
+// if a transaction is open.
 fn read_made<S: Alter + Drop>(
     alloc: Global,
     conn: &mut Connection<S>,
@@ -77,7 +78,9 @@ fn read_made<S: Alter + Drop>(
     }
 }
 
-// Creates the table in an empty database. Returns `Foreign` if the database has other tables.
+// Creates the table in an empty database, and changes nothing if the database has just this table.
+// Returns `Foreign` if the database has anything else, and the database's error if the statement
+// fails.
 fn make_table<S: Alter + Drop>(conn: &mut Connection<S>) -> Result<(), OpenError>
     ensures made { HasCleanDisk (state S.Store conn.new) → OnOk result (IsTableMade (state S.Store conn.old) (state S.Store conn.new)) }
     ensures refused { HasCleanDisk (state S.Store conn.new) → IfErr result (OtherTables (state S.Store conn.old) (state S.Store conn.new)) }
@@ -92,7 +95,8 @@ fn make_table<S: Alter + Drop>(conn: &mut Connection<S>) -> Result<(), OpenError
     create(conn)
 }
 
-// Creates the table in a database that is empty, by one statement, which commits.
+// Creates the table in an empty database, by one statement that commits. Returns the database's
+// error if the statement fails.
 fn create<S: Alter + Drop>(conn: &mut Connection<S>) -> Result<(), OpenError>
     requires empty { (state S.Store conn.old).now.schema ≡ no_schema }
     ensures made { HasCleanDisk (state S.Store conn.new) → OnOk result (HasNoRow (state S.Store conn.new)) }
@@ -105,7 +109,9 @@ fn create<S: Alter + Drop>(conn: &mut Connection<S>) -> Result<(), OpenError>
     }
 }
 
-// Reads the stored slots of the table, and checks that it has no other rows.
+// Reads the stored slots of the table, and checks that it has no other rows. Returns `Row` if a row
+// isn't the state of a slot, `Memory` if memory can't be allocated, and the database's error if a
+// query fails.
 fn read_table<S: Alter + Drop>(
     alloc: Global,
     conn: &mut Connection<S>,
@@ -127,7 +133,8 @@ fn read_table<S: Alter + Drop>(
     }
 }
 
-// Reads slots 0 to 63, and ignores other rows. Returns `Row` for a slot that `read_slot` refuses.
+// Reads slots 0 to 63, and ignores other rows. Returns `Row` for a slot that `read_slot` refuses,
+// `Memory` if memory can't be allocated, and the database's error if a query fails.
 fn read_slots<S: Alter + Drop>(
     alloc: Global,
     conn: &mut Connection<S>,
@@ -155,7 +162,8 @@ fn read_slots<S: Alter + Drop>(
 }
 
 // Reads a slot; a slot without a row is blank. Returns `Row` if the slot has several rows, or if
-// its only row isn't the state of a slot.
+// its only row isn't the state of a slot. Returns `Memory` if memory can't be allocated, and the
+// database's error if the query fails.
 fn read_slot<S: Alter + Drop>(conn: &mut Connection<S>, slot: u8) -> Result<StoredSlot, OpenError>
     requires table { HasTable (state S.Store conn.old) }
     ensures found { HasCleanDisk (state S.Store conn.new) → IfOk result (AreOfSlot (rows_of (slot_rows (state S.Store conn.old)) slot)) }
@@ -177,7 +185,7 @@ fn number_of(slot: u8) -> i64
     i64::from(slot)
 }
 
-// Reads the rows with the number of a slot.
+// Reads the rows with the number of a slot. Returns the database's error if the query fails.
 fn rows_of_slot<S: Alter + Drop>(conn: &mut Connection<S>, slot: u8) -> Result<Vec<Row>, OpenError>
     requires table { HasTable (state S.Store conn.old) }
     ensures rows { HasCleanDisk (state S.Store conn.new) → IfOk result (λ v. AreSlotRows (state S.Store conn.old) slot v.items) }
@@ -192,8 +200,9 @@ fn rows_of_slot<S: Alter + Drop>(conn: &mut Connection<S>, slot: u8) -> Result<V
     }
 }
 
-// Returns the slot that `rows`, the rows with its number, store; it is blank if there are none.
-// Returns `Row` if there are several, or if the only one isn't the state of a slot.
+// Returns the slot that `rows`, the rows with its number, store. The slot is blank if there are
+// none. Returns `Row` if there are several rows, or if the only row isn't the state of a slot.
+// Returns `Memory` if memory can't be allocated.
 fn slot_of(rows: &[Row], slot: u8) -> Result<StoredSlot, OpenError>
     ensures ok { IfOk result (λ s. AreWide 4 rows.now → AreOfSlot rows.now s) }
     ensures bad { IfErr result (AreUnread slot rows.now) }
@@ -218,7 +227,8 @@ fn read_row(row: &Row, slot: u8) -> Result<StoredSlot, OpenError>
     }
 }
 
-// Checks that each row is that of a slot, 0 to 63. Returns `Row` if there is another row.
+// Checks that each row is that of a slot, 0 to 63. Returns `Row` if there is another row, and the
+// database's error if the query fails.
 fn check_rows<S: Alter + Drop>(conn: &mut Connection<S>) -> Result<(), OpenError>
     requires table { HasTable (state S.Store conn.old) }
     ensures numbers { HasCleanDisk (state S.Store conn.new) → OnOk result (AreSlotNumbers (slot_rows (state S.Store conn.old))) }
@@ -233,7 +243,7 @@ fn check_rows<S: Alter + Drop>(conn: &mut Connection<S>) -> Result<(), OpenError
     }
 }
 
-// Reads the number of each row.
+// Reads the number of each row. Returns the database's error if the query fails.
 fn numbers<S: Alter + Drop>(conn: &mut Connection<S>) -> Result<Vec<Row>, OpenError>
     requires table { HasTable (state S.Store conn.old) }
     ensures rows { HasCleanDisk (state S.Store conn.new) → IfOk result (λ v. AreRowNumbers (state S.Store conn.old) v.items) }
@@ -248,8 +258,8 @@ fn numbers<S: Alter + Drop>(conn: &mut Connection<S>) -> Result<Vec<Row>, OpenEr
     }
 }
 
-// Checks that the first column of each row is the number of a slot. Returns `Row` if the number in
-// some row isn't, and the failure if a row has no number.
+// Checks that the first column of each row is the number of a slot, 0 to 63. Returns `Row` if a row
+// has another number, and the database's error if the column can't be read as a number.
 fn check_numbers(rows: &[Row]) -> Result<(), OpenError>
     ensures ok { OnOk result (AreSlotNumbers rows.now) }
     ensures bad { IfErr result (λ e. ((z : ℤ) × (e ≡ OpenError.Row z BadRow.Number) × HasOther rows.now z) ⊎ IsFailure e) }
@@ -262,8 +272,8 @@ fn check_numbers(rows: &[Row]) -> Result<(), OpenError>
     Ok(())
 }
 
-// Checks that the first column of a row is the number of a slot. Returns `Row` if it is another
-// number, and the failure if it can't be read as a number.
+// Checks that the first column of a row is the number of a slot, 0 to 63. Returns `Row` if the
+// column has another number, and the database's error if the column can't be read as a number.
 fn check_number(row: &Row) -> Result<(), OpenError>
     ensures ok { OnOk result (IsSlotNumber (rowid row.now)) }
     ensures bad { IfErr result (IsOtherNumber row.now) }

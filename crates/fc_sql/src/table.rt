@@ -30,7 +30,7 @@ const GREATEST: u64 = 9_223_372_036_854_775_807;
 /// Returns whether the connection takes a write.
 ///
 /// `in_doubt` says that the last write failed. The failure may have shut the connection, so a
-/// statement is then compiled: a connection that is shut refuses it.
+/// statement is then compiled: a connection that is shut refuses the statement.
 pub fn takes_writes<S: Alter>(conn: &mut Connection<S>, in_doubt: bool) -> bool
     ensures kept { (before : StoredSlots) → IsMirrored in_doubt (state S.Store conn.old) before
         → IsMirrored (not result) (state S.Store conn.new) before }
@@ -60,8 +60,8 @@ pub fn write<S: Alter>(conn: &mut Connection<S>, slot: u8, stored: &StoredSlot) 
     fits(stored) && put(conn, slot, stored)
 }
 
-// Writes the row of a slot whose numbers are integers of SQLite. Returns `false` if the statement
-// fails.
+// Writes the row of a slot whose numbers are integers of SQLite. Returns `true` if the statement
+// succeeds, and `false` if it fails.
 fn put<S: Alter>(conn: &mut Connection<S>, slot: u8, stored: &StoredSlot) -> bool
     requires storable { AreStorable stored.now }
     ensures runs { HasCleanDisk (state S.Store conn.new) → Puts slot stored.now (state S.Store conn.old) (state S.Store conn.new) result }
@@ -74,7 +74,8 @@ fn put<S: Alter>(conn: &mut Connection<S>, slot: u8, stored: &StoredSlot) -> boo
     }
 }
 
-// Writes the row of a slot with a program, as `put` does.
+// Writes the row of a slot with a program. Returns `true` if the statement succeeds, and `false` if
+// it fails.
 fn put_program<S: Alter>(
     conn: &mut Connection<S>,
     slot: u8,
@@ -95,7 +96,8 @@ fn put_program<S: Alter>(
     row.is_ok()
 }
 
-// Writes the row of a slot without a program, as `put` does.
+// Writes the row of a slot without a program. Returns `true` if the statement succeeds, and `false`
+// if it fails.
 fn put_none<S: Alter>(conn: &mut Connection<S>, slot: u8, serial: u64) -> bool
     requires serial { serial < 2 ^ 63 }
     ensures runs { HasCleanDisk (state S.Store conn.new)

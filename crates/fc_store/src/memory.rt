@@ -71,7 +71,8 @@ impl Store for MemoryStore {
         true
     }
 
-    // Returns `false` while `refuses` is set, or if memory can't be allocated.
+    // Saves the update, and returns `true`. Returns `false`, and changes nothing, while `refuses`
+    // is set or if memory can't be allocated.
     fn save(&mut self, update: &SlotUpdate<'_>) -> bool {
         if self.refuses {
             return false;

@@ -86,7 +86,7 @@ impl Store for NoStore {
         false
     }
 
-    // Refuses each update.
+    // Returns `false`, since the store refuses each update.
     fn save(&mut self, update: &SlotUpdate<'_>) -> bool {
         let _ = update;
         false

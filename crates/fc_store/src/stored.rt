@@ -85,7 +85,8 @@ impl StoredSlot {
         })
     }
 
-    // Copies the slot's program with other variables; `None` if the slot has no program.
+    // Returns a copy of the slot's program with other variables, or `None` if the slot has no
+    // program. Returns `AllocError` if memory can't be allocated.
     fn with_vars(&self, alloc: Global, vars: &[u8]) -> Result<Option<StoredProgram>, AllocError>
         ensures { IfOk result (λ p. p ≡ with_stored_vars vars.now self.now.program) }
     {
@@ -110,7 +111,8 @@ pub fn copy_slots(alloc: Global, slots: &[StoredSlot]) -> Result<Vec<StoredSlot>
     Ok(copies)
 }
 
-// Copies an image and variables into a stored program of this version.
+// Copies an image and variables into a stored program of this version. Returns `AllocError` if
+// memory can't be allocated.
 fn copy(alloc: Global, version: u64, image: &[u8], vars: &[u8]) -> Result<StoredProgram, AllocError>
     ensures { IfOk result (λ p. p ≡ record { version = version; image = image.now; vars = vars.now }) }
 {

@@ -33,7 +33,7 @@ pub enum Noted {
     Stale,
     /// The ticket isn't that of the lease, or the outcome isn't that of the ticket.
     ///
-    /// No observer changed.
+    /// Or the ticket's serial is above the slot's. No observer changed.
     Stranger,
 }
 
@@ -54,6 +54,11 @@ pub enum NoteOutcome {
 /// confirmable message. The message, with message ID `id`, is written over `emission`, which is
 /// unchanged unless the result is `Sent`. The clock of `watch` advances to `now`, whatever the
 /// result.
+///
+/// Returns `Stale` if the lease isn't active, or if `told` is `Gone` and the lease's snapshot
+/// didn't find the slot empty. Returns `Stranger` if the outcome isn't that of the ticket, or the
+/// ticket isn't that of the lease. The result is also `Stranger` if the ticket's serial is above
+/// `serial`.
 pub fn note(
     watch: &mut Observers,
     now: u64,

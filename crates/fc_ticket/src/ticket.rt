@@ -67,9 +67,9 @@ impl SlotSnapshot {
         }
     }
 
-    /// Writes the data of a job and its readings, and of a slot with this serial.
+    /// Writes the data of a job, its readings and its slot over this snapshot.
     ///
-    /// The slot has a program of this version with these variables.
+    /// The slot is at this serial, and has a program of this version with these variables.
     pub fn write(&mut self, job: &Job, readings: &Readings, serial: u64, version: u64, vars: &Vars)
         ensures { (p : Program) →
             ticket_with p self.new ≡ ticket_of job.now readings.now serial (record { program = p; version = version; vars = vars.now }) }
@@ -228,10 +228,11 @@ impl<'a> Ticket<'a> {
     }
 }
 
-/// Returns whether an outcome is that of a ticket's run, and `serial` allows the ticket.
+/// Returns whether an outcome is that of a ticket's run, and the ticket isn't newer than the slot.
 ///
 /// The outcome is of the ticket's program, request, variables and readings. The ticket's serial
-/// isn't above `serial`, the slot's. If not, the result of a commit or notification is `Stranger`.
+/// isn't above `serial`, the slot's. If the result is `false`, a commit or a notification returns
+/// `Stranger`.
 pub fn is_run_of(outcome: &Outcome<'_>, ticket: &Ticket<'_>, serial: u64) -> bool
     ensures of { IsTrue result ↔ IsRunOf outcome.now ticket.now serial }
     ensures run { IsTrue result → outcome.now ≡ run_of ticket.now }

@@ -51,7 +51,8 @@ pub fn image<R: Read, W: Write, E: Write>(
     }
 }
 
-// Expands and assembles a source, and writes its image.
+// Expands and assembles a source, and writes its image. Returns an error if the source has a
+// mistake or the image breaks a rule, if memory can't be allocated, or if writing fails.
 fn write_image<W: Write>(
     alloc: Global,
     text: &[u8],
@@ -132,7 +133,9 @@ fn priced_head(vars_size: u16, program: &[Insn], version: ImageVersion) -> Resul
 
 /// Assembles the program of a source.
 ///
-/// A source that isn't UTF-8 is reported as an unknown word in the first line.
+/// # Errors
+/// Returns the first line with a mistake, or `Memory` if memory can't be allocated. A source that
+/// isn't UTF-8 is reported as an unknown word in the first line.
 fn program_of(alloc: Global, text: &[u8]) -> Result<Vec<Insn>, ToolError>
     ensures program { IfOk result (λ v. IsAssembled (lines_of text.now) v.items) }
     ensures slots { IfOk result (λ v. IsTrue (is_program v.items)) }
@@ -147,6 +150,9 @@ fn program_of(alloc: Global, text: &[u8]) -> Result<Vec<Insn>, ToolError>
 }
 
 /// Builds the image of a header and its program.
+///
+/// # Errors
+/// Returns `Memory` if memory can't be allocated.
 fn image_with(alloc: Global, head: &Head, program: &[Insn]) -> Result<Vec<u8>, ToolError>
     requires { IsTrue (is_program program.now) }
     ensures { IfOk result (λ v. v.items ≡ head_bytes head.now ++ encoded program.now) }

@@ -21,6 +21,9 @@ impl FromStr for Budget {
     type Err = BudgetError;
 
     /// Parses `auto` or a number of steps; the header's rules limit the number later.
+    ///
+    /// # Errors
+    /// Returns [`BudgetError`] if the text is neither `auto` nor a number below 2^32.
     fn from_str(text: &str) -> Result<Self, BudgetError> {
         if text == "auto" {
             return Ok(Budget::Auto);

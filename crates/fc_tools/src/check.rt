@@ -33,7 +33,8 @@ pub fn check<R: Read, W: Write, E: Write>(
 
 // Writes the verdict on an image.
 //
-// Returns the diagnosis if the image is refused, or `None` if it is accepted.
+// Returns the diagnosis if the image is refused, or `None` if it is accepted. Returns an error if
+// reading or writing fails, or if memory can't be allocated.
 fn write_verdict<R: Read, W: Write>(
     alloc: Global,
     input: &mut R,
@@ -52,7 +53,9 @@ fn write_verdict<R: Read, W: Write>(
     }
 }
 
-// Writes the verdict on an image that is refused, and returns the diagnosis.
+// Writes the verdict on an image that is refused, and returns the diagnosis, never `None`.
+//
+// Returns an error if memory can't be allocated, or if writing fails.
 pub(crate) fn write_refusal<W: Write>(
     alloc: Global,
     image: &[u8],

@@ -119,9 +119,9 @@ impl From<AllocError> for Rejection {
     }
 }
 
-/// Verifies an image, like `verify`, with the evidence for a broken rule.
+/// Verifies an image, and returns the evidence for a broken rule as the error.
 ///
-/// The commands use it if `verify` refuses an image, to explain why.
+/// If `verify` refuses an image, the commands call this function to explain why.
 ///
 /// # Errors
 /// Returns `Broken` with the first broken rule and its evidence. If only the typing is missing, the

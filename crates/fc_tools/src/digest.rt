@@ -88,7 +88,9 @@ pub fn digest<R: Read, W: Write, E: Write>(
 
 // Reads an image and writes its digest in a line.
 //
-// For every error except one of writing, nothing at all is written.
+// Returns `DigestError::Long` for an input that is longer than any image. Returns an error if
+// reading or writing fails, or if memory can't be allocated. For every error except one of writing,
+// nothing at all is written.
 fn write_digest<R: Read, W: Write>(
     alloc: Global,
     input: &mut R,
@@ -111,7 +113,7 @@ fn write_digest<R: Read, W: Write>(
     }
 }
 
-// Writes a text as a line, and flushes the output.
+// Writes a text as a line, and flushes the output. Returns an error if writing fails.
 fn write_line<W: Write>(out: &mut W, text: &str) -> io::Result<()>
     ensures { OnOk result (Appends (W.contents out.old) (W.contents out.new) (text.now ++ 10 ∷ [])) }
 {

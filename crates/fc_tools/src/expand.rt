@@ -31,7 +31,8 @@ pub fn expand<R: Read, W: Write, E: Write>(
     }
 }
 
-// Expands a source, and writes the result.
+// Expands a source, and writes the result. Returns an error if the source has a mistake, if memory
+// can't be allocated, or if writing fails.
 fn write_expanded<W: Write>(alloc: Global, text: &[u8], out: &mut W) -> Result<(), ToolError> {
     let text = fc_expand::expand(alloc, text)?;
     write_whole(out, &text)

@@ -56,7 +56,9 @@ pub fn explain_line<W: Write>(
     }
 }
 
-/// Writes why a source isn't expanded, like `explain_line`.
+/// Writes why a source isn't expanded.
+///
+/// Writes the mistake, the line if it is text, and the change to make.
 ///
 /// # Errors
 /// Returns an error if writing fails.
@@ -66,9 +68,10 @@ pub fn explain_form<W: Write>(out: &mut W, text: &[u8], bad: BadForm) -> io::Res
     writeln!(out, "change: {}", bad.form.correction())
 }
 
-// Writes the line with this number.
+// Writes the line with this number, counted from 1.
 //
-// Writes nothing if there is no such line, or if the source isn't UTF-8.
+// Writes nothing if there is no such line, or if the source isn't UTF-8. Returns an error if
+// writing fails.
 fn write_line<W: Write>(out: &mut W, text: &[u8], line: usize) -> io::Result<()> {
     match line_of(text, line) {
         Some(code) => writeln!(out, "line {line}: {code}"),
@@ -84,7 +87,9 @@ fn line_of(text: &[u8], line: usize) -> Option<&str> {
     text.split('\n').nth(line.checked_sub(1)?)
 }
 
-// Returns the first word of a line after its label, or `None` without such a line.
+// Returns the first word of a line after its label, or an empty one if the line has none.
+//
+// Returns `None` if there is no such line, or if the source isn't UTF-8.
 fn name_of(text: &[u8], line: usize) -> Option<&str> {
     let code = line_of(text, line)?;
     let (_, body) = split_label(code.as_bytes());
@@ -94,7 +99,7 @@ fn name_of(text: &[u8], line: usize) -> Option<&str> {
 // Returns the first word of a line, if it is a mnemonic without its width.
 //
 // Both the word with 64 and the word with 32 appended must be instructions. Otherwise returns
-// `None`.
+// `None`. Returns `AllocError` if memory can't be allocated.
 fn width_missing(alloc: Global, text: &[u8], line: usize) -> Result<Option<&str>, AllocError> {
     let Some(name) = name_of(text, line) else {
         return Ok(None);
@@ -105,7 +110,10 @@ fn width_missing(alloc: Global, text: &[u8], line: usize) -> Result<Option<&str>
     Ok(both.then_some(name))
 }
 
-// Writes the form of the instruction that a line names, if there is one.
+// Writes the name of the instruction in line `line`, counted from 1, and the form of its operands.
+//
+// Writes nothing without such an instruction, or if the source isn't UTF-8. Returns an error if
+// writing fails, or if memory can't be allocated.
 fn write_form<W: Write>(alloc: Global, out: &mut W, text: &[u8], line: usize) -> io::Result<()> {
     let Some(name) = name_of(text, line) else {
         return Ok(());
@@ -119,7 +127,8 @@ fn write_form<W: Write>(alloc: Global, out: &mut W, text: &[u8], line: usize) ->
 
 // Writes the evidence that a rule is broken.
 //
-// Nothing is written for a header, or for the depth of frames.
+// Writes nothing for a header, or for the depth of frames. Returns an error if writing fails, or if
+// memory can't be allocated.
 fn write_cause<W: Write>(alloc: Global, out: &mut W, slot: usize, cause: &Cause) -> io::Result<()> {
     match cause {
         Cause::Header | Cause::Frames => Ok(()),
@@ -143,7 +152,7 @@ fn write_cause<W: Write>(alloc: Global, out: &mut W, slot: usize, cause: &Cause)
 
 // Writes the abstract values of the registers on which a demand depends.
 //
-// For a loop's counter, the loop is written too.
+// For a loop's counter, writes the loop too. Returns an error if writing fails.
 fn write_demand<W: Write>(
     out: &mut W,
     insn: Insn,
@@ -160,7 +169,7 @@ fn write_demand<W: Write>(
     }
 }
 
-// Writes the bytes of a slot that encodes no instruction.
+// Writes the bytes of a slot that encodes no instruction. Returns an error if writing fails.
 fn write_bytes<W: Write>(out: &mut W, slot: usize, bytes: &[u8; 8]) -> io::Result<()> {
     write!(out, "slot {slot}: bytes")?;
     for byte in bytes {
@@ -169,7 +178,8 @@ fn write_bytes<W: Write>(out: &mut W, slot: usize, bytes: &[u8; 8]) -> io::Resul
     writeln!(out)
 }
 
-// Writes a program's cost and its budget; `None` is a cost that isn't known.
+// Writes a program's cost and its budget; `None` is a cost that isn't known. Returns an error if
+// writing fails.
 fn write_cost<W: Write>(out: &mut W, cost: Option<u32>, budget: u32) -> io::Result<()> {
     match cost {
         Some(cost) => writeln!(out, "cost: {cost} steps, with a budget of {budget}"),
@@ -177,7 +187,8 @@ fn write_cost<W: Write>(out: &mut W, cost: Option<u32>, budget: u32) -> io::Resu
     }
 }
 
-// Writes the abstract value of each register that the instruction reads.
+// Writes the abstract value of each register that the instruction reads. Returns an error if
+// writing fails.
 fn write_registers<W: Write>(out: &mut W, insn: Insn, known: &Regs) -> io::Result<()> {
     match registers_read(insn) {
         Reads::Nothing => Ok(()),
@@ -189,7 +200,8 @@ fn write_registers<W: Write>(out: &mut W, insn: Insn, known: &Regs) -> io::Resul
     }
 }
 
-// Writes the second register, unless it is the same as the first.
+// Writes the abstract value of the register `second`, or nothing if `second` is `first`. Returns an
+// error if writing fails.
 fn write_second<W: Write>(out: &mut W, first: Reg, second: Reg, known: &Regs) -> io::Result<()> {
     if second == first {
         Ok(())

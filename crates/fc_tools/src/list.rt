@@ -33,7 +33,8 @@ pub fn list<R: Read, W: Write, E: Write>(
     }
 }
 
-// Reads an image, and writes its disassembly.
+// Reads an image, and writes its disassembly. Returns an error if the header or a slot breaks a
+// rule, if reading or writing fails, or if memory can't be allocated.
 fn write_listing<R: Read, W: Write>(
     alloc: Global,
     input: &mut R,
@@ -65,7 +66,8 @@ pub fn listing_of(alloc: Global, image: &[u8]) -> Result<String, ToolError>
 /// Disassembles an image's program with the slot number before each line.
 ///
 /// # Errors
-/// Returns the errors of `listing_of`.
+/// Returns the first rule of the header or of a slot that the image breaks, with its slot; or
+/// `Memory` if memory can't be allocated.
 pub fn numbered_listing_of(alloc: Global, image: &[u8]) -> Result<String, ToolError>
     ensures { IfOk result (λ s. IsNumberedListingOf image.now (string_bytes s)) }
 {

@@ -30,6 +30,9 @@ impl fmt::Display for CountedLoop {
 /// Writes why a backward jump isn't the jump of a counted loop.
 ///
 /// If another instruction prevents a counted loop, writes that instruction too, on its own line.
+///
+/// # Errors
+/// Returns an error if writing fails, or if memory can't be allocated.
 pub(crate) fn write_reason<W: Write>(
     alloc: Global,
     out: &mut W,
@@ -78,6 +81,9 @@ fn harm(by: Disturbance) -> &'static str {
 /// Writes a loop whose counter isn't below its bound at the entry.
 ///
 /// Writes the counter's abstract value at the entry on the next line.
+///
+/// # Errors
+/// Returns an error if writing fails.
 pub(crate) fn write_entry<W: Write>(
     out: &mut W,
     counted: &Loop,
@@ -88,7 +94,10 @@ pub(crate) fn write_entry<W: Write>(
     writeln!(out, "r{counter}: {}", Known(entering[counter]))
 }
 
-/// Writes an instruction with its slot.
+/// Writes an instruction with its slot, on its own line.
+///
+/// # Errors
+/// Returns an error if writing fails, or if memory can't be allocated.
 pub(crate) fn write_insn<W: Write>(
     alloc: Global,
     out: &mut W,

@@ -25,6 +25,9 @@ pub fn numbered(alloc: Global, program: &[Insn]) -> Result<String, AllocError>
 }
 
 /// Appends the line of a slot; the second slot of a wide load has none.
+///
+/// # Errors
+/// Returns `AllocError` if memory can't be allocated.
 fn push_numbered(
     alloc: Global,
     text: &mut String,

@@ -10,9 +10,9 @@ use fc_verify::{Refusal, verify};
 use std::alloc::{AllocError, Global};
 use std::io::{Read, Write};
 
-/// Reads an image from `input`, and runs it like `run_image`.
+/// Reads an image from `input`, runs its program once, and writes the report.
 ///
-/// Returns the status of `run_image`, or `Failed` if reading fails.
+/// Returns the status of `run_image`, or `Failed` if reading fails. Writes the reason to `err`.
 pub fn run<R: Read, W: Write, E: Write>(
     alloc: Global,
     input: &mut R,
@@ -52,7 +52,8 @@ pub fn run_image<W: Write, E: Write>(
 
 // Writes the report of a run, or the verdict on an image that is refused.
 //
-// Returns the diagnosis if the image is refused, or `None` after a report.
+// Returns the diagnosis if the image is refused, or `None` after a report. Returns an error if the
+// given variables have a wrong size, if writing fails, or if memory can't be allocated.
 fn write_report<W: Write>(
     alloc: Global,
     image: &[u8],

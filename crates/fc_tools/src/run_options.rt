@@ -99,9 +99,9 @@ impl Asked {
         })
     }
 
-    /// Returns the same input with readings in hex digits of either case.
+    /// Returns this input with other readings, which `digits` encode.
     ///
-    /// The digits encode at most 64 bytes, and zeros follow.
+    /// The hex digits, of either case, encode at most 64 bytes, and zeros follow.
     ///
     /// # Errors
     /// Returns an error if `digits` aren't hex digits, or encode more bytes; or if memory can't be
@@ -115,7 +115,11 @@ impl Asked {
     }
 }
 
-/// Parses readings in hex digits.
+/// Parses readings in hex digits; zeros follow fewer than 64 bytes.
+///
+/// # Errors
+/// Returns an error if `digits` aren't hex digits, or encode more than 64 bytes; or if memory can't
+/// be allocated.
 fn readings(alloc: Global, digits: &str) -> Result<Readings, AskedError>
     ensures { IfOk result (SpellReadings digits.now) }
 {
@@ -133,7 +137,11 @@ fn padded(bytes: &[u8]) -> Readings
     readings
 }
 
-/// Parses the variables, or returns `None` if they aren't given.
+/// Parses the variables in hex digits, or returns `None` if they aren't given.
+///
+/// # Errors
+/// Returns an error if `digits` aren't hex digits, or encode more than 256 bytes; or if memory
+/// can't be allocated.
 fn variables(alloc: Global, digits: Option<&str>) -> Result<Option<Vars>, AskedError>
     ensures { IfOk result (AreHex (option_copied digits.entry)) }
 {
@@ -146,7 +154,11 @@ fn variables(alloc: Global, digits: Option<&str>) -> Result<Option<Vars>, AskedE
     }
 }
 
-/// Parses hex digits into at most `most` bytes; an error names `part`.
+/// Parses hex digits into at most `most` bytes.
+///
+/// # Errors
+/// Returns `NoHex` if `digits` aren't hex digits, and `TooLong` if they encode more bytes; both
+/// name `part`. Returns `NoMemory` if memory can't be allocated.
 fn bytes(alloc: Global, part: RunPart, digits: &str, most: usize) -> Result<Vec<u8>, AskedError>
     ensures bytes { IfOk result (λ v. decode_of digits.now ≡ Ok v.items) }
     ensures limit { IfOk result (λ v. length v.items ≤ most) }

@@ -63,7 +63,10 @@ fn sized(vars: &Vars, size: u16) -> Result<Vars, ToolError>
     }
 }
 
-/// Returns the result of a run in lines, as `report` does.
+/// Returns the result of a run in lines, for `report`.
+///
+/// # Errors
+/// Returns `AllocError` if memory can't be allocated.
 fn outcome_text(alloc: Global, outcome: &Outcome<'_>) -> Result<String, AllocError>
     ensures { IfOk result (λ s. string_bytes s ≡ report_text (meaning_of outcome.now)) }
 {
@@ -78,6 +81,9 @@ fn outcome_text(alloc: Global, outcome: &Outcome<'_>) -> Result<String, AllocErr
 }
 
 /// Returns bytes in hex digits, or `-` if there are none.
+///
+/// # Errors
+/// Returns `AllocError` if memory can't be allocated.
 fn digits(alloc: Global, bytes: &[u8]) -> Result<String, AllocError>
     ensures { IfOk result (λ s. string_bytes s ≡ hex_or_dash bytes.now) }
 {

@@ -33,14 +33,17 @@ pub fn image_bytes<R: Read>(alloc: Global, input: &mut R) -> io::Result<Vec<u8>>
     Ok(image)
 }
 
-// Reads an image; see `image_bytes`.
+// Reads an image, at most one byte more than the longest image.
+//
+// Returns `ToolError::Input` if reading fails, or if memory can't be allocated.
 pub(crate) fn read_image<R: Read>(alloc: Global, input: &mut R) -> Result<Vec<u8>, ToolError> {
     image_bytes(alloc, input).map_err(ToolError::Input)
 }
 
-// Reads a source; if it is too long, reads one byte more than the maximum.
+// Reads a source of at most 1,048,576 bytes.
 //
-// Returns the error `LongText` for such a source.
+// Returns `ToolError::LongText` for a longer source. Returns `ToolError::Input` if reading fails,
+// or if memory can't be allocated.
 pub(crate) fn read_text<R: Read>(alloc: Global, input: &mut R) -> Result<Vec<u8>, ToolError> {
     let mut text = Vec::new(alloc);
     let mut input = input.take(LONGEST_TEXT + 1);
@@ -51,7 +54,7 @@ pub(crate) fn read_text<R: Read>(alloc: Global, input: &mut R) -> Result<Vec<u8>
     Ok(text)
 }
 
-// Writes all of these bytes, and flushes the output.
+// Writes all of these bytes, and flushes the output. Returns `ToolError::Output` if writing fails.
 pub(crate) fn write_whole<W: Write>(out: &mut W, bytes: &[u8]) -> Result<(), ToolError> {
     out.write_all(bytes).map_err(ToolError::Output)?;
     out.flush().map_err(ToolError::Output)

@@ -187,7 +187,7 @@ fn pass(point: &ProgramPoint<'_>, regs: &mut Regs, states: &mut [Option<Regs>]) 
     }
 }
 
-/// Passes over a slot that is the head of the loop `head`, like [`pass`].
+/// Passes over a slot that is the head of the loop `head`, for [`pass`].
 ///
 /// Returns whether the loop's counter starts below its bound and the demands of the slot's
 /// instruction are met. If not, the states don't change.
@@ -222,7 +222,7 @@ fn pass_head(
     }
 }
 
-/// Passes over a slot at which no loop begins, like [`pass`].
+/// Passes over a slot at which no loop begins, for [`pass`].
 ///
 /// Returns whether the demands of the slot's instruction are met. If they are, the states on its
 /// branches are joined to those of the later slots; if not, the states don't change.
@@ -456,7 +456,7 @@ fn lead(from: usize, states: &mut [Option<Regs>], slot: usize, regs: &Regs)
     }
 }
 
-/// Joins a state to that of a slot.
+/// Joins a state to that of a slot, which gets the state if it has none.
 fn meet(states: &mut [Option<Regs>], slot: usize, regs: &Regs)
     requires { slot < length states.old }
     ensures { states.new ≡ meet_at states.old slot regs.now }

@@ -69,14 +69,15 @@ impl<'a, B: Bench, G: Gate, W: Wire, M: TimeSource, R: Wait> Context<'a, B, G, W
             .after_answer(job, has_reply, reply, &mut log.calls);
     }
 
-    // Returns the time of the call. See [`TimeSource::now`].
+    // Returns the time of the call, in milliseconds, by [`TimeSource::now`].
     pub(crate) fn now(&self, log: &mut TrackLog<B::Book>) -> u64
         ensures { IsUnfiled (M.is_time result) log.old log.new }
     {
         self.times.now(self.rt, &mut log.calls)
     }
 
-    // Sends the reply of the job with this number. See [`Wire::send`].
+    // Sends the reply of the job with this number, by [`Wire::send`]. Returns whether the reply
+    // went out.
     pub(crate) fn send(&self, number: u64, reply: &Emission, log: &mut TrackLog<B::Book>) -> bool
         requires { GoesOut reply.now }
         ensures { IsUnfiled (W.called (SendsReply number reply.now result)) log.old log.new }

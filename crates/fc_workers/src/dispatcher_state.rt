@@ -297,8 +297,8 @@ impl<'a, B: Bench, G: Gate, W: Wire, M: TimeSource, R: Wait> DispatcherState<'a,
         }
     }
 
-    // Sends a job that may go to the workers. If the channel returns it, runs it here. `log` is the
-    // dispatcher's log before the calls by which the job may go.
+    // Sends a job that may go to the workers. If the channel returns the job, runs it here. `log`
+    // is the dispatcher's log before the calls that let the job go.
     fn send_or_work(&mut self)
         requires produced { HasProduced B.Book.first_job self.old.keys self.old.job self.old.done.share.log }
         ensures dispatched { (log : Log)
@@ -315,8 +315,8 @@ impl<'a, B: Bench, G: Gate, W: Wire, M: TimeSource, R: Wait> DispatcherState<'a,
         }
     }
 
-    // Sends the job to the workers, with its track. If the channel returns it, keeps both and
-    // returns `false`.
+    // Sends the job to the workers, with its track. Returns `false`, and keeps the job and the
+    // track, if the channel returns the job.
     fn send(&mut self) -> bool
         requires produced { HasProduced B.Book.first_job self.old.keys self.old.job self.old.done.share.log }
         ensures sent { MatchBool result
@@ -355,9 +355,9 @@ impl<'a, B: Bench, G: Gate, W: Wire, M: TimeSource, R: Wait> DispatcherState<'a,
             .work(&mut self.scratch, UNSENT, &self.job, &mut done.share);
     }
 
-    // Returns whether the policy lets the job go to the workers. If there is a least cost, the cost
-    // in a run's slot is read for that. Returns `false` if no worker has asked for a job yet; with
-    // `Every` it first waits until one has, or none ever will.
+    // Returns whether the policy lets the job go to the workers. If the policy has a least cost for
+    // the job, the cost in a run's slot is read for that. Returns `false` if no worker has asked
+    // for a job yet; with `Every` the call first waits until one has, or none ever will.
     fn may_go(&mut self) -> bool
         ensures may { MatchBool result
             (MayGo ⟦<(B, G, W, M) as WorkerParts>⟧.view self.old.offload self.old.job self.old.done.share.log self.new.done.share.log)
@@ -393,8 +393,9 @@ impl<'a, B: Bench, G: Gate, W: Wire, M: TimeSource, R: Wait> DispatcherState<'a,
 }
 
 impl<'a, B: Bench, G: Gate, W: Wire, M: TimeSource, R: Wait> Context<'a, B, G, W, M, R> {
-    // Returns whether a job reads its slot, and a change of the slot's shard is being saved. If the
-    // slot has the state of one of a run's ETags, the run needs no lock. Nothing is filed.
+    // Returns whether a save holds up a job: the job reads its slot, and a change of the slot's
+    // shard is being saved. Returns `false` for a run if one of its ETags matches the slot's head
+    // word, since such a run needs no lock. Nothing is filed.
     fn is_held_up(&self, job: &Job, log: &mut TrackLog<B::Book>) -> bool
         ensures held { result ≡ true → IsHeldUp ⟦<(B, G, W, M) as WorkerParts>⟧.view job.now log.old log.new }
         ensures kept { log.new ≡ log.old }
@@ -407,8 +408,9 @@ impl<'a, B: Bench, G: Gate, W: Wire, M: TimeSource, R: Wait> Context<'a, B, G, W
         }
     }
 
-    // Returns whether a job has the least cost of an expensive one, if there is a least cost. See
-    // [`Context::is_expensive`]. If there is none, reads nothing, and returns `true`.
+    // Returns whether a job is expensive enough for the workers. If `least` is `None`, the cost
+    // doesn't count: nothing is read, and the result is `true`. Otherwise a run without a valid
+    // ETag is expensive if its program costs `least` steps or more.
     fn has_least_cost(&self, least: Option<u32>, job: &Job, log: &mut TrackLog<B::Book>) -> bool
         ensures cost { MatchBool result
             (HasLeastCost ⟦<(B, G, W, M) as WorkerParts>⟧.view least job.now log.old log.new)
@@ -464,7 +466,8 @@ impl<'a, B: Bench, G: Gate, W: Wire, M: TimeSource, R: Wait> Context<'a, B, G, W
     }
 }
 
-// Returns the least cost of an expensive program, if the policy sends the job for no other program.
+// Returns the least cost, in steps, of a program whose run is expensive by the policy. Returns
+// `None` if the policy sends this job, or keeps it, whatever its cost.
 fn least_cost(offload: Offload, job: &Job) -> Option<u32>
     ensures { result ≡ least_cost offload job.now }
 {

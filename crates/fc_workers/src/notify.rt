@@ -108,7 +108,8 @@ impl<'a, B: Bench, G: Gate, W: Wire, M: TimeSource, R: Wait> Context<'a, B, G, W
     }
 
     // Notifies the observer of a lease, with the content `told` and message ID `id`, at the current
-    // time. Returns whether the message in `reply` is to be sent.
+    // time. Returns whether the message in `reply` is to be sent. It isn't if the shard refuses the
+    // notification, for example since the lease isn't active any more.
     fn note(
         &self,
         turn: Turn,

@@ -170,8 +170,8 @@ impl<'a, B: Bench, G: Gate, W: Wire, M: TimeSource, R: Wait> Context<'a, B, G, W
         }
     }
 
-    // Removes the program of the job's slot, and sets the next stage. It is the answer
-    // `Unavailable` if the removal can't be saved.
+    // Removes the program of the job's slot, and sets the next stage. If the removal can't be
+    // saved, the next stage is the answer `Unavailable`.
     #[inline(never)]
     fn remove(&self, job: &Job, stage: &mut Stage, share: &mut ShareOf<B::Tallies, B::Book>)
         ensures step { (number : ℕ) → IsStep ⟦<(B, G, W, M) as WorkerParts>⟧.view
@@ -207,8 +207,9 @@ impl<'a, B: Bench, G: Gate, W: Wire, M: TimeSource, R: Wait> Context<'a, B, G, W
     }
 
     // Runs the ticket's program once the gate lets the job through, commits the run, and sets the
-    // next stage. After a conflict the next stage is another snapshot, if the job may take one
-    // more; otherwise it is the answer `Unavailable`. So it is if the commit can't be saved.
+    // next stage. After a conflict the next stage is another snapshot. If the job may take no more
+    // snapshots, if the slot is at its last serial, or if the commit can't be saved, the next stage
+    // is the answer `Unavailable`.
     fn commit(
         &self,
         frame: &mut Frame,

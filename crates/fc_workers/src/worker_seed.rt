@@ -139,7 +139,7 @@ impl<'a, B: Bench, G: Gate, W: Wire, M: TimeSource, R: Wait> Context<'a, B, G, W
     }
 
     // Runs a job, and writes its reply over `scratch.reply`. Returns whether there is a reply to
-    // send.
+    // send: the response to a request, or the notification of a lease.
     fn reply(
         &self,
         scratch: &mut Scratch,
@@ -182,7 +182,8 @@ impl<'a, B: Bench, G: Gate, W: Wire, M: TimeSource, R: Wait> Context<'a, B, G, W
     }
 
     // Answers the request of a job that was run, and writes the reply over `scratch.reply`. Returns
-    // whether there is a reply to send.
+    // whether there is a reply to send. There is none if the request's lifetime has passed, or if
+    // no message ID is available.
     fn respond(
         &self,
         scratch: &mut Scratch,

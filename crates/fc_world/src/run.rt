@@ -107,8 +107,8 @@ pub fn run_world_from(
 /// after it.
 ///
 /// # Errors
-/// Returns one of the slots that can't be restored, with the reason, or that memory can't be
-/// allocated. Then nothing else is guaranteed.
+/// Returns `Slot` with the number of a slot that can't be restored, and the reason. Returns
+/// `Memory` if memory can't be allocated. Then nothing else is guaranteed.
 pub fn run_world_over(
     alloc: Global,
     stored: &[StoredSlot],

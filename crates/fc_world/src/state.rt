@@ -131,8 +131,9 @@ impl WorldState {
         })
     }
 
-    // Makes a server whose slots are restored from these stored states, and no tasks. Returns an
-    // error if a slot can't be restored, or if memory can't be allocated.
+    // Makes a server whose slots are restored from these stored states, and no tasks. Returns
+    // `Slot` with a slot that can't be restored and the reason, or `Memory` if memory can't be
+    // allocated.
     pub(crate) fn over(
         alloc: Global,
         stored: &[StoredSlot],
@@ -171,7 +172,8 @@ impl WorldState {
         self.server.work(alloc, event, &mut self.tasks[job])
     }
 
-    // Executes an event that names no job, for `step`. The result is that of `step`.
+    // Executes an event that names no job, for `step`. Returns the event's emission, or `None` if
+    // there is none. Returns an error if memory for a task can't be allocated.
     fn pass(&mut self, event: &Event<'_>) -> Result<Option<Emission>, AllocError>
         requires named { names event.now ≡ None }
         requires reached { IsReached (parts self.old) }

@@ -63,7 +63,8 @@ fn image_command<'a>(alloc: Global) -> Result<Command<'a>, AllocError> {
         .arg(format)
 }
 
-// Defines a command on an image, which is read from a file or from standard input.
+// Defines a command on an image, which is read from a file or from standard input. Returns
+// `AllocError` if memory can't be allocated.
 fn on_image<'a>(
     alloc: Global,
     name: &'static str,
@@ -148,7 +149,8 @@ fn command<'a>(alloc: Global) -> Result<Command<'a>, AllocError> {
 
 // Runs the command that the words name, and returns its status.
 //
-// If the words name no command, or ask for help, the status is that of `parse`.
+// If the words name no command, or ask for help, the status is that of `parse`. Returns an error if
+// memory can't be allocated, or if a message can't be written.
 fn obey<R: Runtime + AllocGlobal, E: Write>(
     rt: &R,
     err: &mut E,
@@ -164,10 +166,11 @@ fn obey<R: Runtime + AllocGlobal, E: Write>(
     carry_out(rt, &mut input, &mut out, err, &matches)
 }
 
-// Runs the command that the parsed command line names.
+// Runs the command that the parsed command line names, and returns its status.
 //
 // The commands on images read the file that the command line names, or `input` if it names none or
-// `-`. Returns `Failed` if the file can't be read; the reason is written to `err`.
+// `-`. If the file can't be read, writes the reason to `err` and returns `Failed`. Returns an error
+// if the reason can't be written.
 fn carry_out<R: Runtime + AllocGlobal, I: Read, W: Write, E: Write>(
     rt: &R,
     input: &mut I,
@@ -254,7 +257,8 @@ fn asked_by(alloc: Global, words: &ArgMatches<'_>) -> Result<Asked, AskedError> 
     Asked::new(alloc, method, payload, query, words.get_str("vars"))?.with_readings(alloc, readings)
 }
 
-// Reads the bytes of the image in the file at `path`. See `image_bytes`.
+// Reads the image in the file at `path`, at most one byte more than the longest image. Returns an
+// error if the file can't be opened or read, or if memory can't be allocated.
 fn file_bytes<R: Runtime + AllocGlobal>(rt: &R, path: &str) -> io::Result<Vec<u8>> {
     let mut file = fs::open(rt, path)?;
     image_bytes(rt.alloc(), &mut file)

@@ -55,8 +55,9 @@ enum BadStore {
 }
 
 // Runs the command that the words name, and returns its status. If the words don't match, the
-// status is that of `parse`. `files` is the same runtime as `rt`: several threads read files with
-// it, which is proved for `HostRuntime` only.
+// status is that of `parse`. Returns an error if a message can't be written, if memory can't be
+// allocated, or if the time or the random bytes can't be read. `files` is the same runtime as `rt`:
+// several threads read files with it, which is proved for `HostRuntime` only.
 fn obey<R: Runtime + AllocGlobal + Threads + Wait + Net + RandomSource + Sync, E: Write>(
     rt: &R,
     files: &HostRuntime,
@@ -81,7 +82,8 @@ fn obey<R: Runtime + AllocGlobal + Threads + Wait + Net + RandomSource + Sync, E
 }
 
 // Plays standard input to standard output, and returns the status. `workers` is the number of
-// workers, or `None` to play on this thread alone.
+// workers, or `None` to play on this thread alone. Returns an error if memory for the buffers can't
+// be allocated.
 fn play_input<R: Runtime + AllocGlobal + Threads + Wait + Net + Sync, E: Write>(
     rt: &R,
     err: &mut E,
@@ -103,7 +105,8 @@ fn play_input<R: Runtime + AllocGlobal + Threads + Wait + Net + Sync, E: Write>(
 }
 
 // Serves at the address and port of the command line. Returns `Bad` if an option is refused, or
-// `Failed` if memory for the timers can't be allocated; the reason is written to `err`.
+// `Failed` if memory for the timers can't be allocated; the reason is written to `err`. Returns an
+// error if that can't be written, or if `serve_logged` returns an error.
 fn serve_socket<R: Runtime + AllocGlobal + Threads + Wait + Net + RandomSource + Sync, E: Write>(
     rt: &R,
     files: &HostRuntime,
@@ -138,7 +141,8 @@ fn serve_socket<R: Runtime + AllocGlobal + Threads + Wait + Net + RandomSource +
 // the store can't be used. `files` opens the files that the configuration names. `err` gets the
 // listening address, or the reason of a failure. `end` logs the end of the server, `changes`
 // records the changes of programs, and `reporter` reports the counts. Returns an error if the time
-// or the random bytes can't be read, or if memory for the slots can't be allocated.
+// or the random bytes can't be read, or if memory for the slots can't be allocated. Returns one too
+// if a message about the store can't be written.
 fn serve_logged<
     R: Runtime + AllocGlobal + Threads + Wait + Net + RandomSource + Sync,
     E: Write,

@@ -40,7 +40,8 @@ fn command<'a>(alloc: Global) -> Command<'a> {
 }
 
 // Replays standard input to standard output, and returns the status. If the command line doesn't
-// match or asks for help, nothing is replayed, and the status is that of `parse`.
+// match or asks for help, nothing is replayed, and the status is that of `parse`. Returns an error
+// if printing fails, or if memory can't be allocated.
 fn obey<R: Runtime + AllocGlobal, E: Write>(
     rt: &R,
     err: &mut E,

@@ -56,7 +56,8 @@ the port, the socket, reading or writing failed, or memory was refused.";
 /// A file to open in place of a closed standard stream.
 const NULL: &str = "/dev/null";
 
-// Defines the command line. `operation_of` reads its options by the names given here.
+// Defines the command line. `operation_of` reads its options by the names given here. Returns an
+// error if memory can't be allocated.
 fn command<'a>(alloc: Global) -> Result<Command<'a>, Error> {
     let method = positional(
         alloc,
@@ -147,7 +148,8 @@ fn limit<'a>(alloc: Global, name: &'a str, value: &'a str, help: &'a str) -> Arg
 
 // Runs the operation that the words name, and returns its status. `terminal` says whether standard
 // input is a terminal. If the words don't match the command line, the status is that of `parse`. If
-// the operation is refused, the reason is written to `err`, and the status is `Bad`.
+// the operation is refused, the reason is written to `err`, and the status is `Bad`. Returns an
+// error if memory can't be allocated, if a message can't be written, or if `observe_by` fails.
 fn obey<R: Runtime + AllocGlobal + Net + RandomSource, E: Write>(
     rt: &R,
     err: &mut E,
@@ -170,6 +172,7 @@ fn obey<R: Runtime + AllocGlobal + Net + RandomSource, E: Write>(
 }
 
 // Sends the request of the command line, prints or stores the response, and returns the status.
+// Returns an error if memory can't be allocated for the output's buffer.
 fn ask<R: Runtime + AllocGlobal + Net + RandomSource, E: Write>(
     rt: &R,
     err: &mut E,
@@ -187,7 +190,8 @@ fn ask<R: Runtime + AllocGlobal + Net + RandomSource, E: Write>(
 
 // Observes the target of the command line, and returns the status. The socket is open while lines
 // are printed. Three files are opened before it, so that they, and not the socket, get the
-// descriptors of standard streams that are closed.
+// descriptors of standard streams that are closed. Returns an error if a file can't be opened, or
+// if memory can't be allocated for the output's buffer.
 fn observe_by<R: Runtime + AllocGlobal + Net + RandomSource, E: Write>(
     rt: &R,
     err: &mut E,

@@ -124,7 +124,7 @@ pub extern "C" fn numzela_frame_new(alloc: Global, frame: &mut Frame) -> u32
     }
 }
 
-// Makes a frame in a box. The error is that memory can't be allocated.
+// Makes a frame in a box. Returns an error if memory can't be allocated.
 fn make_machine(alloc: Global) -> Result<Box<fc_machine::Frame>, AllocError> {
     let machine = fc_machine::Frame::new(alloc)?;
     match Box::new(alloc, machine) {

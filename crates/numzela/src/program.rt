@@ -190,8 +190,8 @@ pub extern "C" fn numzela_program_load(
     }
 }
 
-// Verifies an image, and returns its program in a box. The error is a broken rule, or that memory
-// can't be allocated.
+// Verifies an image, and returns its program in a box. Returns `Broken` with the fault if the image
+// breaks a rule, or `NoMemory` if memory can't be allocated.
 fn load(alloc: Global, image: &[u8]) -> Result<Box<Verified>, Refusal>
     ensures accepts { IfOk result (λ loaded. judged image.now ≡ Accepts loaded.value) }
     ensures refused { IfErr result (IsRefusal image.now) }
@@ -367,7 +367,7 @@ fn method_for(is_post: bool) -> Method
     if is_post { Method::Post } else { Method::Get }
 }
 
-// Returns the Content-Format of a request for C, or `None` if it has none.
+// Returns the Content-Format of a request from C: `format` if `has_format`, otherwise `None`.
 fn format_for(has_format: bool, format: u16) -> Option<u16>
     ensures { result ≡ format_for has_format format }
 {

@@ -169,7 +169,7 @@ pub extern "C" fn numzela_server_new(alloc: Global, server: &mut Server, config:
     }
 }
 
-// Makes a server in a box. The error is that memory can't be allocated.
+// Makes a server in a box. Returns an error if memory can't be allocated.
 fn make_serving(alloc: Global, begin: &Begin) -> Result<Box<Serving>, AllocError>
     requires { CanBegin begin.now }
     ensures { IfOk result (λ made. Serves (begin_of begin.now) made.value.alone.engine []) }
