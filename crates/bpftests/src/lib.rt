@@ -15,6 +15,8 @@ mod isa_tests;
 #[cfg(test)]
 mod machine_tests;
 #[cfg(test)]
+mod memory_tests;
+#[cfg(test)]
 mod observer_tests;
 #[cfg(test)]
 mod run_tests;

@@ -3,10 +3,10 @@
 //! The expected results are worked out by hand from the tables of instructions, helpers and the
 //! request.
 use fc_cli::Status;
-use fc_fixtures::tooling::assembled;
 use fc_help::{Method, NO_READINGS, Request, Vars};
 use fc_isa::{Fault, Rule};
 use fc_machine::{Frame, run};
+use fc_tooling::assembled;
 use fc_verify::{Refusal, verify};
 use std::process::Abort;
 use std::test::Fail;

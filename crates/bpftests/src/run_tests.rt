@@ -3,8 +3,8 @@
 //! The cases of fcvectors test the output of runs.
 use fc_cli::Status;
 use fc_fixtures::faulty::Full;
-use fc_fixtures::tooling::assembled;
 use fc_help::Method;
+use fc_tooling::assembled;
 use fc_tools::run::run;
 use fc_tools::run_options::{Asked, AskedError, RunPart};
 use std::alloc::{AllocError, Global};

@@ -3,8 +3,8 @@
 //! The cases of fcvectors test the tools' output for sources and images.
 use fc_cli::Status;
 use fc_fixtures::faulty::{Full, Unflushed};
-use fc_fixtures::tooling::{Done, with_memory};
 use fc_isa::ImageVersion;
+use fc_tooling::{Done, with_memory};
 use fc_tools::assemble::image;
 use fc_tools::budget::Budget;
 use fc_tools::check::check;

@@ -11,6 +11,8 @@ mod client_tests;
 #[cfg(test)]
 mod exchange_tests;
 #[cfg(test)]
+mod fetch_tests;
+#[cfg(test)]
 mod message_tests;
 #[cfg(test)]
 mod notice_tests;

@@ -1,11 +1,10 @@
 //! A server that starts with stored slots, on one thread and with workers.
 use crate::serving::extent_of;
 use crate::socket_tests::{check_asked, unrecorded};
-use crate::update_tests::SHOW_8;
 use coap_opts::Method;
 use fc_cli::Status;
+use fc_fixtures::images::SHOW_8;
 use fc_fixtures::ports::at_port;
-use fc_fixtures::tooling::assembled;
 use fc_front::DEFAULT_POLICY;
 use fc_host::sensors::NoSensors;
 use fc_host::socket::{Receiving, open};
@@ -73,14 +72,13 @@ fn check_restored<R: Abort + AllocGlobal + Threads + Wait + Clock + Net + Random
     workers: u8,
 ) -> Result<(), Fail> {
     let alloc = rt.alloc();
-    let image = assembled(alloc, SHOW_8, 8, 100)?;
     let receipt = hex::encode(alloc, b"version=3 cost=5 budget=100 vars=8".as_slice())?;
     let described = format!(in alloc; "2.05\n{receipt}\n")?;
     let socket = open(rt, at_port(0))?;
     let port = socket.local_addr()?.port();
     let (served, ()) = thread::join(
         rt,
-        || serve_stored(rt, alloc, &socket, &image.out, workers),
+        || serve_stored(rt, alloc, &socket, SHOW_8, workers),
         || {
             let shown = "2.05\n0102030405060708\n";
             check_asked(rt, port, Method::Get, "/r/1", &[], Status::Done, shown);

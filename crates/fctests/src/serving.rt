@@ -1,5 +1,6 @@
-//! Servers of tests without a store, which start with empty slots.
+//! Servers of tests without a store, which start with empty slots; consoles of clients.
 use fc_config::options::{DEFAULT_EXTENT, Extent};
+use fc_fetch::Console;
 use fc_front::Policy;
 use fc_host::sensors::Sensors;
 use fc_host::socket::{Sink, Source};
@@ -13,6 +14,15 @@ use std::io::Write;
 use std::sync::Wait;
 use std::thread::Threads;
 use std::time::Clock;
+
+/// Makes a console that keeps what is written to it.
+pub(crate) fn captured(alloc: Global) -> Console<Vec<u8>, Vec<u8>> {
+    Console {
+        alloc,
+        out: Vec::new(alloc),
+        err: Vec::new(alloc),
+    }
+}
 
 /// Returns the extent of a server with this number of workers, which ends after `limit` datagrams.
 ///

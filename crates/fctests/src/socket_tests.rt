@@ -3,8 +3,7 @@
 //! The expected bytes are worked out by hand.
 ghost use Rattle.std.specs.Prelude.{◌≤◌, IfSome, length};
 
-use crate::fetch_tests::captured;
-use crate::serving::{extent_of, serve_without_store, slots_without_store};
+use crate::serving::{captured, extent_of, serve_without_store, slots_without_store};
 use coap_msg::{Emission, Endpoint};
 use coap_opts::Method;
 use fc_backend::CallLog;
@@ -13,7 +12,6 @@ use fc_config::options::{Extent, Listening};
 use fc_fetch::observer::ObservationExtent;
 use fc_fetch::{FetchOptions, Observing, Shown, fetch, observe};
 use fc_fixtures::ports::{at_port, free_port};
-use fc_fixtures::tooling::assembled;
 use fc_front::{DEFAULT_POLICY, Policy};
 use fc_host::sensors::{NoSensors, Sensors};
 use fc_host::socket::{Buffer, Receiving, Sink, Source, open};
@@ -484,23 +482,13 @@ fn silence_is_no_datagram_and_a_loss_is_counted(rt: HostRuntime) -> Result<(), F
     Ok(())
 }
 
-// The source of a program that counts POSTs in eight bytes of variables, and replies to a GET with
-// the count. A POST takes 12 steps, and a GET 8.
-static COUNTS: &[u8] = b"ldxb r6, r1, 0\n\
-mov64 r7, r2\n\
-jeq r6, 1, 7\n\
-mov64 r1, 0\n\
-call 3\n\
-mov64 r2, r0\n\
-add64 r2, 1\n\
-mov64 r1, 0\n\
-call 4\n\
-ja 3\n\
-mov64 r1, r7\n\
-mov64 r2, 8\n\
-call 5\n\
-mov64 r0, 0\n\
-exit\n";
+// The image of a program that counts POSTs in eight bytes of variables, and replies to a GET with
+// the count. A POST takes 12 steps, and a GET 8. The source, after the header:
+//
+// ldxb r6, r1, 0; mov64 r7, r2; jeq r6, 1, 7; mov64 r1, 0; call 3; mov64 r2, r0; add64 r2, 1;
+// mov64 r1, 0; call 4; ja 3; mov64 r1, r7; mov64 r2, 8; call 5; mov64 r0, 0; exit
+static COUNTS: &[u8] =
+    b"FCB1\x08\x00\x0f\x00\x0c\x00\x00\x00\x00\x00\x00\x00\x71\x16\x00\x00\x00\x00\x00\x00\xbf\x27\x00\x00\x00\x00\x00\x00\x15\x06\x07\x00\x01\x00\x00\x00\xb7\x01\x00\x00\x00\x00\x00\x00\x85\x00\x00\x00\x03\x00\x00\x00\xbf\x02\x00\x00\x00\x00\x00\x00\x07\x02\x00\x00\x01\x00\x00\x00\xb7\x01\x00\x00\x00\x00\x00\x00\x85\x00\x00\x00\x04\x00\x00\x00\x05\x00\x03\x00\x00\x00\x00\x00\xbf\x71\x00\x00\x00\x00\x00\x00\xb7\x02\x00\x00\x08\x00\x00\x00\x85\x00\x00\x00\x05\x00\x00\x00\xb7\x00\x00\x00\x00\x00\x00\x00\x95\x00\x00\x00\x00\x00\x00\x00";
 
 // The paths of the program and the resource of the counter that eight clients share.
 const COMMON: (&str, &str) = ("/p/0", "/r/0");
@@ -572,8 +560,6 @@ fn ask_by_eight<R: Abort + AllocGlobal + Net + Clock + RandomSource>(
     rt: &R,
     port: u16,
 ) -> Result<(), Fail> {
-    let alloc = rt.alloc();
-    let image = assembled(alloc, COUNTS, 8, 12)?.out;
     // version=1 cost=12 budget=12 vars=8
     let receipt = "2.01\n76657273696f6e3d3120636f73743d3132206275646765743d313220766172733d38\n";
     check_asked(
@@ -581,7 +567,7 @@ fn ask_by_eight<R: Abort + AllocGlobal + Net + Clock + RandomSource>(
         port,
         Method::Put,
         COMMON.0,
-        &image,
+        COUNTS,
         Status::Done,
         receipt,
     );
@@ -591,7 +577,7 @@ fn ask_by_eight<R: Abort + AllocGlobal + Net + Clock + RandomSource>(
             port,
             Method::Put,
             program,
-            &image,
+            COUNTS,
             Status::Done,
             receipt,
         );

@@ -1,8 +1,6 @@
 //! The client's program, with a socket of this host as its server.
 //!
 //! The datagrams are worked out by hand (RFC 7252, section 3; RFC 7641, section 2).
-use crate::serving::extent_of;
-use crate::socket_tests::serve_while;
 use coap_client::Fetched;
 use coap_msg::Code;
 use coap_opts::Method;
@@ -17,7 +15,6 @@ use fc_fetch::{
 use fc_fixtures::datagrams::joined;
 use fc_fixtures::faulty::{Unflushed, Unreadable};
 use fc_fixtures::ports::{at_port, free_port};
-use fc_host::sensors::NoSensors;
 use std::alloc::Global;
 use std::net::{Ipv4Addr, Net, SocketAddr, SocketAddrV4, UdpSocket};
 use std::process::Abort;
@@ -212,7 +209,7 @@ fn observed(alloc: Global, socket: &UdpSocket) -> io::Result<(Vec<u8>, Vec<u8>)>
 }
 
 // Makes a console that keeps what is written to it.
-pub(crate) fn captured(alloc: Global) -> Console<Vec<u8>, Vec<u8>> {
+fn captured(alloc: Global) -> Console<Vec<u8>, Vec<u8>> {
     Console {
         alloc,
         out: Vec::new(alloc),
@@ -549,67 +546,21 @@ fn a_success_goes_to_its_file(rt: HostRuntime) -> Result<(), Fail> {
     Ok(())
 }
 
-// Pings this port of this host. Returns the status and the messages on standard error.
-fn pinged<R: Net + Clock + RandomSource>(rt: &R, alloc: Global, port: u16) -> (Status, Vec<u8>) {
-    let mut err = Vec::new(alloc);
-    let pinging = Pinging {
-        target: None,
-        port: Some(port),
-    };
-    let ended = ping(rt, alloc, &mut err, &pinging);
-    (ended, err)
-}
-
-// Pings the server of a URI. Returns the status and the messages on standard error.
-fn pinged_at<R: Net + Clock + RandomSource>(rt: &R, alloc: Global, uri: &str) -> (Status, Vec<u8>) {
-    let mut err = Vec::new(alloc);
-    let pinging = Pinging {
-        target: Some(uri),
-        port: None,
-    };
-    let ended = ping(rt, alloc, &mut err, &pinging);
-    (ended, err)
-}
-
-// A server responds to a ping with a Reset message that has the ping's message ID (RFC 7252,
-// section 4.3). The ping ends with `Done`.
-#[test]
-fn a_server_answers_a_ping(rt: HostRuntime) -> Result<(), Fail> {
-    let extent = extent_of(1, 1);
-    let _memory = serve_while(&rt, &NoSensors, extent, |port| {
-        let (ended, told) = pinged(&rt, rt.alloc(), port);
-        assert!(rt; ended == Status::Done && told.is_empty());
-        Ok(())
-    })?;
-    Ok(())
-}
-
-// A ping accepts the URI of a server, with or without a `/` at its end (RFC 7252, section 6.4).
-#[test]
-fn a_server_answers_a_ping_of_its_uri(rt: HostRuntime) -> Result<(), Fail> {
-    let extent = extent_of(1, 2);
-    let _memory = serve_while(&rt, &NoSensors, extent, |port| {
-        let bare = format!(in rt.alloc(); "coap://127.0.0.1:{port}")?;
-        let (ended, told) = pinged_at(&rt, rt.alloc(), bare.as_str());
-        assert!(rt; ended == Status::Done && told.is_empty());
-        let slash = format!(in rt.alloc(); "coap://127.0.0.1:{port}/")?;
-        let (ended, told) = pinged_at(&rt, rt.alloc(), slash.as_str());
-        assert!(rt; ended == Status::Done && told.is_empty());
-        Ok(())
-    })?;
-    Ok(())
-}
-
-// If no server listens at the port, the system reports this at once, and the ping ends with
+// If no server listens at the port, the system reports this immediately, and the ping ends with
 // `Failed`.
 #[test]
 fn a_ping_without_response_fails(rt: HostRuntime) -> Result<(), Fail> {
     let port = free_port(&rt)?;
     let start = Instant::now(&rt)?;
-    let (ended, told) = pinged(&rt, rt.alloc(), port);
+    let mut err = Vec::new(rt.alloc());
+    let pinging = Pinging {
+        target: None,
+        port: Some(port),
+    };
+    let ended = ping(&rt, rt.alloc(), &mut err, &pinging);
     assert!(rt;
         ended == Status::Failed
-            && told.as_slice() == b"UDP: Connection refused (os error 111)\n".as_slice()
+            && err.as_slice() == b"UDP: Connection refused (os error 111)\n".as_slice()
     );
     assert!(rt; start.elapsed(&rt)? < Duration::from_secs(2));
     Ok(())

@@ -3,9 +3,9 @@
 //! The tests check which variables the new program finds. The datagrams are written by hand (RFC
 //! 7252, section 3.1). Uri-Query is option 15, four above Uri-Path, and Block1 is option 27.
 use fc_cli::Status;
-use fc_fixtures::tooling::assembled;
 use fc_server::DEFAULT_BEGIN;
 use fc_service::play::play;
+use fc_tooling::assembled;
 use std::alloc::Global;
 use std::process::Abort;
 use std::test::Fail;
@@ -15,7 +15,7 @@ static COUNTER: &[u8] =
     b"mov64 r1, 0\ncall 3\nadd64 r0, 1\nmov64 r2, r0\nmov64 r1, 0\ncall 4\nmov64 r0, 0\nexit";
 
 // The source of a program that replies with the first eight bytes of its variables.
-pub(crate) static SHOW_8: &[u8] = b"mov64 r1, r2\nmov64 r2, 8\ncall 5\nmov64 r0, 0\nexit";
+static SHOW_8: &[u8] = b"mov64 r1, r2\nmov64 r2, 8\ncall 5\nmov64 r0, 0\nexit";
 
 // The source of a program that replies with the first 16 bytes of its variables.
 static SHOW_16: &[u8] = b"mov64 r1, r2\nmov64 r2, 16\ncall 5\nmov64 r0, 0\nexit";

@@ -1,4 +1,9 @@
-//! Calls of the tools with inputs and outputs in memory.
+//! Calls of the tools with inputs and outputs in memory, for crates of tests.
+//!
+//! The crate has no tests of its own. It is apart from `fc_fixtures`, so that tests that call no tool
+//! can be checked without the tools.
+#![tactic(auto)]
+
 ghost use Rattle.std.specs.Prelude.{◌≡◌, ◌≢◌, IfOk, IsOk};
 ghost use Rattle.fc_cli.specs.declared.status.Status.TheVariants.{Failed};
 

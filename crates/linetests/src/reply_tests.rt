@@ -3,9 +3,9 @@
 //! The expected replies are worked out by hand from the tables of instructions, helpers and
 //! options.
 use fc_cli::Status;
-use fc_fixtures::tooling::assembled;
 use fc_server::DEFAULT_BEGIN;
 use fc_service::play::play;
+use fc_tooling::assembled;
 use std::alloc::Global;
 use std::process::Abort;
 use std::test::Fail;
