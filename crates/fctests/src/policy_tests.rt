@@ -65,27 +65,12 @@ fn answered(client: &UdpSocket, port: u16, datagram: &[u8], wait: u64) -> io::Re
 fn ask_from_two<R: Abort + Net>(rt: &R, port: u16) -> Result<(), Fail> {
     let other = client_at(rt, Ipv4Addr::new(127, 0, 0, 2))?;
     let manager = client_at(rt, Ipv4Addr::LOCALHOST)?;
-    assert_eq!(rt;
-        answered(&other, port, &DELETE_1, 10_000)?,
-        [0x60, 0x83, 0x00, 0x01]
-    );
-    assert_eq!(rt;
-        answered(&other, port, &DELETE_1, 10_000)?,
-        [0x60, 0x83, 0x00, 0x01]
-    );
-    assert_eq!(rt;
-        answered(&other, port, &GET_2, 10_000)?,
-        [0x60, 0x84, 0x00, 0x02]
-    );
-    assert_eq!(rt;
-        answered(&other, port, &GET_3, 10_000)?,
-        [0x60, 0xa3, 0x00, 0x03]
-    );
-    assert_eq!(rt; answered(&other, port, &NON_4, 300)?, [0, 0, 0, 0]);
-    assert_eq!(rt;
-        answered(&manager, port, &DELETE_1, 10_000)?,
-        [0x60, 0x42, 0x00, 0x01]
-    );
+    assert!(rt; answered(&other, port, &DELETE_1, 10_000)? == [0x60, 0x83, 0x00, 0x01]);
+    assert!(rt; answered(&other, port, &DELETE_1, 10_000)? == [0x60, 0x83, 0x00, 0x01]);
+    assert!(rt; answered(&other, port, &GET_2, 10_000)? == [0x60, 0x84, 0x00, 0x02]);
+    assert!(rt; answered(&other, port, &GET_3, 10_000)? == [0x60, 0xa3, 0x00, 0x03]);
+    assert!(rt; answered(&other, port, &NON_4, 300)? == [0, 0, 0, 0]);
+    assert!(rt; answered(&manager, port, &DELETE_1, 10_000)? == [0x60, 0x42, 0x00, 0x01]);
     Ok(())
 }
 

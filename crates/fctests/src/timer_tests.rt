@@ -148,8 +148,8 @@ fn a_timer_runs_its_program_at_its_beats(rt: HostRuntime) -> Result<(), Fail> {
 #[test]
 fn a_timer_sends_nothing(rt: HostRuntime) -> Result<(), Fail> {
     for workers in 1..3 {
-        assert_eq!(rt; serve_beats(&rt, workers, REGISTER)?, 3);
-        assert_eq!(rt; serve_beats(&rt, workers, PUT_EXPENSIVE)?, 3);
+        assert!(rt; serve_beats(&rt, workers, REGISTER)? == 3);
+        assert!(rt; serve_beats(&rt, workers, PUT_EXPENSIVE)? == 3);
     }
     Ok(())
 }

@@ -55,16 +55,16 @@ fn serve_has_its_defaults(rt: HostRuntime) -> Result<(), Fail> {
         panic!(rt; "no `serve`")
     };
     let address = SocketAddrV4::new(Ipv4Addr::new(127, 0, 0, 1), 5683);
-    assert_eq!(rt; config.listening.address, address);
+    assert!(rt; config.listening.address == address);
     assert!(rt; !config.listening.told);
-    assert_eq!(rt; config.extent.workers, 2);
-    assert_eq!(rt; config.extent.limit, 0);
-    assert_eq!(rt; config.readings, None);
-    assert_eq!(rt; config.store, None);
+    assert!(rt; config.extent.workers == 2);
+    assert!(rt; config.extent.limit == 0);
+    assert!(rt; config.readings == None);
+    assert!(rt; config.store == None);
     assert!(rt; config.policy.managers == [EVERYONE; 4]);
-    assert_eq!(rt; config.policy.limits.exchanges, 1024);
-    assert_eq!(rt; config.policy.limits.share, 65_536);
-    assert_eq!(rt; config.policy.confirm_after, 86_400_000);
+    assert!(rt; config.policy.limits.exchanges == 1024);
+    assert!(rt; config.policy.limits.share == 65_536);
+    assert!(rt; config.policy.confirm_after == 86_400_000);
     Ok(())
 }
 
@@ -107,17 +107,17 @@ fn serve_has_the_options_that_it_is_given(rt: HostRuntime) -> Result<(), Fail> {
         panic!(rt; "no `serve`")
     };
     let address = SocketAddrV4::new(Ipv4Addr::new(0, 0, 0, 0), 61_616);
-    assert_eq!(rt; config.listening.address, address);
+    assert!(rt; config.listening.address == address);
     assert!(rt; config.listening.told);
     assert!(rt; config.logs.info && config.logs.changes);
-    assert_eq!(rt; config.extent.workers, 16);
-    assert_eq!(rt; config.extent.limit, 7);
-    assert_eq!(rt; config.readings, Some("sensors"));
-    assert_eq!(rt; config.store, Some("slots.db"));
+    assert!(rt; config.extent.workers == 16);
+    assert!(rt; config.extent.limit == 7);
+    assert!(rt; config.readings == Some("sensors"));
+    assert!(rt; config.store == Some("slots.db"));
     assert!(rt; config.policy.managers == [EXAMPLES; 4]);
-    assert_eq!(rt; config.policy.limits.exchanges, 16_384);
-    assert_eq!(rt; config.policy.limits.share, 32);
-    assert_eq!(rt; config.policy.confirm_after, 60_000);
+    assert!(rt; config.policy.limits.exchanges == 16_384);
+    assert!(rt; config.policy.limits.share == 32);
+    assert!(rt; config.policy.confirm_after == 60_000);
     Ok(())
 }
 
@@ -156,7 +156,7 @@ fn exchanges_have_a_range(rt: HostRuntime) -> Result<(), Fail> {
     else {
         panic!(rt; "no `serve`")
     };
-    assert_eq!(rt; config.policy.limits.exchanges, 65_536);
+    assert!(rt; config.policy.limits.exchanges == 65_536);
     let more = ["fcd", "serve", "--port", "5683", "--exchanges", "65537"];
     assert!(rt; command(rt.alloc())?.try_get_matches_from(&more).is_err());
     let none = ["fcd", "serve", "--port", "5683", "--exchanges", "0"];

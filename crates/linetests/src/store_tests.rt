@@ -130,17 +130,14 @@ fn serials_after_start(rt: &HostRuntime, serial: u64) -> Result<(u64, u64), Fail
 #[test]
 fn a_start_raises_a_serial_to_that_of_its_time(rt: HostRuntime) -> Result<(), Fail> {
     let serial = 32_000 + 16_777_216;
-    assert_eq!(rt; serials_after_start(&rt, 5)?, (serial, serial));
+    assert!(rt; serials_after_start(&rt, 5)? == (serial, serial));
     Ok(())
 }
 
 // A start over a serial above that of its time raises all slots to one more than this serial.
 #[test]
 fn a_start_goes_above_each_stored_serial(rt: HostRuntime) -> Result<(), Fail> {
-    assert_eq!(rt;
-        serials_after_start(&rt, 50_000_000)?,
-        (50_000_001, 50_000_001)
-    );
+    assert!(rt; serials_after_start(&rt, 50_000_000)? == (50_000_001, 50_000_001));
     Ok(())
 }
 
@@ -148,10 +145,7 @@ fn a_start_goes_above_each_stored_serial(rt: HostRuntime) -> Result<(), Fail> {
 #[test]
 fn a_start_saves_its_serial(rt: HostRuntime) -> Result<(), Fail> {
     let memory = MemoryStore::new(rt.alloc())?;
-    assert_eq!(rt;
-        saved_at_start(&rt, memory)?,
-        (Some(true), 10 * (32_000 + 16_777_216) + 2)
-    );
+    assert!(rt; saved_at_start(&rt, memory)? == (Some(true), 10 * (32_000 + 16_777_216) + 2));
     Ok(())
 }
 
@@ -159,10 +153,7 @@ fn a_start_saves_its_serial(rt: HostRuntime) -> Result<(), Fail> {
 #[test]
 fn a_start_keeps_the_program_of_slot_0(rt: HostRuntime) -> Result<(), Fail> {
     let memory = store_with(&rt, COUNTER)?;
-    assert_eq!(rt;
-        saved_at_start(&rt, memory)?,
-        (Some(true), 10 * 50_000_001 + 1)
-    );
+    assert!(rt; saved_at_start(&rt, memory)? == (Some(true), 10 * 50_000_001 + 1));
     Ok(())
 }
 
@@ -171,7 +162,7 @@ fn a_start_keeps_the_program_of_slot_0(rt: HostRuntime) -> Result<(), Fail> {
 fn a_start_succeeds_if_its_save_is_refused(rt: HostRuntime) -> Result<(), Fail> {
     let mut memory = MemoryStore::new(rt.alloc())?;
     memory.refuses = true;
-    assert_eq!(rt; saved_at_start(&rt, memory)?, (Some(false), 0));
+    assert!(rt; saved_at_start(&rt, memory)? == (Some(false), 0));
     Ok(())
 }
 
@@ -179,7 +170,7 @@ fn a_start_succeeds_if_its_save_is_refused(rt: HostRuntime) -> Result<(), Fail> 
 #[test]
 fn a_refused_start_saves_nothing(rt: HostRuntime) -> Result<(), Fail> {
     let memory = store_with(&rt, &COUNTER[..15])?;
-    assert_eq!(rt; saved_at_start(&rt, memory)?, (None, 0));
+    assert!(rt; saved_at_start(&rt, memory)? == (None, 0));
     Ok(())
 }
 
@@ -191,7 +182,7 @@ fn a_start_names_the_slot_of_a_refused_image(rt: HostRuntime) -> Result<(), Fail
         panic!(rt; "the image is accepted")
     };
     let text = format!(in rt.alloc(); "{error}")?;
-    assert_eq!(rt; text.as_str(), "/p/9: its image isn't accepted: V01 slot 0");
+    assert!(rt; text.as_str() == "/p/9: its image isn't accepted: V01 slot 0");
     Ok(())
 }
 
@@ -228,7 +219,7 @@ fn a_refused_start_is_told_in_words(rt: HostRuntime) -> Result<(), Fail> {
     ];
     for (error, text) in &errors {
         let told = format!(in rt.alloc(); "{error}")?;
-        assert_eq!(rt; told.as_str(), *text);
+        assert!(rt; told.as_str() == *text);
     }
     Ok(())
 }

@@ -7,6 +7,7 @@ use fc_fixtures::datagrams::PUT_EXPENSIVE;
 use fc_fixtures::images::COUNTER;
 use fc_front::DEFAULT_POLICY;
 use fc_front::front::blank_emission;
+use fc_locked::ClosedServer;
 use fc_pool::{Driven, Driver, Pool, no_store, run_pool};
 use fc_record::NoChanges;
 use fc_server::{Begin, FirstServer, Ingress};
@@ -60,71 +61,78 @@ impl Installs {
     }
 }
 
+// Runs the driver `Installs` and two workers, on a server in the state `first`. Returns whether a
+// worker was started, and the closed server.
+fn installed<R: Threads + Wait + Clock + Sync>(
+    rt: &R,
+    alloc: Global,
+    first: FirstServer,
+) -> Result<(bool, ClosedServer), Fail> {
+    let replies = Replies::new();
+    let pool = Pool {
+        workers: 2,
+        offload: Offload::Every,
+        wire: &replies,
+        times: &replies,
+        device: &Bare::new(),
+        recorder: &NoChanges,
+    };
+    let mut err = Vec::new(alloc);
+    let installs = Installs { alloc };
+    let fed = run_pool(rt, alloc, &mut err, &pool, first, no_store(), installs)?;
+    fed.given?;
+    Ok((fed.has_workers, fed.closed))
+}
+
+// Returns the serials of the slots 1, 9, 17 and 2.
+fn serials_in(closed: &ClosedServer) -> [u64; 4] {
+    let [_, shard1, shard2, ..] = &closed.shards;
+    [
+        shard1.serial(SlotNumber::new(1)),
+        shard1.serial(SlotNumber::new(9)),
+        shard1.serial(SlotNumber::new(17)),
+        shard2.serial(SlotNumber::new(2)),
+    ]
+}
+
 // Each install is counted once, for the slot's shard, whichever worker makes it. Each install
 // increases the slot's serial by 1.
 #[test]
 fn a_pool_counts_the_changes_of_each_shard(rt: HostRuntime) -> Result<(), Fail> {
-    let replies = Replies::new();
-    let pool = Pool {
-        workers: 2,
-        offload: Offload::Every,
-        wire: &replies,
-        times: &replies,
-        device: &Bare::new(),
-        recorder: &NoChanges,
-    };
-    let mut err = Vec::new(rt.alloc());
-    let installs = Installs { alloc: rt.alloc() };
     let first = FirstServer::new(rt.alloc(), &AT_SEVEN)?;
-    let store = no_store();
-    let fed = run_pool(&rt, rt.alloc(), &mut err, &pool, first, store, installs)?;
-    fed.given?;
-    assert!(rt; fed.has_workers);
-    assert!(rt; fed.closed.changes == [0, 3, 1, 0, 0, 0, 0, 0]);
-    let [_, shard1, shard2, ..] = &fed.closed.shards;
-    assert_eq!(rt; shard1.serial(SlotNumber::new(1)), 8);
-    assert_eq!(rt; shard1.serial(SlotNumber::new(9)), 9);
-    assert_eq!(rt; shard1.serial(SlotNumber::new(17)), 7);
-    assert_eq!(rt; shard2.serial(SlotNumber::new(2)), 8);
+    let (has_workers, closed) = installed(&rt, rt.alloc(), first)?;
+    assert!(rt; has_workers && closed.changes == [0, 3, 1, 0, 0, 0, 0, 0]);
+    assert!(rt; serials_in(&closed) == [8, 9, 7, 8]);
     Ok(())
 }
 
-// A pool that begins with stored slots goes on from their serials. Slot 9 is stored at serial 5
-// with the counter; the other slots are stored as empty, at serial 0.
-#[test]
-fn a_pool_goes_on_from_stored_slots(rt: HostRuntime) -> Result<(), Fail> {
-    let replies = Replies::new();
-    let pool = Pool {
-        workers: 2,
-        offload: Offload::Every,
-        wire: &replies,
-        times: &replies,
-        device: &Bare::new(),
-        recorder: &NoChanges,
-    };
-    let mut stored: [StoredSlot; 64] = from_fn(|_| StoredSlot::blank());
-    stored[9] = StoredSlot {
+// Returns a server that is restored from stored slots. Slot 9 is stored at serial 5 with the
+// counter; the other slots are stored as empty, at serial 0.
+fn with_stored_counter(alloc: Global) -> Result<FirstServer, Fail> {
+    let counter = StoredSlot {
         serial: 5,
         program: Some(StoredProgram {
             version: 3,
-            image: Vec::from_slice(rt.alloc(), COUNTER)?,
-            vars: Vec::from_slice(rt.alloc(), &[0; 8])?,
+            image: Vec::from_slice(alloc, COUNTER)?,
+            vars: Vec::from_slice(alloc, &[0; 8])?,
         }),
     };
-    let Ok(first) = FirstServer::over(rt.alloc(), &stored, 0, &DEFAULT_POLICY) else {
+    let mut stored: [StoredSlot; 64] = from_fn(|_| StoredSlot::blank());
+    stored[9] = counter;
+    let Ok(first) = FirstServer::over(alloc, &stored, 0, &DEFAULT_POLICY) else {
         return Err("the slots are restored".into());
     };
-    assert_eq!(rt; first.heads().peek(SlotNumber::new(9)), 11);
-    let mut err = Vec::new(rt.alloc());
-    let installs = Installs { alloc: rt.alloc() };
-    let store = no_store();
-    let fed = run_pool(&rt, rt.alloc(), &mut err, &pool, first, store, installs)?;
-    fed.given?;
-    assert!(rt; fed.closed.changes == [0, 3, 1, 0, 0, 0, 0, 0]);
-    let [_, shard1, shard2, ..] = &fed.closed.shards;
-    assert_eq!(rt; shard1.serial(SlotNumber::new(1)), 1);
-    assert_eq!(rt; shard1.serial(SlotNumber::new(9)), 7);
-    assert_eq!(rt; shard2.serial(SlotNumber::new(2)), 1);
+    Ok(first)
+}
+
+// A pool that begins with stored slots goes on from their serials.
+#[test]
+fn a_pool_goes_on_from_stored_slots(rt: HostRuntime) -> Result<(), Fail> {
+    let first = with_stored_counter(rt.alloc())?;
+    assert!(rt; first.heads().peek(SlotNumber::new(9)) == 11);
+    let (_has_workers, closed) = installed(&rt, rt.alloc(), first)?;
+    assert!(rt; closed.changes == [0, 3, 1, 0, 0, 0, 0, 0]);
+    assert!(rt; serials_in(&closed) == [1, 7, 0, 1]);
     Ok(())
 }
 
@@ -208,11 +216,12 @@ impl<'c, C: Clock> Prices<'c, C> {
     }
 }
 
-// For a job that is run on the receiving thread, the device is read once. For one that is sent it
-// is read twice: for the snapshot that isn't taken here, and for the worker's. A job whose ETag
-// matches takes no snapshot, and isn't sent.
-#[test]
-fn the_device_is_read_again_for_a_sent_job(rt: HostRuntime) -> Result<(), Fail> {
+// Runs the driver `Prices` and one worker, which gets expensive jobs. Returns the results of the
+// driver, and the number of times that the device was read.
+fn run_prices<R: Threads + Wait + Clock + Sync>(
+    rt: &R,
+    alloc: Global,
+) -> Result<(Priced, usize), Fail> {
     let replies = Replies::new();
     let device = Bare::new();
     let pool = Pool {
@@ -223,19 +232,21 @@ fn the_device_is_read_again_for_a_sent_job(rt: HostRuntime) -> Result<(), Fail> 
         device: &device,
         recorder: &NoChanges,
     };
-    let mut err = Vec::new(rt.alloc());
-    let prices = Prices {
-        alloc: rt.alloc(),
-        clock: &rt,
-    };
-    let first = FirstServer::new(rt.alloc(), &AT_SEVEN)?;
-    let store = no_store();
-    let fed = run_pool(&rt, rt.alloc(), &mut err, &pool, first, store, prices)?;
-    let Priced { gets, first, all } = fed.given?;
-    assert!(rt; fed.has_workers);
-    assert_eq!(rt; first, 1);
-    assert_eq!(rt; all, 1);
-    assert_eq!(rt; device.count(), gets.saturating_add(2));
+    let mut err = Vec::new(alloc);
+    let prices = Prices { alloc, clock: rt };
+    let first = FirstServer::new(alloc, &AT_SEVEN)?;
+    let fed = run_pool(rt, alloc, &mut err, &pool, first, no_store(), prices)?;
+    Ok((fed.given?, device.count()))
+}
+
+// For a job that is run on the receiving thread, the device is read once. For one that is sent it
+// is read twice: for the snapshot that isn't taken here, and for the worker's. A job whose ETag
+// matches takes no snapshot, and isn't sent.
+#[test]
+fn the_device_is_read_again_for_a_sent_job(rt: HostRuntime) -> Result<(), Fail> {
+    let (Priced { gets, first, all }, readings) = run_prices(&rt, rt.alloc())?;
+    assert!(rt; first == 1 && all == 1);
+    assert!(rt; readings == gets.saturating_add(2));
     Ok(())
 }
 
@@ -316,8 +327,8 @@ fn sent_by<R: Threads + Wait + Clock + Sync>(
 #[test]
 fn changes_are_sent_whatever_they_cost(rt: HostRuntime) -> Result<(), Fail> {
     let changes = sent_by(&rt, rt.alloc(), Offload::ChangesAndExpensive(6_000))?;
-    assert_eq!(rt; changes, [true, true, false, true]);
+    assert!(rt; changes == [true, true, false, true]);
     let expensive = sent_by(&rt, rt.alloc(), Offload::Expensive(6_000))?;
-    assert_eq!(rt; expensive, [false, false, false, false]);
+    assert!(rt; expensive == [false, false, false, false]);
     Ok(())
 }
