@@ -35,6 +35,7 @@ use std::random::RandomSource;
 use std::rt::Runtime;
 use std::sync::Wait;
 use std::thread::Threads;
+use std::time::Clock;
 use thiserror::Error;
 
 /// Serial of the empty slots at the start of `fcd play`.
@@ -167,16 +168,15 @@ fn serve_logged<
             reporter,
         },
     };
-    let started = unix_milliseconds(rt).map_err(|error| anyhow::anyhow!("clock: {error}"))?;
-    let first_id = random_id(rt).map_err(|error| anyhow::anyhow!("random bytes: {error}"))?;
+    let start = read_start(rt)?;
     let Some(path) = config.store else {
-        let slots = Slots::empty(rt.alloc(), started, first_id, &config.policy)?;
+        let slots = Slots::empty(rt.alloc(), start.at, start.id, &config.policy)?;
         return Ok(serve_slots(rt, files, err, &config, timers, &records, slots));
     };
-    match stored_slots(files, path, started, first_id, &config.policy) {
+    match stored_slots(files, path, start, &config.policy) {
         Ok((slots, is_saved)) => {
             if !is_saved {
-                writeln!(err, "store {path}: the serial of the start isn't saved")?;
+                tell_unsaved(err, path)?;
             }
             Ok(serve_stored(rt, files, err, &config, timers, &records, slots))
         }
@@ -184,14 +184,30 @@ fn serve_logged<
     }
 }
 
-// Opens the store at `path`, restores its slots for a server that starts at `started`, and saves
-// the serial of the start. Returns the slots, and whether the serial is saved. Otherwise returns
+/// The start of a server.
+///
+/// It has the time in milliseconds since 1970, and the first message ID that the server draws.
+#[derive(Clone, Copy)]
+struct Start {
+    at: u64,
+    id: u16,
+}
+
+// Reads the system's clock and random bytes for the start of a server. Returns an error if either
+// can't be read.
+fn read_start<R: Clock + RandomSource>(rt: &R) -> anyhow::Result<Start> {
+    let at = unix_milliseconds(rt).map_err(|error| anyhow::anyhow!("clock: {error}"))?;
+    let id = random_id(rt).map_err(|error| anyhow::anyhow!("random bytes: {error}"))?;
+    Ok(Start { at, id })
+}
+
+// Opens the store at `path`, restores its slots for a server with this start, and saves the serial
+// of the start. Returns the slots, and whether the serial is saved. Otherwise returns
 // why the store can't be opened, or why its slots can't be restored.
 fn stored_slots(
     files: &HostRuntime,
     path: &str,
-    started: u64,
-    first_id: u16,
+    start: Start,
     policy: &Policy,
 ) -> Result<(Slots<FileOfSlots>, bool), BadStore> {
     let store = match open(files, path) {
@@ -202,7 +218,7 @@ fn stored_slots(
     let Ok(stored) = copy_slots(alloc, store.slots()) else {
         return Err(BadStore::Start(StartError::Memory));
     };
-    Slots::restored(alloc, store, &stored, started, first_id, policy).map_err(BadStore::Start)
+    Slots::restored(alloc, store, &stored, start.at, start.id, policy).map_err(BadStore::Start)
 }
 
 // Serves as `serve_slots` does, with the slots of a database. The database's own type is left open
@@ -282,6 +298,12 @@ fn level_if(is_asked: bool) -> LevelFilter {
 fn tell_bad<E: Write>(err: &mut E, bad: BadOption) -> anyhow::Result<Status> {
     writeln!(err, "{bad}")?;
     Ok(Status::Bad)
+}
+
+// Writes to `err` that the store at `path` hasn't saved the serial of the start. Returns an error
+// if writing fails.
+fn tell_unsaved<E: Write>(err: &mut E, path: &str) -> io::Result<()> {
+    writeln!(err, "store {path}: the serial of the start isn't saved")
 }
 
 // Writes to `err` why the store at `path` can't be used. Returns `Failed`, or an error if writing

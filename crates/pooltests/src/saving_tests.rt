@@ -494,11 +494,9 @@ fn counter_at_five(alloc: Global) -> Result<StoredSlot, AllocError> {
 
 // Returns a server that is restored with the counter in slots 1, 2 and 9, each stored at serial 5.
 fn with_counters(alloc: Global) -> Result<FirstServer, Fail> {
-    let [one, two, nine] = [
-        counter_at_five(alloc)?,
-        counter_at_five(alloc)?,
-        counter_at_five(alloc)?,
-    ];
+    let one = counter_at_five(alloc)?;
+    let two = counter_at_five(alloc)?;
+    let nine = counter_at_five(alloc)?;
     let mut stored: [StoredSlot; 64] = from_fn(|_| StoredSlot::blank());
     stored[1] = one;
     stored[2] = two;
