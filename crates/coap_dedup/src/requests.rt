@@ -164,7 +164,8 @@ impl Requests {
         self.ring.pop_front();
     }
 
-    // Returns the index of the request with this key, or, as an error, the key's insertion point.
+    // Returns the index, in the order of keys, of the request with this key, or, as an error, the
+    // key's insertion point in that order. `comparisons` counts the comparisons of keys.
     fn search(&self, key: &Key, comparisons: &mut Comparisons) -> Result<usize, usize>
         requires { comparisons.old ≡ 0 }
         ensures found { IfOk result (λ i. slice_get (keys (by_key self.now.items)) i ≡ Some key.now) }

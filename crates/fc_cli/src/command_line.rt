@@ -37,10 +37,11 @@ pub fn words<R: Runtime + AllocGlobal, E: Write>(
     }
 }
 
-/// Prints why the words aren't a command, and returns the program's status.
+/// Prints why the command line's words aren't a command, and returns the program's status.
 ///
-/// For words that ask for help or the version, prints the help or version and returns `Done`.
-/// Returns `Failed` if memory couldn't be allocated, and `Bad` for any other reason.
+/// `error` is clap's reason. If the words ask for help or the version, the text is printed to
+/// standard output, and the status is `Done`. Any other reason is printed to standard error. The
+/// status is then `Failed` if memory couldn't be allocated, and else `Bad`.
 ///
 /// # Errors
 /// Returns an error if printing fails.

@@ -181,11 +181,8 @@ impl<'a, B: Bench, G: Gate, W: Wire, M: TimeSource, R: Wait> DispatcherState<'a,
         given
     }
 
-    // Sends the dispatcher's job to the workers, if the policy allows that, or runs the job here.
-    // If the policy sends changes, a job that a save would hold up here is sent first of all. The
-    // policy may depend on the cost of a run. Then a request for a run without ETags is priced by
-    // its first snapshot, and any other run by the cost that is read in its slot. The track of the
-    // next job begins last.
+    // Sends the dispatcher's job to the workers or runs it here, and then begins the track of the
+    // next job.
     fn dispatch(&mut self)
         requires produced { HasProduced B.Book.first_job self.old.keys self.old.job self.old.done.share.log }
         ensures dispatched { IsDispatched ⟦<(B, G, W, M) as WorkerParts>⟧.view
@@ -208,8 +205,11 @@ impl<'a, B: Bench, G: Gate, W: Wire, M: TimeSource, R: Wait> DispatcherState<'a,
         log.begin_job(self.context.bench.book(), &mut self.keys);
     }
 
-    // Sends the dispatcher's job to the workers, or runs it here. See
-    // [`DispatcherState::dispatch`].
+    // Sends the dispatcher's job to the workers, if the policy allows that and the channel takes
+    // the job, or runs the job here. If the policy sends changes, a job that a save would hold up
+    // here is sent whatever its cost. If the cost decides, a request for a run without ETags takes
+    // its first snapshot only if its program is cheap. For any other run the cost is read in its
+    // slot.
     fn dispatch_job(&mut self)
         requires produced { HasProduced B.Book.first_job self.old.keys self.old.job self.old.done.share.log }
         ensures dispatched { IsSentOrWorked ⟦<(B, G, W, M) as WorkerParts>⟧.view
