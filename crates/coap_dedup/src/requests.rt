@@ -59,6 +59,7 @@ impl Requests {
         })
     }
 
+    // Returns how many requests are stored, within their lifetime or past it.
     pub(crate) fn len(&self) -> usize
         ensures { result ≡ length self.now.items }
     {

@@ -135,8 +135,9 @@ fn arguments(alloc: Global, query: &str) -> Result<Vec<Vec<u8>>, AllocError>
     Ok(arguments)
 }
 
-// Parses a URI of the scheme coap. Returns `AddressError::NoUri` if the text is no such URI, and
-// otherwise the reason why its parts are no address.
+// Parses a URI of the scheme coap, for `Address::parse`. Returns `AddressError::NoUri` if the text
+// is no such URI. Returns `Parts`, `Host` or `Escape` if its parts are no address. Returns
+// `NoMemory` if memory can't be allocated, or if the URI would have 4 GB.
 fn read_uri(alloc: Global, text: &str) -> Result<Address, AddressError>
     ensures address { IfOk result (IsOfUri text.now) }
     ensures none { IfErr result (IsNoUri text.now) }

@@ -23,14 +23,14 @@ pub trait Gate {
     // log went from `before` to `after`.
     ghost answered: { Asked → Option Emitted → Log → Log → Type 0 } = { λ job sent before after. ⊤ };
 
-    /// Is called with the number of a request's job before each run of the job.
+    /// Lets a request's job with this number pass, before each run of the job.
     ///
     /// The call is after the run's snapshot, and before the run's commit. A lease's job, which
     /// commits nothing, makes no such call.
     fn between<R: Wait>(&self, rt: &R, number: u64, log: &mut CallLog)
         ensures { passed number log.old log.new };
 
-    /// Is called once for each request's job, right after the job's answer.
+    /// Observes a request's job and its reply, once, right after the job's answer.
     ///
     /// The reply to send is `reply` if `has_reply`; otherwise there is none. A lease's job makes no
     /// such call.

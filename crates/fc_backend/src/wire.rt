@@ -23,9 +23,10 @@ pub trait Wire {
         requires { GoesOut emission.now }
         ensures { called (SendsReply number emission.now result) log.old log.new };
 
-    /// Is called last for each job, whether or not anything was sent.
+    /// Reports that the job with this number has ended.
     ///
-    /// An implementation may wake a thread that waits for the job.
+    /// It is the last call for each job, whether or not anything was sent. An implementation may
+    /// wake a thread that waits for the job.
     fn ended<R: Wait>(&self, rt: &R, number: u64, log: &mut CallLog)
         ensures { called (EndsJob number) log.old log.new };
 }

@@ -25,6 +25,7 @@ pub enum BadTimer {
     Memory(#[from] AllocError),
 }
 
+// Makes `--every`, the option for a timer, which may be repeated.
 pub(crate) fn every<'a>(alloc: Global) -> Arg<'a> {
     option(
         alloc,

@@ -26,6 +26,7 @@ pub struct LogOptions {
     pub report: Option<u64>,
 }
 
+// Makes `--log`, the option for the records that the server logs, by default none.
 pub(crate) fn log<'a>(alloc: Global) -> Arg<'a> {
     option(
         alloc,

@@ -165,6 +165,7 @@ pub(crate) fn serve_command<'a>(alloc: Global) -> Result<Command<'a>, Error> {
     )
 }
 
+// Makes `--port`, the option for the server's port, which is required.
 fn port<'a>(alloc: Global) -> Arg<'a> {
     option(alloc, "port", "P", "The port, 1 to 65535")
         .required(true)
@@ -195,6 +196,7 @@ fn expensive_workers<'a>(alloc: Global) -> Arg<'a> {
     .default_value("2")
 }
 
+// Makes `--readings`, the option for the path of the sensor file.
 fn readings<'a>(alloc: Global) -> Arg<'a> {
     option(
         alloc,
@@ -204,6 +206,7 @@ fn readings<'a>(alloc: Global) -> Arg<'a> {
     )
 }
 
+// Makes `--store`, the option for the path of the store of slots.
 fn store<'a>(alloc: Global) -> Arg<'a> {
     option(
         alloc,
@@ -213,6 +216,7 @@ fn store<'a>(alloc: Global) -> Arg<'a> {
     )
 }
 
+// Makes `--limit`, the option for the number of datagrams, by default 0, which is no limit.
 fn limit<'a>(alloc: Global) -> Arg<'a> {
     option(
         alloc,

@@ -11,6 +11,7 @@ use fc_lines::line::number;
 use fc_lines::policy::{DEFAULT_SECONDS, policy};
 use std::alloc::Global;
 
+// Makes `--managers`, the option for the networks that may change programs, by default all.
 pub(crate) fn managers<'a>(alloc: Global) -> Arg<'a> {
     option(
         alloc,
@@ -22,6 +23,7 @@ pub(crate) fn managers<'a>(alloc: Global) -> Arg<'a> {
     .default_value("0.0.0.0/0")
 }
 
+// Makes `--exchanges`, the option for the maximum number of stored exchanges, by default 1,024.
 pub(crate) fn exchanges<'a>(alloc: Global) -> Arg<'a> {
     option(
         alloc,
@@ -33,6 +35,7 @@ pub(crate) fn exchanges<'a>(alloc: Global) -> Arg<'a> {
     .default_value("1024")
 }
 
+// Makes `--share`, the option for the maximum number of stored exchanges of one IP address.
 pub(crate) fn share<'a>(alloc: Global) -> Arg<'a> {
     option(
         alloc,
@@ -43,6 +46,7 @@ pub(crate) fn share<'a>(alloc: Global) -> Arg<'a> {
     .value_parser(value_parser!(u32).range(1..65_537))
 }
 
+// Makes `--confirm-after`, the option for the seconds after which a notification is confirmable.
 pub(crate) fn confirm_after<'a>(alloc: Global) -> Arg<'a> {
     option(
         alloc,

@@ -391,7 +391,8 @@ impl<'a> NotePrinter<'a> {
 }
 
 // Deregisters, if the server may still notify.
-// The request is `leaving`. After a last response the server sends no notification.
+// The request is `leaving`. After a last response the server sends no notification. Returns the
+// error of `Observer::deregister_by`.
 fn leave<P: Peer>(
     peer: &mut P,
     observer: &Observer<'_>,

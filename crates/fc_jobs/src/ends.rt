@@ -58,7 +58,7 @@ impl<M: Drop> Model for Sent<M> {
         × (length (view_of s.pass).sent ≡ s.next) };
 }
 
-/// A worker's place at the channel, with a list of the jobs that it received.
+/// A worker's end of the channel, with a list of the jobs that it received.
 #[derive(Drop)]
 pub struct Got<M: Drop> {
     pub(crate) pass: Pass<Numbered<M>, Hand<M>>,

@@ -127,7 +127,7 @@ impl<M: Drop> Sent<M> {
         }
     }
 
-    // Makes a place for another worker.
+    // Makes the end of another worker.
     fn hire(&mut self) -> Got<M>
         ensures same { self.new ≡ self.old }
         ensures got { result ≡ nothing_got self.old.channel }
@@ -137,7 +137,8 @@ impl<M: Drop> Sent<M> {
     }
 }
 
-// Makes a place for each worker. Returns an error if memory can't be allocated.
+// Makes an end of the channel for each of `workers` workers. Returns `AllocError` if memory can't
+// be allocated.
 fn hire<M: Drop>(
     alloc: Global,
     sent: &mut Sent<M>,

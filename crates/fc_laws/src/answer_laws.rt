@@ -51,7 +51,7 @@ pub fn deleted_slots_are_empty()
 
 /// A snapshot that finds the slot empty makes the job's answer 4.04 (Not Found).
 ///
-/// The job is at the stage of its snapshot; memory may be available or not.
+/// The job is at the stage of its snapshot. The law holds whether or not memory can be allocated.
 pub fn empty_slots_are_missing()
     ensures { (s : Seen) (k count : ℕ) (memory : Bool) (readings : List ℕ) (o : Option Emission) → stage s k ≡ ToTake count
         → (slot_at s (slot_of s k)).present ≡ None

@@ -21,7 +21,7 @@ pub struct LineLimit<R: Read + Drop> {
 }
 
 impl<R: Read + Drop> LineLimit<R> {
-    /// Makes a reader at the beginning of a line.
+    /// Makes a reader of the bytes of `inner`, which is at the beginning of a line.
     pub fn new(inner: R) -> LineLimit<R> {
         LineLimit { inner, length: 0 }
     }

@@ -45,8 +45,8 @@ pub fn replay<R: Read, W: Write, E: Write>(
     }
 }
 
-// Replays the list in `input`, and prints the results to `out`. The error is the reason why the
-// replay stopped.
+// Replays the list in `input`, and prints the results to `out`. Returns the reason if the replay
+// stops before the end of the list.
 fn replay_list<R: Read, W: Write>(alloc: Global, input: &mut R, out: &mut W) -> Result<(), Stop>
     ensures { OnOk result (IsReplayed (R.remaining input.old) (W.contents out.old) (W.contents out.new)) }
 {
@@ -107,9 +107,9 @@ fn list_of(text: &[u8]) -> &[u8]
     }
 }
 
-// Replays a list that follows `before` lines, and prints the results. If a line is bad, the error
-// is `BadLine` with the line's number, and no event is executed. Otherwise the error is `Output` if
-// printing fails, or `Memory` if memory can't be allocated.
+// Replays a list that follows `before` lines, and prints the results. Returns `BadLine` with the
+// line's number if a line is bad; then no event is executed. Returns `Output` if printing fails,
+// and `Memory` if memory can't be allocated.
 fn replay_lines<W: Write>(
     alloc: Global,
     begin: &Begin,

@@ -1,7 +1,8 @@
 //! The front, the shards and the machine, with one call for each event.
 //!
 //! The engine and `fc_world` make the calls. A call for a task has no effect if the task's stage
-//! doesn't need the event of the call; `Lose` ends any task.
+//! doesn't need the event of the call; `Lose` ends any task. An argument `shard` is the index of a
+//! shard, 0 to 7.
 ghost use Rattle.std.specs.Prelude.{◌≡◌, ℕ, ◌<◌, if◌then◌else◌, false, length, slice_set, IfOk, OnOk};
 ghost use Rattle.fc_registry.specs.Shards.{first_shards, shard_at};
 ghost use Rattle.fc_registry.specs.Turns.{written_if};
@@ -142,10 +143,10 @@ impl Server {
         self.front.fire(slot, now, job);
     }
 
-    /// Requests the lease of an observer of a shard that has a pending notification.
+    /// Requests a lease from a shard, for its first observer with a pending notification.
     ///
-    /// `now` is in milliseconds. If a lease is granted, the job that runs the observer's request
-    /// again is written over `job`, and the result is `true`. Otherwise `job` is unchanged.
+    /// `now` is in milliseconds. Returns whether the shard granted a lease. If so, the lease's job
+    /// is written over `job`: it runs the observer's request again. If not, `job` is unchanged.
     pub fn due(&mut self, shard: u8, now: u64, job: &mut Job) -> bool
         requires { shard < length self.old.shards }
         ensures job { written_if result job.new ≡ shard_turn now (shard_at self.old.shards shard) }

@@ -31,6 +31,8 @@ pub const NUMBERS: &str = "SELECT number FROM slot";
 
 /// Reads the stored slots of a database, and creates the table in an empty one.
 ///
+/// Returns slots 0 to 63, in that order. A slot without a row is blank.
+///
 /// # Errors
 /// Returns `Foreign` if the database has another table, and `Row` if a row isn't the state of a
 /// slot. In both cases nothing was changed. Any other error says why a statement failed, that

@@ -157,7 +157,9 @@ impl<'a, B: Bench, G: Gate, W: Wire, M: TimeSource, R: Wait> Dispatcher<'a, B, G
         self.state.handle(now, from, bytes, reply)
     }
 
-    /// Advances the front to a time in milliseconds.
+    /// Advances the front to a time in milliseconds, if time passes without a datagram.
+    ///
+    /// Exchanges past their lifetime expire.
     pub fn tick(&mut self, now: u64)
         ensures logged { B.logged (AdvancesFront now) self.old.done.share.log self.new.done.share.log }
         ensures kept { HasCalled self.old.done self.new.done }

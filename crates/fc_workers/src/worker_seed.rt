@@ -20,7 +20,7 @@ use std::sync::Wait;
 
 /// The initial state of a worker.
 ///
-/// It has the worker's place at the channel, the worker's tallies and log, and the frame that the
+/// It has the worker's end of the channel, the worker's tallies and log, and the frame that the
 /// worker's programs run in.
 #[derive(Drop)]
 pub struct WorkerSeed<T: Drop, L: Drop, M: Drop> {

@@ -138,7 +138,7 @@ impl TracedRun {
         }
     }
 
-    // Installs the counter in each used slot.
+    // Installs the counter in each used slot. Returns `AllocError` if memory can't be allocated.
     fn install_all<N: Bench, R: Wait>(
         &self,
         dispatcher: &mut Dispatcher<'_, N, Open, Clients, Clients, R>,

@@ -180,7 +180,7 @@ fn tell<R: Runtime, E: Write>(
 }
 
 // Writes to `err` the number of lines, the number of differing ones in the control, the number of
-// conflicts, and the number of events with each name.
+// conflicts, and the number of events with each name. Returns the writer's error.
 fn tell_counts<E: Write>(err: &mut E, name: &str, outcome: &Outcome) -> io::Result<()> {
     let (lines, conflicts) = (outcome.lines, outcome.conflicts);
     let control = outcome.control;

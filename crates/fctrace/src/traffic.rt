@@ -66,6 +66,9 @@ pub(crate) struct Traffic {
 }
 
 impl Traffic {
+    /// Makes a generator that has made no datagram yet.
+    ///
+    /// Its first state is fixed, so each run draws the same sequence of numbers.
     pub(crate) fn new(alloc: Global) -> Traffic {
         Traffic {
             state: 1,
@@ -115,7 +118,8 @@ impl Traffic {
         self.make_kind(&Kind(0x41, 3, b"\xb1p", COUNTER), slot, &[0; 8])
     }
 
-    // Makes a datagram of this kind, from a client with its next message ID.
+    // Makes a datagram of this kind, from a client with its next message ID. Returns `AllocError`
+    // if memory can't be allocated.
     fn make_kind(&mut self, kind: &Kind, slot: u8, etag: &[u8; 8]) -> Result<(), AllocError> {
         let Kind(first, code, options, image) = *kind;
         self.client = (1 + self.below(CLIENTS)) as u8;
@@ -136,7 +140,8 @@ impl Traffic {
         self.add_image(image)
     }
 
-    // Adds the option with a slot's number, if the path of slots is the last of `options`.
+    // Adds the option with a slot's number, if the path of slots is the last of `options`. Returns
+    // `AllocError` if memory can't be allocated.
     fn add_slot(&mut self, options: &[u8], slot: u8) -> Result<(), AllocError> {
         if !matches!(options.last(), Some(b'r' | b'p')) {
             return Ok(());
@@ -150,7 +155,7 @@ impl Traffic {
         Ok(())
     }
 
-    // Adds a payload, unless it is empty.
+    // Adds a payload, unless it is empty. Returns `AllocError` if memory can't be allocated.
     fn add_image(&mut self, image: &[u8]) -> Result<(), AllocError> {
         if image.is_empty() {
             return Ok(());

@@ -57,8 +57,8 @@ pub(crate) fn all_paths<R: Files + AllocGlobal + Clone + Drop>(rt: &R) -> io::Re
     Ok(paths)
 }
 
-// Appends the paths of a suite's cases to `paths`, in the order of the names. The errors are those
-// of `all_paths`.
+// Appends the paths of a suite's cases to `paths`, in the order of the names. Returns the errors of
+// `all_paths`.
 fn add_paths<R: Files + AllocGlobal + Clone + Drop>(
     rt: &R,
     suite: &Suite,

@@ -49,7 +49,7 @@ impl Copies<'_> {
         Ok(())
     }
 
-    // Appends one of the copies.
+    // Appends one of the copies. Returns `AllocError` if memory can't be allocated.
     fn append_one(&self, bytes: &mut Vec<u8>) -> Result<(), AllocError>
         ensures { OnOk result (bytes.new.items ≡ bytes.old.items ++ copy_bytes self.now) }
     {

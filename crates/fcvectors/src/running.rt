@@ -90,7 +90,10 @@ fn found(line: usize, workers: Option<u8>, came: Output) -> Result<Difference, C
 }
 
 impl Difference {
-    /// Prints the number of workers and the actual output to `err`.
+    /// Prints the difference to `err`, after `name`, the name of the case.
+    ///
+    /// It prints the vector's line, the number of workers if there are any, and the actual status
+    /// and output.
     ///
     /// # Errors
     /// Returns the writer's error.
