@@ -109,6 +109,15 @@ pub region_parts : (r : Request) (first last region : List ℕ) → region ≡ f
 unfolding region_of
 region_parts r first last region is start rest = is ∙ ((λ i. start i ++ rest i) ∙ append_assoc (region_head r) (padded 64 r.query) (padded 1024 r.payload))
 
+-- the bytes of a region before the payload
+pub region_start : (r : Request) → length r.query ≤ 64 → take 80 (region_of r) ≡ region_head r ++ padded 64 r.query
+unfolding region_of
+region_start r few =
+    let long = length-append (region_head r) (padded 64 r.query) in
+    let head : length (region_head r) ≡ 16 = refl in
+    let wide = padded_size 64 r.query few in
+    ap (take 80) (sym (append_assoc (region_head r) (padded 64 r.query) (padded 1024 r.payload))) ∙ take_at (region_head r ++ padded 64 r.query) (padded 1024 r.payload) 80 (omega (arith, long, head, wide))
+
 payload_room : (r : Request) → length r.query ≤ 64 → drop 80 (region_of r) ≡ padded 1024 r.payload
 unfolding region_of
 payload_room r few =

@@ -175,6 +175,21 @@ fn lay_over(
     write_payload(&mut bytes[BEFORE_PAYLOAD..], before, payload);
 }
 
+/// Overwrites the region of a request with that of `other`.
+///
+/// `before` is the length of the old payload. Only the bytes that aren't zero in both regions are
+/// written.
+fn copy_over(region: &mut ArrayVec<u8, REGION>, before: usize, other: &Request)
+    requires size { length region.old.items ≡ 1104 }
+    requires before { before ≤ 1024 }
+    requires zeros { IsZeroFrom before (drop 80 region.old.items) }
+    ensures { region.new.items ≡ region_of other.now }
+{
+    let bytes = region.as_mut_slice();
+    bytes[..BEFORE_PAYLOAD].copy_from_slice(&other.region()[..BEFORE_PAYLOAD]);
+    write_payload(&mut bytes[BEFORE_PAYLOAD..], before, other.payload());
+}
+
 /// Returns the byte of a method in the region: 1 for GET, 2 for POST.
 fn method_byte(method: Method) -> u8
     ensures { result ≡ method_number method }
@@ -328,9 +343,7 @@ impl Request {
     pub fn copy_from(&mut self, other: &Request)
         ensures { self.new ≡ other.now }
     {
-        self.region
-            .as_mut_slice()
-            .copy_from_slice(other.region.as_slice());
+        copy_over(&mut self.region, usize::from(self.payload_size), other);
         self.method = other.method;
         self.slot = other.slot;
         self.content_format = other.content_format;
