@@ -1,5 +1,5 @@
 -- The search for a stored request by its key.
-use Rattle.std.specs.Prelude.{◌≡◌, ℕ, zero, suc, ◌/◌, ◌<◌, ◌≤◌, ◌%◌, Bool, List, length, map, slice_get, Option, Some, IfSome}
+use Rattle.std.specs.Prelude.{◌≡◌, ℕ, zero, suc, ◌-◌, ◌/◌, ◌<◌, ◌≤◌, ◌%◌, Bool, List, length, map, slice_get, Option, Some, IfSome}
 use Rattle.std.specs.Ordering.{eq_by_cmp}
 use Rattle.std.specs.declared.cmp.Ordering.TheVariants.{Less, Greater}
 use Rattle.std.specs.FinMap.{FinMap, from_entries, keys, len, values}
@@ -54,6 +54,16 @@ pub record IsGap (ks : List Key) (k : Key) (i : ℕ) : Type 0 where
   pub within : i ≤ length ks
   pub below : AreBelow ks k i
   pub above : AreAbove ks k i
+
+-- the key's insertion point is from place `low` to place `high`. At least one of the keys, which are
+-- at most 65,536, isn't between these places.
+pub record IsLeft (ks : List Key) (k : Key) (low high : ℕ) : Type 0 where
+  pub below : AreBelow ks k low
+  pub above : AreAbove ks k high
+  pub order : low ≤ high
+  pub within : high ≤ length ks
+  pub fewer : high - low < length ks
+  pub few : length ks ≤ 65536
 
 -- the keys of an address begin, or would begin, at this place. The keys before this place are less
 -- than each key of the address, and the keys from this place on aren't.

@@ -91,8 +91,8 @@ fn touch(kept: &mut Vec<StoredResponse>, place: usize)
     }
     for _place in kept.len()..place + 1 {
         kept.push_reserved(StoredResponse {
-            answered: false,
             bytes: Datagram::new(),
+            answered: false,
         });
     }
 }

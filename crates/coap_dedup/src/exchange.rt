@@ -50,10 +50,13 @@ pub(crate) struct Opened {
 }
 
 /// The place of an exchange's response; it has one if `answered` is `true`.
+///
+/// The bytes are the first field, without padding before them. So the compiler zeroes the memory of
+/// a new place directly, and doesn't copy zeros to it.
 #[derive(Drop)]
 pub(crate) struct StoredResponse {
-    pub(crate) answered: bool,
     pub(crate) bytes: Datagram,
+    pub(crate) answered: bool,
 }
 
 // Returns whether the request was opened less than EXCHANGE_LIFETIME before `now`.

@@ -3,7 +3,7 @@ ghost use Rattle.std.specs.Prelude.{◌≡◌, ◌+◌, ◌%◌, ◌<◌, ◌≤
 ghost use Rattle.circular_buffer.specs.Buffer.{buffer};
 ghost use Rattle.std.specs.FinMap.{entries, keys};
 ghost use Rattle.coap_dedup.specs.Keys.{AreBytes};
-ghost use Rattle.coap_dedup.specs.Requests.{IsOldest, IsGap, IsStart, by_key, has_key};
+ghost use Rattle.coap_dedup.specs.Requests.{IsGap, IsLeft, IsOldest, IsStart, by_key, has_key};
 ghost use Rattle.coap_dedup.specs.Views.{InOrder, is_of_address, request_is_live};
 
 use crate::exchange::{Opened, is_live};
@@ -23,7 +23,7 @@ pub(crate) struct InsertHint {
 /// The stored requests in order of arrival, and an index in the order of keys.
 ///
 /// The insertion point of the last key that wasn't found is cached, so that its request is inserted
-/// without a second search.
+/// without a second search. A search begins at the index at which the latest request was inserted.
 ///
 /// Only [`Requests::new`] allocates memory.
 #[derive(Drop)]
@@ -31,6 +31,8 @@ pub(crate) struct Requests {
     ring: HeapCircularBuffer<Opened>,
     index: Vec<u16>,
     gap: Option<InsertHint>,
+    // The index at which the latest request was inserted. Any number is right.
+    latest: usize,
 }
 
 impl Model for Requests {
@@ -56,6 +58,7 @@ impl Requests {
             ring: HeapCircularBuffer::with_capacity(alloc, capacity)?,
             index: Vec::with_capacity(alloc, capacity)?,
             gap: None,
+            latest: 0,
         })
     }
 
@@ -100,6 +103,7 @@ impl Requests {
     {
         let index = self.gap_for(&request.key);
         self.gap = None;
+        self.latest = index;
         let _has_room = self.index.insert(index, low_bits(request.number));
         self.ring.push_back(request);
     }
@@ -166,7 +170,8 @@ impl Requests {
     }
 
     // Returns the index, in the order of keys, of the request with this key, or, as an error, the
-    // key's insertion point in that order. `comparisons` counts the comparisons of keys.
+    // key's insertion point in that order. `comparisons` counts the comparisons of keys. The key of
+    // the latest new request is compared first: the next key of the same client is often near it.
     fn search(&self, key: &Key, comparisons: &mut Comparisons) -> Result<usize, usize>
         requires { comparisons.old ≡ 0 }
         ensures found { IfOk result (λ i. slice_get (keys (by_key self.now.items)) i ≡ Some key.now) }
@@ -174,9 +179,35 @@ impl Requests {
         ensures most { comparisons.new ≤ 17 }
         ensures few { length self.now.items ≤ 1024 → comparisons.new ≤ 11 }
     {
+        let len = self.index.len();
+        if len == 0 {
+            return Err(0);
+        }
+        let latest = self.latest.min(len - 1);
+        match self.at(self.first(), latest).key.order(key, comparisons) {
+            Ordering::Less => self.search_between(latest + 1, len, key, comparisons),
+            Ordering::Equal => Ok(latest),
+            Ordering::Greater => self.search_between(0, latest, key, comparisons),
+        }
+    }
+
+    // Searches as `search` does, at the indexes from `low` on that are below `high`. One key was
+    // compared before.
+    fn search_between(
+        &self,
+        mut low: usize,
+        mut high: usize,
+        key: &Key,
+        comparisons: &mut Comparisons,
+    ) -> Result<usize, usize>
+        requires between { IsLeft (keys (by_key self.now.items)) key.now low high }
+        requires compared { comparisons.old ≡ 1 }
+        ensures found { IfOk result (λ i. slice_get (keys (by_key self.now.items)) i ≡ Some key.now) }
+        ensures absent { IfErr result (IsGap (keys (by_key self.now.items)) key.now) }
+        ensures most { comparisons.new ≤ 17 }
+        ensures few { length self.now.items ≤ 1024 → comparisons.new ≤ 11 }
+    {
         let first = self.first();
-        let mut low = 0;
-        let mut high = self.index.len();
         'halves: while low < high {
             let middle = low + (high - low) / 2;
             match self.at(first, middle).key.order(key, comparisons) {

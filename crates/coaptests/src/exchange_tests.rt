@@ -48,19 +48,21 @@ fn exchanges_end_in_order_of_arrival(rt: HostRuntime) -> Result<(), AllocError> 
     Ok(())
 }
 
-// A search compares no key if no exchange is stored, and otherwise begins in the middle. Calls
-// other than searches don't change the number of comparisons.
+// A search compares no key if no exchange is stored. Otherwise it begins with the latest request's
+// key, and goes on in the middle of the keys below or above. Calls other than searches don't change
+// the number of comparisons.
 #[test]
 fn looks_count_their_comparisons(rt: HostRuntime) -> Result<(), AllocError> {
     let mut exchanges = Exchanges::new(rt.alloc(), DEFAULT_LIMITS)?;
     assert!(rt; arrives(&mut exchanges, 0, CLIENT, 1) && exchanges.comparisons() == 0);
     assert!(rt; arrives(&mut exchanges, 0, CLIENT, 2) && exchanges.comparisons() == 1);
     assert!(rt; arrives(&mut exchanges, 0, CLIENT, 3) && exchanges.comparisons() == 1);
-    assert!(rt; !arrives(&mut exchanges, 0, CLIENT, 2) && exchanges.comparisons() == 1);
-    assert!(rt; !arrives(&mut exchanges, 0, CLIENT, 1) && exchanges.comparisons() == 2);
+    assert!(rt; !arrives(&mut exchanges, 0, CLIENT, 3) && exchanges.comparisons() == 1);
+    assert!(rt; !arrives(&mut exchanges, 0, CLIENT, 2) && exchanges.comparisons() == 2);
+    assert!(rt; !arrives(&mut exchanges, 0, CLIENT, 1) && exchanges.comparisons() == 3);
     exchanges.close(0, 0, &Datagram::new());
     exchanges.expire(247_000);
-    assert!(rt; exchanges.comparisons() == 2);
+    assert!(rt; exchanges.comparisons() == 3);
     Ok(())
 }
 
