@@ -557,8 +557,7 @@ impl Shard {
         self.watches[place].idle_until(self.noticed_at(place))
     }
 
-    // Returns whether the shard is idle at `now`. If it is, updates `watched`: without observers,
-    // later calls needn't look at each place.
+    // Returns whether the shard is idle at `now`. A shard without observers is idle.
     fn check_idle(&mut self, now: u64) -> bool
         ensures idle { result ≡ is_idle (record self.old { now = now }) }
         ensures after { self.new ≡ self.old }
@@ -566,6 +565,17 @@ impl Shard {
         if !self.watched {
             return true;
         }
+        self.check_observers(now)
+    }
+
+    // Returns whether the observers of all places are idle at `now`. If they are, updates `watched`:
+    // without observers, later calls needn't look at each place. The function isn't inlined, so that
+    // a call for a shard without observers sets no memory aside.
+    #[inline(never)]
+    fn check_observers(&mut self, now: u64) -> bool
+        ensures idle { result ≡ is_idle (record self.old { now = now }) }
+        ensures after { self.new ≡ self.old }
+    {
         for place in 0..PLACES {
             if !self.check_idle_at(now, place) {
                 return false;

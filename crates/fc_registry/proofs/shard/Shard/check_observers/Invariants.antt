@@ -1,7 +1,7 @@
 use Rattle.std.proofs.Common.{◌≡◌, ◌-◌}
 use Rattle.fc_registry.specs.Slots.{Shard}
 use Rattle.fc_registry.specs.Watches.{has_due, has_overdue, place_from}
-use Rattle.fc_registry.proofs.shard.Shard.check_idle.Given as goal
+use Rattle.fc_registry.proofs.shard.Shard.check_observers.Given as goal
 
 abbrev pub invariant-loop-place : goal.invariant-loop-place
 invariant-loop-place l =
