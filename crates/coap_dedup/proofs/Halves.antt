@@ -8,7 +8,7 @@ use Rattle.std.proofs.lemmas.Bool.{cases_eq, cases_lt}
 use Rattle.std.proofs.lemmas.Option.{slice_get_within}
 use Rattle.coap_dedup.specs.declared.key.Key.{Key}
 use Rattle.coap_dedup.specs.Keys.{key_cmp}
-use Rattle.coap_dedup.specs.Requests.{AreAbove, AreBelow, IsLeft, left_after}
+use Rattle.coap_dedup.specs.Requests.{AreAbove, AreBelow, LiesBetween, left_after}
 use Rattle.coap_dedup.proofs.Index.{Entry, rises}
 use Rattle.coap_dedup.proofs.Keys.{key_total}
 
@@ -24,7 +24,7 @@ pub record IsBetween (ks : List Key) (k : Key) (low high comparisons : ℕ) : Ty
   pub left_of_few : length ks ≤ 1024 → high - low ≤ left_after 1023 comparisons
   pub fewer_of_few : length ks ≤ 1024 → comparisons ≤ 10
 
-pub start : (ks : List Key) (k : Key) (low high : ℕ) → IsLeft ks k low high → IsBetween ks k low high 0
+pub start : (ks : List Key) (k : Key) (low high : ℕ) → LiesBetween ks k low high → IsBetween ks k low high 0
 start ks k low high is = let fewer = is.fewer in let few = is.few in record {
   below = is.below;
   above = is.above;
@@ -112,7 +112,7 @@ lower es k x low high middle comparisons sorted b lt half is greater =
     }
 
 -- if a key is less than `k`, the insertion point of `k` is after it
-pub after_less : (es : List Entry) (k x : Key) (at : ℕ) → T (entry_list.is_sorted key_cmp es) → length (map (λ e. e.0) es) ≤ 65536 → slice_get (map (λ e. e.0) es) at ≡ Some x → key_cmp x k ≡ Less → IsLeft (map (λ e. e.0) es) k (at + 1) (length (map (λ e. e.0) es))
+pub after_less : (es : List Entry) (k x : Key) (at : ℕ) → T (entry_list.is_sorted key_cmp es) → length (map (λ e. e.0) es) ≤ 65536 → slice_get (map (λ e. e.0) es) at ≡ Some x → key_cmp x k ≡ Less → LiesBetween (map (λ e. e.0) es) k (at + 1) (length (map (λ e. e.0) es))
 after_less es k x at sorted few is less =
     let there = slice_get_within (map (λ e. e.0) es) at x is in
     record {
@@ -128,7 +128,7 @@ after_less es k x at sorted few is less =
     }
 
 -- if a key is greater than `k`, the insertion point of `k` is at or before it
-pub before_greater : (es : List Entry) (k x : Key) (at : ℕ) → T (entry_list.is_sorted key_cmp es) → length (map (λ e. e.0) es) ≤ 65536 → slice_get (map (λ e. e.0) es) at ≡ Some x → key_cmp x k ≡ Greater → IsLeft (map (λ e. e.0) es) k 0 at
+pub before_greater : (es : List Entry) (k x : Key) (at : ℕ) → T (entry_list.is_sorted key_cmp es) → length (map (λ e. e.0) es) ≤ 65536 → slice_get (map (λ e. e.0) es) at ≡ Some x → key_cmp x k ≡ Greater → LiesBetween (map (λ e. e.0) es) k 0 at
 before_greater es k x at sorted few is greater =
     let there = slice_get_within (map (λ e. e.0) es) at x is in
     let after : key_cmp k x ≡ Less = turned x k greater in

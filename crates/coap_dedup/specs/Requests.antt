@@ -55,9 +55,9 @@ pub record IsGap (ks : List Key) (k : Key) (i : ℕ) : Type 0 where
   pub below : AreBelow ks k i
   pub above : AreAbove ks k i
 
--- the key's insertion point is from place `low` to place `high`. At least one of the keys, which are
--- at most 65,536, isn't between these places.
-pub record IsLeft (ks : List Key) (k : Key) (low high : ℕ) : Type 0 where
+-- the key's insertion point lies between place `low` and place `high`, or is one of the two. There
+-- are at most 65,536 keys, and at least one of them isn't between these places.
+pub record LiesBetween (ks : List Key) (k : Key) (low high : ℕ) : Type 0 where
   pub below : AreBelow ks k low
   pub above : AreAbove ks k high
   pub order : low ≤ high

@@ -3,7 +3,7 @@ ghost use Rattle.std.specs.Prelude.{◌≡◌, ◌+◌, ◌%◌, ◌<◌, ◌≤
 ghost use Rattle.circular_buffer.specs.Buffer.{buffer};
 ghost use Rattle.std.specs.FinMap.{entries, keys};
 ghost use Rattle.coap_dedup.specs.Keys.{AreBytes};
-ghost use Rattle.coap_dedup.specs.Requests.{IsGap, IsLeft, IsOldest, IsStart, by_key, has_key};
+ghost use Rattle.coap_dedup.specs.Requests.{IsGap, IsOldest, IsStart, LiesBetween, by_key, has_key};
 ghost use Rattle.coap_dedup.specs.Views.{InOrder, is_of_address, request_is_live};
 
 use crate::exchange::{Opened, is_live};
@@ -31,7 +31,7 @@ pub(crate) struct Requests {
     ring: HeapCircularBuffer<Opened>,
     index: Vec<u16>,
     gap: Option<InsertHint>,
-    // The index at which the latest request was inserted. Any number is right.
+    // The index at which the latest request was inserted. A search is right for any value.
     latest: usize,
 }
 
@@ -200,7 +200,7 @@ impl Requests {
         key: &Key,
         comparisons: &mut Comparisons,
     ) -> Result<usize, usize>
-        requires between { IsLeft (keys (by_key self.now.items)) key.now low high }
+        requires between { LiesBetween (keys (by_key self.now.items)) key.now low high }
         requires compared { comparisons.old ≡ 1 }
         ensures found { IfOk result (λ i. slice_get (keys (by_key self.now.items)) i ≡ Some key.now) }
         ensures absent { IfErr result (IsGap (keys (by_key self.now.items)) key.now) }

@@ -177,8 +177,8 @@ fn lay_over(
 
 /// Overwrites the region of a request with that of `other`.
 ///
-/// `before` is the length of the old payload. Only the bytes that aren't zero in both regions are
-/// written.
+/// `before` is the length of the old payload. Nothing is written after the longer of the two
+/// payloads, since both regions are zero there.
 fn copy_over(region: &mut ArrayVec<u8, REGION>, before: usize, other: &Request)
     requires size { length region.old.items ≡ 1104 }
     requires before { before ≤ 1024 }

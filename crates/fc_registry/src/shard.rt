@@ -570,7 +570,7 @@ impl Shard {
 
     // Returns whether the observers of all places are idle at `now`. If they are, updates `watched`:
     // without observers, later calls needn't look at each place. The function isn't inlined, so that
-    // a call for a shard without observers sets no memory aside.
+    // a check of a shard without observers saves no registers.
     #[inline(never)]
     fn check_observers(&mut self, now: u64) -> bool
         ensures idle { result ≡ is_idle (record self.old { now = now }) }

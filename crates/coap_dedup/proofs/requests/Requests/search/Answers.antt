@@ -3,7 +3,7 @@ use Rattle.std.specs.FinMap.{entries, entries_sorted, keys}
 use Rattle.circular_buffer.specs.Buffer.{Buffer}
 use Rattle.coap_dedup.specs.declared.exchange.Opened.{Opened}
 use Rattle.coap_dedup.specs.declared.key.Key.{Key}
-use Rattle.coap_dedup.specs.Requests.{IsIndex, IsLeft, by_key}
+use Rattle.coap_dedup.specs.Requests.{IsIndex, LiesBetween, by_key}
 use Rattle.coap_dedup.proofs.Halves.{after_less, before_greater}
 use Rattle.coap_dedup.proofs.Index.{index_length, key_at, keys_length}
 use Rattle.coap_dedup.proofs.Keys.{key_antisymmetric}
@@ -36,7 +36,7 @@ pub search_between-requires-clause-between : goal.search_between-requires-clause
 search_between-requires-clause-between c =
     let m = by_key c.args.self.now.items in
     let at = c.min-latest.result in
-    subst (IsLeft (keys m) c.args.key.now (at + 1)) (all c.self.inside.ring c.args.self.now c.self.inside.index.items c.len-len.result c.self.invariant.0.is_index c.self.view_is (let counted = c.len-len.ensures in omega (arith, counted)))
+    subst (LiesBetween (keys m) c.args.key.now (at + 1)) (all c.self.inside.ring c.args.self.now c.self.inside.index.items c.len-len.result c.self.invariant.0.is_index c.self.view_is (let counted = c.len-len.ensures in omega (arith, counted)))
     (after_less (entries m) c.args.key.now c.at.result.now.key at (entries_sorted m) (few c.self.inside.ring c.args.self.now c.self.inside.index.items c.self.invariant.0.is_index c.self.view_is c.self.invariant.0.few c.self.invariant.0.capacity) (key_at c.args.self.now.items at c.at.result.now.key c.at.result.now.number c.at.ensures.entry) (sym c.order.ensures.order ∙ c.in-Less.is))
 
 pub search_between-requires-in-Greater-clause-between : goal.search_between-requires-in-Greater-clause-between
