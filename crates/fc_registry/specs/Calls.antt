@@ -1,7 +1,6 @@
 -- The results of a shard's calls, and the changes that these calls make. One function for each call
 -- determines both from the slot that the call finds.
 use Rattle.std.specs.Prelude.{◌≡◌, ℕ, ◌+◌, ◌/◌, ◌==◌, ◌&&◌, ◌<◌, ◌≤◌, Bool, true, false, if◌then◌else◌, nat_lt, List, [], ◌∷◌, ◌++◌, Option, Some, None, is_none, is_some, max}
-use Rattle.coap_msg.specs.Codes.{code}
 use Rattle.fc_help.specs.declared.request.Method.{Method}
 use Rattle.fc_help.specs.declared.request.Method.TheVariants.{Get, Post}
 use Rattle.fc_kinds.specs.Meaning.{Program}
